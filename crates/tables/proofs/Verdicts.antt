@@ -1,0 +1,37 @@
+-- Faults found one after the other, and the verdict on them. Assumes nothing.
+use mathlib.Core.Path.{_≡_, refl, sym, _∙_}
+use mathlib.Core.Option.{Option, none, some}
+use Prim.Native.Nat.{ℕ}
+use native.Mathlib.Omega.{arith}
+use Rattle.tables.specs.Search.{orElse}
+use Rattle.tables.specs.Refusals.{verdictOf, either}
+use Rattle.tables.specs.declared.Refusal.{Refusal}
+use Rattle.tables.specs.declared.Verdict.the-variants.{Passed, Refused}
+
+pub either-verdict : (a b : Option Refusal) → either (verdictOf a) (verdictOf b) ≡ verdictOf (orElse a b)
+unfolding orElse
+either-verdict none b = refl
+either-verdict (some r) b = refl
+
+-- what a verdict says of the fault
+pub passed : (a : Option Refusal) → verdictOf a ≡ Passed → a ≡ none
+passed none e = refl
+passed (some r) e = let z : _≡_ {A = ℕ} 0 1 = cc in absurd (omega arith)
+
+pub refused : (a : Option Refusal) (r : Refusal) → verdictOf a ≡ Refused r → a ≡ some r
+refused none r e = let z : _≡_ {A = ℕ} 0 1 = cc in absurd (omega arith)
+refused (some s) r e = let i : s ≡ r = cc in rw i
+
+-- a check that finds nothing, and one that finds a fault, before others
+pub past : {A : Type 0} (a b : Option A) → a ≡ none → orElse a b ≡ b
+unfolding orElse
+past a b e = rw e
+
+pub stop : {A : Type 0} (a b : Option A) {r : A} → a ≡ some r → orElse a b ≡ some r
+unfolding orElse
+stop a b e = rw e
+
+pub orElse-assoc : {A : Type 0} (a b c : Option A) → orElse (orElse a b) c ≡ orElse a (orElse b c)
+unfolding orElse
+orElse-assoc none b c = refl
+orElse-assoc (some x) b c = refl

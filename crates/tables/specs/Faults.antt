@@ -1,0 +1,99 @@
+-- Checks 1 to 7 on the three tables of a picture, and what holds of tables that pass them. Assumes nothing.
+use mathlib.Core.Path.{_≡_}
+use mathlib.Core.Bool.{Bool, not, cond, _&&_, _||_}
+use mathlib.Core.List.{List}
+use mathlib.Core.Option.{Option}
+use Prim.Native.Nat.{ℕ, _%_, _<_, _≤_}
+use lib.Dec.{T, eqb, ltb, leb}
+use lib.ListN.{length, getD}
+use Rattle.tables.specs.Search.{orElse, given, first}
+use Rattle.tables.specs.Rows.{user, file, sideOf, onSide, rowCount, rowAt, arrowCount, arrowAt}
+use Rattle.tables.specs.Refusals.{ragged, tooMany, badByte, badRow, noMode, tooShort}
+use Rattle.tables.specs.declared.Refusal.{Refusal}
+use Rattle.tables.specs.declared.Containment.{Containment}
+use Rattle.tables.specs.declared.Arrow.{Arrow}
+
+-- 1: a table whose length is no whole number of rows
+unfoldable pub raggedFault : ℕ → ℕ → Option Refusal
+raggedFault rows arrows =
+    orElse (given (not (eqb (rows % 2) 0)) (ragged 1 rows))
+    (given (not (eqb (arrows % 4) 0)) (ragged 2 arrows))
+
+-- 2: at most 256 boxes, 1,024 containments, 512 arrows
+unfoldable pub countFault : ℕ → ℕ → ℕ → Option Refusal
+countFault boxes rows arrows =
+    orElse (given (ltb 256 boxes) (tooMany 0 boxes))
+    (orElse (given (ltb 1024 rows) (tooMany 1 rows))
+    (given (ltb 512 arrows) (tooMany 2 arrows)))
+
+-- 3: a box byte above 1
+unfoldable pub byteFault : List ℕ → Option Refusal
+byteFault boxes = first (λ b. given (ltb 1 (getD boxes b 0)) (badByte b)) (length boxes)
+
+-- 4: a containment naming a box that isn't there
+unfoldable pub namesNoBox : List ℕ → Containment → Bool
+namesNoBox boxes r = leb (length boxes) (r .outer) || leb (length boxes) (r .inner)
+
+-- 5: a containment across sides
+unfoldable pub acrossSides : List ℕ → Containment → Bool
+acrossSides boxes r = not (eqb (sideOf boxes (r .outer)) (sideOf boxes (r .inner)))
+
+-- the lowest row that fails check 4 or check 5
+unfoldable pub failsRow : ℕ → List ℕ → Containment → Bool
+failsRow check boxes r = cond (eqb check 4) (namesNoBox boxes r) (acrossSides boxes r)
+
+unfoldable pub rowFault : ℕ → List ℕ → List ℕ → Option Refusal
+rowFault check boxes rows = first (λ k. given (failsRow check boxes (rowAt rows k)) (badRow check k)) (rowCount rows)
+
+-- 6: an arrow whose tail is no user box or head no file box
+unfoldable pub wrongEnds : List ℕ → Arrow → Bool
+wrongEnds boxes a = not (onSide boxes user (a .tail) && onSide boxes file (a .head))
+
+-- 7: an arrow mode above 7 or sign above 1
+unfoldable pub wrongMode : Arrow → Bool
+wrongMode a = ltb 7 (a .mode) || ltb 1 (a .sign)
+
+-- the lowest arrow that fails check 6 or check 7
+unfoldable pub failsArrow : ℕ → List ℕ → Arrow → Bool
+failsArrow check boxes a = cond (eqb check 6) (wrongEnds boxes a) (wrongMode a)
+
+unfoldable pub arrowFault : ℕ → List ℕ → List ℕ → Option Refusal
+arrowFault check boxes arrows =
+    first (λ k. given (failsArrow check boxes (arrowAt arrows k)) (badRow check k)) (arrowCount arrows)
+
+-- checks 1 to 7: a lower number wins, and within it the lower table, row or box
+unfoldable pub tableFault : List ℕ → List ℕ → List ℕ → Option Refusal
+tableFault boxes rows arrows =
+    orElse (raggedFault (length rows) (length arrows))
+    (orElse (countFault (length boxes) (rowCount rows) (arrowCount arrows))
+    (orElse (byteFault boxes)
+    (orElse (rowFault 4 boxes rows)
+    (orElse (rowFault 5 boxes rows)
+    (orElse (arrowFault 6 boxes arrows) (arrowFault 7 boxes arrows))))))
+
+-- 8: the asked mode
+unfoldable pub modeFault : ℕ → Option Refusal
+modeFault mode = given (ltb 7 mode) (noMode mode)
+
+-- 9: a buffer that is too short
+unfoldable pub roomFault : ℕ → ℕ → ℕ → Option Refusal
+roomFault buffer have need = given (ltb have need) (tooShort buffer need)
+
+-- what holds of boxes and containments that pass checks 1 to 7 (`table-sound`)
+pub record SoundRows (boxes rows : List ℕ) : Type 0 where
+  pub few-boxes : length boxes ≤ 256
+  pub whole : length rows % 2 ≡ 0
+  pub few-rows : rowCount rows ≤ 1024
+  pub sides : (b : ℕ) → b < length boxes → getD boxes b 0 ≤ 1
+  pub outer-there : (k : ℕ) → k < rowCount rows → rowAt rows k .outer < length boxes
+  pub inner-there : (k : ℕ) → k < rowCount rows → rowAt rows k .inner < length boxes
+  pub one-side : (k : ℕ) → k < rowCount rows → sideOf boxes (rowAt rows k .outer) ≡ sideOf boxes (rowAt rows k .inner)
+
+-- and of arrows
+pub record SoundArrows (boxes arrows : List ℕ) : Type 0 where
+  pub whole : length arrows % 4 ≡ 0
+  pub few-arrows : arrowCount arrows ≤ 512
+  pub tail-user : (k : ℕ) → k < arrowCount arrows → T (onSide boxes user (arrowAt arrows k .tail))
+  pub head-file : (k : ℕ) → k < arrowCount arrows → T (onSide boxes file (arrowAt arrows k .head))
+  pub mode-most : (k : ℕ) → k < arrowCount arrows → arrowAt arrows k .mode ≤ 7
+  pub sign-most : (k : ℕ) → k < arrowCount arrows → arrowAt arrows k .sign ≤ 1

@@ -1,0 +1,6 @@
+pub mod Search
+pub mod Buffers
+pub mod Rows
+pub mod Refusals
+pub mod Faults
+pub mod Atoms

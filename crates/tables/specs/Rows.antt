@@ -1,0 +1,42 @@
+-- The three lent tables of a picture (document 01, "The picture and its tables"). Assumes nothing.
+use mathlib.Core.Bool.{Bool, _&&_}
+use mathlib.Core.List.{List}
+use Prim.Native.Nat.{ℕ, _+_, _*_, _/_}
+use lib.Dec.{eqb, ltb}
+use lib.ListN.{length, getD}
+use Rattle.tables.specs.declared.Containment.{Containment}
+use Rattle.tables.specs.declared.Arrow.{Arrow}
+
+-- the two sides
+abbrev pub user : ℕ
+user = 0
+
+abbrev pub file : ℕ
+file = 1
+
+-- the side that box b is on
+unfoldable pub sideOf : List ℕ → ℕ → ℕ
+sideOf boxes b = getD boxes b 0
+
+-- b is a box of side s
+unfoldable pub onSide : List ℕ → ℕ → ℕ → Bool
+onSide boxes s b = ltb b (length boxes) && eqb (sideOf boxes b) s
+
+-- containments: outer box, then inner box
+abbrev pub rowCount : List ℕ → ℕ
+rowCount rows = length rows / 2
+
+abbrev pub rowAt : List ℕ → ℕ → Containment
+rowAt rows k = record { outer = getD rows (2 * k) 0; inner = getD rows (2 * k + 1) 0 }
+
+-- arrows: tail, head, mode, sign
+abbrev pub arrowCount : List ℕ → ℕ
+arrowCount arrows = length arrows / 4
+
+abbrev pub arrowAt : List ℕ → ℕ → Arrow
+arrowAt arrows k = record {
+  tail = getD arrows (4 * k) 0;
+  head = getD arrows (4 * k + 1) 0;
+  mode = getD arrows (4 * k + 2) 0;
+  sign = getD arrows (4 * k + 3) 0;
+}

@@ -1,0 +1,44 @@
+-- Searches over the numbers below n, from 0 up. Assumes nothing.
+use mathlib.Core.Bool.{Bool, true, false, _&&_, cond}
+use mathlib.Core.List.{List, [], _∷_, _++_}
+use mathlib.Core.Option.{Option, none, some}
+use Prim.Native.Nat.{ℕ, zero, suc}
+
+-- the first of two that is there
+unfoldable pub orElse : {A : Type 0} → Option A → Option A → Option A
+orElse (some x) o = some x
+orElse none o = o
+
+-- x where the test holds
+unfoldable pub given : {A : Type 0} → Bool → A → Option A
+given true x = some x
+given false x = none
+
+-- o where the test holds
+unfoldable pub guarded : {A : Type 0} → Bool → Option A → Option A
+guarded true o = o
+guarded false o = none
+
+-- what g gives at the lowest number at which it gives something
+unfoldable pub first : {A : Type 0} → (ℕ → Option A) → ℕ → Option A
+first g zero = none
+first g (suc n) = orElse (first g n) (g n)
+
+-- the lowest number at which the test holds
+unfoldable pub lowest : (ℕ → Bool) → ℕ → Option ℕ
+lowest p n = first (λ k. given (p k) k) n
+
+-- the test holds at each number
+unfoldable pub every : (ℕ → Bool) → ℕ → Bool
+every p zero = true
+every p (suc n) = every p n && p n
+
+-- the numbers at which the test holds, rising
+unfoldable pub select : (ℕ → Bool) → ℕ → List ℕ
+select p zero = []
+select p (suc n) = cond (p n) (select p n ++ (n ∷ [])) (select p n)
+
+-- a test as a byte
+unfoldable pub bit : Bool → ℕ
+bit true = 1
+bit false = 0
