@@ -1,4 +1,5 @@
 pub mod Meaning
+pub mod Among
 pub mod Pairs
 pub mod Calls
 pub mod Cases

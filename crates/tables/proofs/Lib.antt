@@ -3,3 +3,6 @@ pub mod Tests
 pub mod Verdicts
 pub mod SearchLaws
 pub mod Bits
+pub mod BufferLaws
+pub mod SelectLaws
+pub mod AtomPlaces

@@ -1,0 +1,163 @@
+-- Laws of the answers: "overrides" goes one way, no pair has certificates of both signs, and denied by default is said exactly
+-- if no arrow of the mode reaches the pair. Assumes nothing.
+use mathlib.Core.Path.{_≡_, refl}
+use mathlib.Core.Logic.{⊎-elim, _≢_}
+use mathlib.Core.Bool.{Bool, true, false, not, _&&_, _||_}
+use mathlib.Core.List.{List}
+use mathlib.Core.Option.{Option, none, some}
+use Prim.Native.Nat.{ℕ, _<_, _≤_}
+use native.Mathlib.Omega.{arith}
+use lib.Dec.{T, T-not, not-T, eqb, eqb→eq}
+use Rattle.tables.specs.Search.{every, lowest}
+use Rattle.tables.specs.Rows.{arrowCount, arrowAt}
+use Rattle.tables.specs.declared.Arrow.{Arrow}
+use Rattle.tables.proofs.Tests.{or-T, T-or₁, and-T, T-and, T-eqb}
+use Rattle.tables.proofs.SearchLaws.{every-at, every-is, lowest-some, lowest-none}
+use Rattle.answers.specs.Meaning.{positive, negative, reaches, nests, level, overrides, settle, hits, certifies, answer}
+use Rattle.answers.specs.declared.Entry.the-variants.{Granted, Denied, Default, Unclear}
+
+-- "p overrides n unless ..", both ways: c, d say whether a tail or a head is nested in the other, e, s whether they are the same box
+asym : (c c′ d d′ e e′ s s′ : Bool)
+    → T (not (c || d || (e || not c && not c′) && (s || not d && not d′)))
+    → T (not (c′ || d′ || (e′ || not c′ && not c) && (s′ || not d′ && not d)))
+    → ⊥
+asym true c′ d d′ e e′ s s′ h k = h
+asym false true d d′ e e′ s s′ h k = k
+asym false false true d′ e e′ s s′ h k = h
+asym false false false true e e′ s s′ h k = k
+asym false false false false true e′ true s′ h k = h
+asym false false false false true e′ false s′ h k = h
+asym false false false false false e′ true s′ h k = h
+asym false false false false false e′ false s′ h k = h
+
+-- of two arrows at most one overrides the other
+pub overrides-asym : (rows : List ℕ) (p n : Arrow) → T (overrides rows p n) → T (overrides rows n p) → ⊥
+unfolding overrides level
+overrides-asym rows p n =
+    asym
+    (nests rows (p .tail) (n .tail)) (nests rows (n .tail) (p .tail))
+    (nests rows (p .head) (n .head)) (nests rows (n .head) (p .head))
+    (eqb (p .tail) (n .tail)) (eqb (n .tail) (p .tail))
+    (eqb (p .head) (n .head)) (eqb (n .head) (p .head))
+
+module _ (rows arrows : List ℕ) (m u f : ℕ) where
+  -- what a hit is
+  pub hit : (s k : ℕ) → arrowAt arrows k .mode ≡ m → arrowAt arrows k .sign ≡ s → T (reaches rows (arrowAt arrows k) u f) → T (hits rows arrows m s u f k)
+  unfolding hits
+  hit s k e i r =
+      T-and (eqb (arrowAt arrows k .mode) m) _ (T-eqb e)
+      (T-and (eqb (arrowAt arrows k .sign) s) (reaches rows (arrowAt arrows k) u f) (T-eqb i) r)
+
+  pub hit-mode : (s k : ℕ) → T (hits rows arrows m s u f k) → arrowAt arrows k .mode ≡ m
+  unfolding hits
+  hit-mode s k t = eqb→eq (arrowAt arrows k .mode) m (and-T (eqb (arrowAt arrows k .mode) m) _ t .0)
+
+  hit-rest : (s k : ℕ) → T (hits rows arrows m s u f k) → T (eqb (arrowAt arrows k .sign) s) × T (reaches rows (arrowAt arrows k) u f)
+  unfolding hits
+  hit-rest s k t =
+      and-T (eqb (arrowAt arrows k .sign) s) (reaches rows (arrowAt arrows k) u f) (and-T (eqb (arrowAt arrows k .mode) m) _ t .1)
+
+  pub hit-sign : (s k : ℕ) → T (hits rows arrows m s u f k) → arrowAt arrows k .sign ≡ s
+  hit-sign s k t = eqb→eq (arrowAt arrows k .sign) s (hit-rest s k t .0)
+
+  pub hit-reaches : (s k : ℕ) → T (hits rows arrows m s u f k) → T (reaches rows (arrowAt arrows k) u f)
+  hit-reaches s k t = hit-rest s k t .1
+
+  -- a certificate reaches the pair, and overrides each arrow of the other sign that does
+  pub certifies-hits : (s o k : ℕ) → T (certifies rows arrows m s o u f k) → T (hits rows arrows m s u f k)
+  unfolding certifies
+  certifies-hits s o k t = and-T (hits rows arrows m s u f k) _ t .0
+
+  pub certifies-over : (s o k : ℕ) → T (certifies rows arrows m s o u f k) → (j : ℕ) → j < arrowCount arrows
+      → T (hits rows arrows m o u f j) → T (overrides rows (arrowAt arrows k) (arrowAt arrows j))
+  unfolding certifies
+  certifies-over s o k t j l h =
+      ⊎-elim (λ n. absurd (T-not (hits rows arrows m o u f j) n h)) (λ r. r)
+      (or-T (not (hits rows arrows m o u f j)) (overrides rows (arrowAt arrows k) (arrowAt arrows j))
+      (every-at (λ j. not (hits rows arrows m o u f j) || overrides rows (arrowAt arrows k) (arrowAt arrows j)) (arrowCount arrows)
+      (and-T (hits rows arrows m s u f k) _ t .1) j l))
+
+  pub certifies-is : (s o k : ℕ) → T (hits rows arrows m s u f k)
+      → ((j : ℕ) → j < arrowCount arrows → T (hits rows arrows m o u f j) → T (overrides rows (arrowAt arrows k) (arrowAt arrows j)))
+      → T (certifies rows arrows m s o u f k)
+  unfolding certifies
+  certifies-is s o k h over =
+      T-and (hits rows arrows m s u f k) _ h
+      (every-is (λ j. not (hits rows arrows m o u f j) || overrides rows (arrowAt arrows k) (arrowAt arrows j)) (arrowCount arrows)
+      (λ j l. either (hits rows arrows m o u f j) _ (over j l)))
+    where
+      either : (a b : Bool) → (T a → T b) → T (not a || b)
+      either true b g = g tt
+      either false b g = tt
+
+  -- no pair has certificates of both signs
+  pub one-sign : (i j : ℕ) → i < arrowCount arrows → j < arrowCount arrows
+      → T (certifies rows arrows m positive negative u f i) → T (certifies rows arrows m negative positive u f j) → ⊥
+  one-sign i j li lj p n =
+      overrides-asym rows (arrowAt arrows i) (arrowAt arrows j)
+      (certifies-over positive negative i p j lj (certifies-hits negative positive j n))
+      (certifies-over negative positive j n i li (certifies-hits positive negative i p))
+
+  -- ---- denied by default
+
+  -- no arrow of the mode reaches the pair
+  abbrev pub Unreached : Type 0
+  Unreached = (k : ℕ) → k < arrowCount arrows → arrowAt arrows k .mode ≡ m → T (reaches rows (arrowAt arrows k) u f) → ⊥
+
+  -- an arrow that no opposite arrow meets is a certificate
+  unopposed : (s o k : ℕ) → T (hits rows arrows m s u f k) → ((j : ℕ) → j < arrowCount arrows → T (hits rows arrows m o u f j) → ⊥)
+      → T (certifies rows arrows m s o u f k)
+  unopposed s o k h n = certifies-is s o k h (λ j l t. absurd (n j l t))
+
+  pub unreached-default : Unreached → answer rows arrows m u f ≡ Default
+  unfolding answer settle
+  unreached-default n =
+      go
+      (lowest (certifies rows arrows m positive negative u f) (arrowCount arrows)) refl
+      (lowest (certifies rows arrows m negative positive u f) (arrowCount arrows)) refl
+      (lowest (hits rows arrows m positive u f) (arrowCount arrows)) refl
+      (lowest (hits rows arrows m negative u f) (arrowCount arrows))
+    where
+      none-hit : (s k : ℕ) → k < arrowCount arrows → T (hits rows arrows m s u f k) → ⊥
+      none-hit s k l t = n k l (hit-mode s k t) (hit-reaches s k t)
+
+      go : (a : Option ℕ) → lowest (certifies rows arrows m positive negative u f) (arrowCount arrows) ≡ a
+          → (b : Option ℕ) → lowest (certifies rows arrows m negative positive u f) (arrowCount arrows) ≡ b
+          → (c : Option ℕ) → lowest (hits rows arrows m positive u f) (arrowCount arrows) ≡ c
+          → (d : Option ℕ) → settle a b c d ≡ Default
+      go (some k) p b q c r d = let g = lowest-some _ _ k p in absurd (none-hit positive k (g .0) (certifies-hits positive negative k (g .1)))
+      go none p (some k) q c r d = let g = lowest-some _ _ k q in absurd (none-hit negative k (g .0) (certifies-hits negative positive k (g .1)))
+      go none p none q (some k) r d = let g = lowest-some _ _ k r in absurd (none-hit positive k (g .0) (g .1))
+      go none p none q none r d = refl
+
+  -- where the signs are 0 and 1, as check 7 says
+  pub default-unreached : ((k : ℕ) → k < arrowCount arrows → arrowAt arrows k .sign ≤ 1) → answer rows arrows m u f ≡ Default → Unreached
+  unfolding answer settle
+  default-unreached signs e k l o r =
+      go
+      (lowest (certifies rows arrows m positive negative u f) (arrowCount arrows)) refl
+      (lowest (certifies rows arrows m negative positive u f) (arrowCount arrows)) refl
+      (lowest (hits rows arrows m positive u f) (arrowCount arrows)) refl
+      (lowest (hits rows arrows m negative u f) (arrowCount arrows)) refl
+      e
+    where
+      -- of sign 1 or 0
+      one-of : (T (hits rows arrows m positive u f k) → ⊥) → (T (hits rows arrows m negative u f k) → ⊥) → ⊥
+      one-of p n =
+          let a : arrowAt arrows k .sign ≢ 1 = λ i. p (hit positive k o i r) in
+          let b : arrowAt arrows k .sign ≢ 0 = λ i. n (hit negative k o i r) in
+          omega (arith, signs k l)
+
+      go : (a : Option ℕ) → lowest (certifies rows arrows m positive negative u f) (arrowCount arrows) ≡ a
+          → (b : Option ℕ) → lowest (certifies rows arrows m negative positive u f) (arrowCount arrows) ≡ b
+          → (c : Option ℕ) → lowest (hits rows arrows m positive u f) (arrowCount arrows) ≡ c
+          → (d : Option ℕ) → lowest (hits rows arrows m negative u f) (arrowCount arrows) ≡ d
+          → settle a b c d ≡ Default → ⊥
+      go (some k) p b q c r d s e = let z : _≡_ {A = ℕ} 0 1 = cc in omega arith
+      go none p (some k) q c r d s e = let z : _≡_ {A = ℕ} 0 1 = cc in omega arith
+      go none p none q (some i) r (some j) s e = let z : _≡_ {A = ℕ} 0 1 = cc in omega arith
+      go none p none q (some i) r none s e =
+          let g = lowest-some _ _ i r in lowest-none _ _ p i (g .0) (unopposed positive negative i (g .1) (lowest-none _ _ s))
+      go none p none q none r (some j) s e =
+          let g = lowest-some _ _ j s in lowest-none _ _ q j (g .0) (unopposed negative positive j (g .1) (lowest-none _ _ r))
+      go none p none q none r none s e = one-of (lowest-none _ _ r k l) (lowest-none _ _ s k l)

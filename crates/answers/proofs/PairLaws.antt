@@ -1,0 +1,111 @@
+-- The pairs by their places, and the first at which a test holds, by user, then file. Assumes nothing.
+use mathlib.Core.Path.{_≡_, sym, ap, subst, _∙_}
+use mathlib.Core.Logic.{_⊎_, ⊎-elim}
+use mathlib.Core.Bool.{Bool}
+use mathlib.Core.List.{List}
+use mathlib.Core.Option.{Option, none, some}
+use Prim.Native.Nat.{ℕ, _+_, _*_, _/_, _%_, _<_}
+use native.Mathlib.Nat.{mod-lt, div-lt-iff-lt-mul, eq-zero-or-pos, mul-zero}
+use native.Mathlib.Omega.{arith}
+use lib.Dec.{T}
+use lib.ListN.{length, getD}
+use Rattle.tables.specs.Search.{given, first}
+use Rattle.tables.specs.Rows.{user, file}
+use Rattle.tables.specs.Atoms.{atom, atoms, pairCount}
+use Rattle.tables.specs.declared.Refusal.{Refusal}
+use Rattle.tables.proofs.SearchLaws.{first-none, first-some, given-some, given-none}
+use Rattle.tables.proofs.AtomPlaces.{atoms-found, atoms-has, atoms-before, atoms-same}
+use Rattle.containment.proofs.Index.{in-table, at-div, at-mod, place, row-step}
+use Rattle.answers.specs.Pairs.{userAt, fileAt, firstPair}
+
+-- a place of a table of m rows of n: its row and its column
+pub place-in : (m n p : ℕ) → p < m * n → (p / n < m) × (p % n < n)
+place-in m n p h =
+    let some-column : 0 < n = ⊎-elim (λ (z : n ≡ 0). absurd (omega (arith, (rw (z, mul-zero m) at h)))) (λ l. l) (eq-zero-or-pos n) in
+    (div-lt-iff-lt-mul some-column .1 h, mod-lt p some-column)
+
+-- a place in an earlier row, or in the same row and an earlier column, comes before
+earlier-row : (n p q : ℕ) → q % n < n → q / n < p / n → q < p
+earlier-row n p q h l = omega (arith, row-step n (q / n) (p / n) l, place n p, place n q)
+
+earlier-column : (n p q : ℕ) → q / n ≡ p / n → q % n < p % n → q < p
+earlier-column n p q e l = omega (arith, ap (λ (k : ℕ). k * n) e, place n p, place n q)
+
+-- (u, f) comes before (v, g)
+abbrev pub Before : ℕ → ℕ → ℕ → ℕ → Type 0
+Before u f v g = (u < v) ⊎ ((u ≡ v) × (f < g))
+
+module _ (boxes rows : List ℕ) where
+  -- what stands at a place is a pair of atomic boxes
+  pub userAt-atom : (p : ℕ) → p < pairCount boxes rows → T (atom boxes rows user (userAt boxes rows p))
+  unfolding userAt pairCount
+  userAt-atom p h = atoms-found boxes rows user (p / length (atoms boxes rows file)) (place-in _ _ p h .0)
+
+  pub fileAt-atom : (p : ℕ) → p < pairCount boxes rows → T (atom boxes rows file (fileAt boxes rows p))
+  unfolding fileAt pairCount
+  fileAt-atom p h = atoms-found boxes rows file (p % length (atoms boxes rows file)) (place-in (length (atoms boxes rows user)) _ p h .1)
+
+  -- and each such pair has a place
+  pub pair-place : (u f : ℕ) → T (atom boxes rows user u) → T (atom boxes rows file f)
+      → (p : ℕ) × (p < pairCount boxes rows) × (userAt boxes rows p ≡ u) × (fileAt boxes rows p ≡ f)
+  unfolding userAt fileAt pairCount
+  pair-place u f a b =
+      let n = length (atoms boxes rows file) in
+      let i = atoms-has boxes rows user u a in
+      let j = atoms-has boxes rows file f b in (
+        i .0 * n + j .0,
+        in-table (length (atoms boxes rows user)) n (i .0) (j .0) (i .1) (j .1),
+        rw (at-div n (i .0) (j .0) (j .1)) (i .2),
+        rw (at-mod n (i .0) (j .0) (j .1)) (j .2),
+      )
+
+  -- places follow the order by user, then file
+  pub pair-before : (p q : ℕ) → p < pairCount boxes rows → q < pairCount boxes rows
+      → Before (userAt boxes rows q) (fileAt boxes rows q) (userAt boxes rows p) (fileAt boxes rows p) → q < p
+  unfolding userAt fileAt pairCount
+  pair-before p q hp hq =
+      let n = length (atoms boxes rows file) in
+      let at = place-in (length (atoms boxes rows user)) n p hp in
+      let to = place-in (length (atoms boxes rows user)) n q hq in
+      ⊎-elim
+      (λ l. earlier-row n p q (to .1) (atoms-before boxes rows user (q / n) (p / n) (to .0) (at .0) l))
+      (λ r. earlier-column n p q (atoms-same boxes rows user (q / n) (p / n) (to .0) (at .0) (r .0))
+      (atoms-before boxes rows file (q % n) (p % n) (to .1) (at .1) (r .1)))
+
+  -- ---- the first pair at which the test holds
+  module _ (t : ℕ → ℕ → Bool) (r : ℕ → ℕ → Refusal) where
+    pub firstPair-none : firstPair boxes rows t r ≡ none → (u f : ℕ) → T (atom boxes rows user u) → T (atom boxes rows file f) → T (t u f) → ⊥
+    unfolding firstPair
+    firstPair-none e u f a b h =
+        let p = pair-place u f a b in
+        given-none (t (userAt boxes rows (p .0)) (fileAt boxes rows (p .0))) _ (first-none _ (pairCount boxes rows) e (p .0) (p .1))
+        (rw (p .2, p .3) h)
+
+    pub record IsFirst (u f : ℕ) : Type 0 where
+      pub a-user : T (atom boxes rows user u)
+      pub a-file : T (atom boxes rows file f)
+      pub holds : T (t u f)
+      pub none-before : (v g : ℕ) → T (atom boxes rows user v) → T (atom boxes rows file g) → Before v g u f → T (t v g) → ⊥
+
+    pub firstPair-some : (x : Refusal) → firstPair boxes rows t r ≡ some x → (u f : ℕ) × (r u f ≡ x) × IsFirst u f
+    unfolding firstPair
+    firstPair-some x e =
+        let w = first-some _ (pairCount boxes rows) x e in
+        let p = w .0 in
+        let u = userAt boxes rows p in
+        let f = fileAt boxes rows p in
+        let s = given-some (t u f) (r u f) x (w .2) in (
+          u,
+          f,
+          s .1,
+          record {
+            a-user = userAt-atom p (w .1);
+            a-file = fileAt-atom p (w .1);
+            holds = s .0;
+            none-before = λ v g a b o h.
+                let q = pair-place v g a b in
+                let o′ : Before (userAt boxes rows (q .0)) (fileAt boxes rows (q .0)) u f = rw (q .2, q .3) o in
+                given-none (t (userAt boxes rows (q .0)) (fileAt boxes rows (q .0))) _ (w .3 (q .0) (pair-before p (q .0) (w .1) (q .1) o′))
+                (rw (q .2, q .3) h);
+          },
+        )

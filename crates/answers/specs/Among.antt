@@ -1,0 +1,41 @@
+-- How the code goes about an answer: the mode's arrows, those of them that reach the pair, and tests over such lists of arrow
+-- numbers. Assumes nothing.
+use mathlib.Core.Bool.{Bool, _&&_, cond}
+use mathlib.Core.List.{List, [], _∷_}
+use Prim.Native.Nat.{ℕ, _<_}
+use lib.Dec.{eqb}
+use lib.ListN.{length, getD}
+use Rattle.tables.specs.Search.{every, select}
+use Rattle.tables.specs.Rows.{arrowCount, arrowAt}
+use Rattle.tables.specs.declared.Arrow.{Arrow}
+use Rattle.answers.specs.Meaning.{reaches, overrides, hits}
+
+-- the elements at which the test holds
+unfoldable pub keep : (ℕ → Bool) → List ℕ → List ℕ
+keep p [] = []
+keep p (x ∷ xs) = cond (p x) (x ∷ keep p xs) (keep p xs)
+
+-- the numbers of the arrows of mode m, rising
+unfoldable pub modeArrows : List ℕ → ℕ → List ℕ
+modeArrows arrows m = select (λ k. eqb (arrowAt arrows k .mode) m) (arrowCount arrows)
+
+-- an arrow has sign s and reaches the pair
+unfoldable pub strikes : List ℕ → ℕ → ℕ → ℕ → Arrow → Bool
+strikes rows s u f a = eqb (a .sign) s && reaches rows a u f
+
+-- the arrows of mode m and sign s that reach the pair, rising
+unfoldable pub reaching : List ℕ → List ℕ → ℕ → ℕ → ℕ → ℕ → List ℕ
+reaching rows arrows m s u f = select (hits rows arrows m s u f) (arrowCount arrows)
+
+-- arrow p overrides each of the arrows ns
+unfoldable pub overridesAll : List ℕ → List ℕ → Arrow → List ℕ → Bool
+overridesAll rows arrows p ns = every (λ i. overrides rows p (arrowAt arrows (getD ns i 0))) (length ns)
+
+-- each arrow's ends are among n boxes
+pub record Within (n : ℕ) (arrows : List ℕ) : Type 0 where
+  pub tail-in : (k : ℕ) → k < arrowCount arrows → arrowAt arrows k .tail < n
+  pub head-in : (k : ℕ) → k < arrowCount arrows → arrowAt arrows k .head < n
+
+-- each of ns is the number of an arrow
+abbrev pub Numbers : List ℕ → List ℕ → Type 0
+Numbers arrows ns = (i : ℕ) → i < length ns → getD ns i 0 < arrowCount arrows

@@ -1,0 +1,43 @@
+-- The atomic boxes of a side, by rising number: each is there once. Assumes nothing.
+use mathlib.Core.Path.{_≡_}
+use mathlib.Core.Bool.{not}
+use mathlib.Core.List.{List}
+use Prim.Native.Nat.{ℕ, _<_, _≤_}
+use lib.Dec.{T, eqb, ltb, ltb→lt}
+use lib.ListN.{length, getD}
+use Rattle.tables.specs.Rows.{sideOf, onSide}
+use Rattle.tables.specs.Atoms.{outer, atom, atoms}
+use Rattle.tables.proofs.Tests.{and-T}
+use Rattle.tables.proofs.BufferLaws.{select-most}
+use Rattle.tables.proofs.SelectLaws.{select-found, select-has, select-before, select-same}
+
+module _ (boxes rows : List ℕ) where
+  pub onSide-there : (s b : ℕ) → T (onSide boxes s b) → b < length boxes
+  unfolding onSide
+  onSide-there s b t = ltb→lt b (length boxes) (and-T (ltb b (length boxes)) (eqb (sideOf boxes b) s) t .0)
+
+  pub atom-there : (s b : ℕ) → T (atom boxes rows s b) → b < length boxes
+  unfolding atom
+  atom-there s b t = onSide-there s b (and-T (onSide boxes s b) (not (outer rows b)) t .0)
+
+  pub atoms-found : (s i : ℕ) → i < length (atoms boxes rows s) → T (atom boxes rows s (getD (atoms boxes rows s) i 0))
+  unfolding atoms
+  atoms-found s i l = select-found (atom boxes rows s) (length boxes) i l .1
+
+  pub atoms-has : (s b : ℕ) → T (atom boxes rows s b) → (i : ℕ) × (i < length (atoms boxes rows s)) × (getD (atoms boxes rows s) i 0 ≡ b)
+  unfolding atoms
+  atoms-has s b t = select-has (atom boxes rows s) (length boxes) b (atom-there s b t) t
+
+  pub atoms-before : (s i j : ℕ) → i < length (atoms boxes rows s) → j < length (atoms boxes rows s)
+      → getD (atoms boxes rows s) i 0 < getD (atoms boxes rows s) j 0 → i < j
+  unfolding atoms
+  atoms-before s i j = select-before (atom boxes rows s) (length boxes) i j
+
+  pub atoms-same : (s i j : ℕ) → i < length (atoms boxes rows s) → j < length (atoms boxes rows s)
+      → getD (atoms boxes rows s) i 0 ≡ getD (atoms boxes rows s) j 0 → i ≡ j
+  unfolding atoms
+  atoms-same s i j = select-same (atom boxes rows s) (length boxes) i j
+
+  pub atoms-most : (s : ℕ) → length (atoms boxes rows s) ≤ length boxes
+  unfolding atoms
+  atoms-most s = select-most (atom boxes rows s) (length boxes)
