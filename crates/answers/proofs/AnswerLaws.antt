@@ -1,6 +1,6 @@
 -- Laws of the answers: "overrides" goes one way, no pair has certificates of both signs, and denied by default is said exactly
 -- if no arrow of the mode reaches the pair. Assumes nothing.
-use mathlib.Core.Path.{_≡_, refl}
+use mathlib.Core.Path.{_≡_, refl, sym, subst}
 use mathlib.Core.Logic.{⊎-elim, _≢_}
 use mathlib.Core.Bool.{Bool, true, false, not, _&&_, _||_}
 use mathlib.Core.List.{List}
@@ -11,7 +11,7 @@ use lib.Dec.{T, T-not, not-T, eqb, eqb→eq}
 use Rattle.tables.specs.Search.{every, lowest}
 use Rattle.tables.specs.Rows.{arrowCount, arrowAt}
 use Rattle.tables.specs.declared.Arrow.{Arrow}
-use Rattle.tables.proofs.Tests.{or-T, T-or₁, and-T, T-and, T-eqb}
+use Rattle.tables.proofs.Tests.{or-T, and-T, T-and, T-eqb, true-T}
 use Rattle.tables.proofs.SearchLaws.{every-at, every-is, lowest-some, lowest-none}
 use Rattle.answers.specs.Meaning.{positive, negative, reaches, nests, level, overrides, settle, hits, certifies, answer}
 use Rattle.answers.specs.declared.Entry.the-variants.{Granted, Denied, Default, Unclear}
@@ -39,6 +39,41 @@ overrides-asym rows p n =
     (nests rows (p .head) (n .head)) (nests rows (n .head) (p .head))
     (eqb (p .tail) (n .tail)) (eqb (n .tail) (p .tail))
     (eqb (p .head) (n .head)) (eqb (n .head) (p .head))
+
+-- ---- "overrides" by tests of nesting alone
+
+-- where b is not nested in a, they are level unless a is nested in b
+level-open : (rows : List ℕ) (a b : ℕ) → nests rows a b ≡ false → level rows a b ≡ not (nests rows b a)
+unfolding level
+level-open rows a b e = go (eqb a b) refl
+  where
+    go : (t : Bool) → eqb a b ≡ t → t || not (nests rows a b) && not (nests rows b a) ≡ not (nests rows b a)
+    go false q = rw e
+    go true q =
+        let same : a ≡ b = eqb→eq a b (true-T (eqb a b) q) in
+        let back : nests rows b a ≡ false = subst (λ (z : ℕ). nests rows z a ≡ false) same (subst (λ (z : ℕ). nests rows a z ≡ false) (sym same) e) in
+        rw back
+
+module _ (rows : List ℕ) (p n : Arrow) where
+  pub outer-tail : nests rows (p .tail) (n .tail) ≡ true → overrides rows p n ≡ false
+  unfolding overrides
+  outer-tail e = rw e
+
+  pub outer-head : nests rows (p .tail) (n .tail) ≡ false → nests rows (p .head) (n .head) ≡ true → overrides rows p n ≡ false
+  unfolding overrides
+  outer-head e h = rw (e, h)
+
+  pub no-outer : nests rows (p .tail) (n .tail) ≡ false → nests rows (p .head) (n .head) ≡ false
+      → overrides rows p n ≡ (nests rows (n .tail) (p .tail) || nests rows (n .head) (p .head))
+  unfolding overrides
+  no-outer e h =
+      rw (e, h, level-open rows (p .tail) (n .tail) e, level-open rows (p .head) (n .head) h)
+      (neither (nests rows (n .tail) (p .tail)) (nests rows (n .head) (p .head)))
+    where
+      neither : (x y : Bool) → not (not x && not y) ≡ (x || y)
+      neither true y = refl
+      neither false true = refl
+      neither false false = refl
 
 module _ (rows arrows : List ℕ) (m u f : ℕ) where
   -- what a hit is

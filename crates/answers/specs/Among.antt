@@ -3,7 +3,7 @@
 use mathlib.Core.Bool.{Bool, _&&_, cond}
 use mathlib.Core.List.{List, [], _∷_}
 use Prim.Native.Nat.{ℕ, _<_}
-use lib.Dec.{eqb}
+use lib.Dec.{T, eqb}
 use lib.ListN.{length, getD}
 use Rattle.tables.specs.Search.{every, select}
 use Rattle.tables.specs.Rows.{arrowCount, arrowAt}
@@ -20,8 +20,8 @@ unfoldable pub modeArrows : List ℕ → ℕ → List ℕ
 modeArrows arrows m = select (λ k. eqb (arrowAt arrows k .mode) m) (arrowCount arrows)
 
 -- an arrow has sign s and reaches the pair
-unfoldable pub strikes : List ℕ → ℕ → ℕ → ℕ → Arrow → Bool
-strikes rows s u f a = eqb (a .sign) s && reaches rows a u f
+unfoldable pub reachesBy : List ℕ → ℕ → ℕ → ℕ → Arrow → Bool
+reachesBy rows s u f a = eqb (a .sign) s && reaches rows a u f
 
 -- the arrows of mode m and sign s that reach the pair, rising
 unfoldable pub reaching : List ℕ → List ℕ → ℕ → ℕ → ℕ → ℕ → List ℕ
@@ -39,3 +39,8 @@ pub record Within (n : ℕ) (arrows : List ℕ) : Type 0 where
 -- each of ns is the number of an arrow
 abbrev pub Numbers : List ℕ → List ℕ → Type 0
 Numbers arrows ns = (i : ℕ) → i < length ns → getD ns i 0 < arrowCount arrows
+
+-- r is the lowest number below n at which the test holds, or none does below n
+pub record FirstAt (p : ℕ → Bool) (n r : ℕ) : Type 0 where
+  pub none-before : (k : ℕ) → k < r → T (p k) → ⊥
+  pub holds : r < n → T (p r)
