@@ -1,3 +1,8 @@
 -- Laws for the proofs of this crate and of the crates above it.
 pub mod Tests
 pub mod Verdicts
+pub mod SearchLaws
+pub mod Bits
+pub mod BufferLaws
+pub mod TableLaws
+mod AtomLaws
