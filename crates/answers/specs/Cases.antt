@@ -10,7 +10,7 @@ use Rattle.tables.specs.Buffers.{build, written}
 use Rattle.tables.specs.Rows.{sideOf, onSide}
 use Rattle.tables.specs.Atoms.{outer, atom, atoms, pairCount}
 use Rattle.tables.specs.Refusals.{inItself, unclearPair}
-use Rattle.tables.specs.Faults.{raggedFault, countFault, byteFault, namesNoBox, acrossSides, failsRow, rowFault, wrongEnds, wrongMode, failsArrow, arrowFault, tableFault, modeFault, roomFault}
+use Rattle.tables.specs.Faults.{raggedFault, countFault, byteFault, namesNoBox, acrossSides, wrongEnds, wrongMode, rowFault, tableFault, modeFault, roomFault}
 use Rattle.tables.specs.declared.Refusal.{Refusal}
 use Rattle.containment.specs.Contains.{contains, around, loopFault}
 use Rattle.answers.specs.Meaning.{reaches, nests, level, overrides, settle, hits, certifies, answer, byteOf, numberOf, isUnclear}
@@ -195,5 +195,5 @@ table =
     ∷ []
 
 pub table-right : map compute table ≡ table
-unfolding compute table picture-A picture-B picture-C picture-D picture-E picture-F picture-G picture-H picture-I picture-J orElse given first lowest every select build written sideOf onSide outer atom atoms pairCount raggedFault countFault byteFault namesNoBox acrossSides failsRow rowFault wrongEnds wrongMode failsArrow arrowFault tableFault modeFault roomFault contains around loopFault reaches nests level overrides settle hits certifies answer byteOf numberOf isUnclear userAt fileAt firstPair answerAt matrixBytes matrixNumbers unclearFault anyUnclear askedFault entryEarly entryFault judgeEarly judgeFault matrixEarly matrixFault
+unfolding compute table picture-A picture-B picture-C picture-D picture-E picture-F picture-G picture-H picture-I picture-J orElse given first lowest every select build written sideOf onSide outer atom atoms pairCount raggedFault countFault byteFault namesNoBox acrossSides wrongEnds wrongMode rowFault tableFault modeFault roomFault contains around loopFault reaches nests level overrides settle hits certifies answer byteOf numberOf isUnclear userAt fileAt firstPair answerAt matrixBytes matrixNumbers unclearFault anyUnclear askedFault entryEarly entryFault judgeEarly judgeFault matrixEarly matrixFault
 table-right = refl

@@ -1,7 +1,7 @@
 -- `contains` is the chain of one or more rows; it is transitive; and what it has to do with rows and atomic boxes. Assumes nothing.
-use mathlib.Core.Path.{_≡_, refl, sym, subst}
+use mathlib.Core.Path.{_≡_, sym, subst}
 use mathlib.Core.Logic.{_⊎_, inl, inr, ⊎-map, ⊎-elim, _↔_}
-use mathlib.Core.Bool.{Bool, true, false, _&&_, _||_}
+use mathlib.Core.Bool.{_&&_}
 use mathlib.Core.List.{List, [], _∷_}
 use mathlib.Core.Option.{none}
 use Prim.Native.Nat.{ℕ, _<_}
@@ -10,9 +10,9 @@ use lib.ListN.{length}
 use Rattle.tables.specs.Atoms.{outer}
 use Rattle.tables.specs.Search.{given}
 use Rattle.tables.specs.Refusals.{inItself}
-use Rattle.tables.proofs.Tests.{or-T, T-or₁, T-or₂, and-T, T-and, T-same, T-eqb}
-use Rattle.tables.proofs.SearchLaws.{first-none, given-none}
 use Rattle.containment.specs.Contains.{Row, here, later, Chain, one, more, contains, around, loopFault}
+use Rattle.tables.proofs.Tests.{or-T, T-or₁, T-or₂, and-T, T-and, T-same}
+use Rattle.tables.proofs.SearchLaws.{first-none, given-none}
 
 -- ---- one row more
 

@@ -2,15 +2,15 @@
 use mathlib.Core.Path.{_≡_, refl, sym, ap, _∙_}
 use mathlib.Core.Bool.{Bool, true, false, cond}
 use mathlib.Core.List.{List, [], _∷_, _++_, append-assoc}
+use mathlib.Core.Logic.{⊎-elim}
 use Prim.Native.Nat.{ℕ, zero, suc, _+_, _-_, _<_, _≤_}
 use native.Mathlib.Numerals.{add-one}
 use native.Mathlib.Omega.{arith}
 use native.Mathlib.Nat.{eq-or-lt-of-le, le-of-suc-le-suc}
-use mathlib.Core.Logic.{⊎-elim}
-use lib.ListN.{length, getD, set, drop, length-append, length-drop, List·getD-append}
+use lib.ListN.{length, getD, set, drop, length-append, length-drop, length-replicate, getD-replicate, List·getD-append}
 use lib.Seq.{drop-cons, set-append-seam, getD-append-add, getD-append-seam, getD-drop}
 use Rattle.tables.specs.Search.{select}
-use Rattle.tables.specs.Buffers.{build, written}
+use Rattle.tables.specs.Buffers.{build, written, zeros}
 
 length-snoc : (l : List ℕ) (x : ℕ) → length (l ++ (x ∷ [])) ≡ length l + 1
 length-snoc l x = length-append l (x ∷ [])
@@ -90,3 +90,37 @@ select-most p (suc n) = go (p n) (select-most p n)
     go : (b : Bool) → length (select p n) ≤ n → length (cond b (select p n ++ (n ∷ [])) (select p n)) ≤ suc n
     go true h = omega (arith, length-snoc (select p n) n)
     go false h = omega arith
+
+-- a loop over the numbers below n that writes those at which the test holds, and counts them
+module _ (p : ℕ → Bool) (old : List ℕ) where
+  abbrev pub Selected : ℕ → ℕ → List ℕ → Type 0
+  Selected n count out = (count ≡ length (select p n)) × (out ≡ written (select p n) old)
+
+  pub selected-none : Selected 0 0 old
+  unfolding select
+  selected-none = (refl, sym (written-none old))
+
+  pub selected-length : (n count : ℕ) (out : List ℕ) → n ≤ length old → Selected n count out → length out ≡ length old
+  selected-length n count out h s = ap length (s .1) ∙ written-length (select p n) old (omega (arith, select-most p n))
+
+  pub selected-most : (n count : ℕ) (out : List ℕ) → Selected n count out → count ≤ n
+  selected-most n count out s = omega (arith, select-most p n, s .0)
+
+  pub selected-yes : (n count : ℕ) (out : List ℕ) (x : ℕ) → n < length old → p n ≡ true → x ≡ n → Selected n count out → Selected (n + 1) (count + 1) (set out count x)
+  selected-yes n count out x h e i s = (
+    rw (select-yes p n e, length-snoc, s .0),
+    rw (s .0, s .1, i, select-yes p n e) (written-more (select p n) old n (omega (arith, select-most p n))),
+  )
+
+  pub selected-no : (n count : ℕ) (out : List ℕ) → p n ≡ false → Selected n count out → Selected (n + 1) count out
+  selected-no n count out e s = rw (select-no p n e) s
+
+-- ---- `zeros`
+
+pub zeros-length : (n : ℕ) → length (zeros n) ≡ n
+unfolding zeros
+zeros-length n = length-replicate {A = ℕ} n 0
+
+pub zeros-at : (n k : ℕ) → k < n → getD (zeros n) k 0 ≡ 0
+unfolding zeros
+zeros-at n k h = getD-replicate n k 0 0 h

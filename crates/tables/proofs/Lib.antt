@@ -4,5 +4,7 @@ pub mod Verdicts
 pub mod SearchLaws
 pub mod Bits
 pub mod BufferLaws
+pub mod TableLaws
+mod AtomLaws
 pub mod SelectLaws
 pub mod AtomPlaces

@@ -1,17 +1,14 @@
 -- What the searches of `specs/Search.antt` find, and how a loop that counts up follows them. Assumes nothing.
 use mathlib.Core.Path.{_≡_, refl, sym, ap, subst, _∙_}
 use mathlib.Core.Logic.{_⊎_, ⊎-elim}
-use mathlib.Core.Bool.{Bool, true, false, _&&_, cond}
-use mathlib.Core.List.{List, [], _∷_, _++_}
+use mathlib.Core.Bool.{Bool, true, false}
 use mathlib.Core.Option.{Option, none, some}
-use Prim.Native.Nat.{ℕ, zero, suc, _+_, _<_, _≤_}
+use Prim.Native.Nat.{ℕ, zero, suc, _+_, _<_}
 use native.Mathlib.Omega.{arith}
 use native.Mathlib.Numerals.{add-one}
 use native.Mathlib.Nat.{eq-or-lt-of-le, le-of-suc-le-suc}
 use lib.Dec.{T}
-use lib.ListN.{length, getD, length-append, List·getD-append}
-use lib.Seq.{getD-append-seam}
-use Rattle.tables.specs.Search.{orElse, given, guarded, first, lowest, every, select}
+use Rattle.tables.specs.Search.{orElse, given, guarded, first, lowest, every}
 use Rattle.tables.proofs.Tests.{and-T, T-and}
 
 -- below n + 1: n or below n
@@ -96,6 +93,21 @@ given-true b x e = rw e
 pub given-false : {A : Type 0} (b : Bool) (x : A) → b ≡ false → given b x ≡ none
 unfolding given
 given-false b x e = rw e
+
+-- a loop that counts up to the lowest number at which the test holds
+module _ {A : Type 0} (p : ℕ → Bool) (x : ℕ → A) where
+  -- it has not been found yet
+  abbrev pub Searched : ℕ → Type 0
+  Searched k = first (λ j. given (p j) (x j)) k ≡ none
+
+  pub search-none : Searched 0
+  search-none = first-zero (λ j. given (p j) (x j))
+
+  pub search-more : (k : ℕ) → Searched k → p k ≡ false → Searched (k + 1)
+  search-more k e h = first-more (λ j. given (p j) (x j)) k e (given-false (p k) (x k) h)
+
+  pub search-here : (n k : ℕ) → Searched k → p k ≡ true → k < n → first (λ j. given (p j) (x j)) n ≡ some (x k)
+  search-here n k e h l = first-here (λ j. given (p j) (x j)) n k (x k) e (given-true (p k) (x k) h) l
 
 pub guarded-some : {A : Type 0} (b : Bool) (r : Option A) (y : A) → guarded b r ≡ some y → T b × (r ≡ some y)
 unfolding guarded

@@ -1,7 +1,7 @@
 -- What lent places hold at the end. Assumes nothing.
 use mathlib.Core.List.{List, [], _∷_, _++_}
 use Prim.Native.Nat.{ℕ, zero, suc}
-use lib.ListN.{length, drop}
+use lib.ListN.{length, drop, replicate}
 
 -- g 0, g 1, .., n of them
 unfoldable pub build : (ℕ → ℕ) → ℕ → List ℕ
@@ -11,3 +11,7 @@ build g (suc n) = build g n ++ (g n ∷ [])
 -- the first places hold the new values; places beyond them are as they were
 unfoldable pub written : List ℕ → List ℕ → List ℕ
 written new old = new ++ drop (length new) old
+
+-- n times 0
+unfoldable pub zeros : ℕ → List ℕ
+zeros n = replicate n 0

@@ -38,13 +38,6 @@ namesNoBox boxes r = leb (length boxes) (r .outer) || leb (length boxes) (r .inn
 unfoldable pub acrossSides : List ℕ → Containment → Bool
 acrossSides boxes r = not (eqb (sideOf boxes (r .outer)) (sideOf boxes (r .inner)))
 
--- the lowest row that fails check 4 or check 5
-unfoldable pub failsRow : ℕ → List ℕ → Containment → Bool
-failsRow check boxes r = cond (eqb check 4) (namesNoBox boxes r) (acrossSides boxes r)
-
-unfoldable pub rowFault : ℕ → List ℕ → List ℕ → Option Refusal
-rowFault check boxes rows = first (λ k. given (failsRow check boxes (rowAt rows k)) (badRow check k)) (rowCount rows)
-
 -- 6: an arrow whose tail is no user box or head no file box
 unfoldable pub wrongEnds : List ℕ → Arrow → Bool
 wrongEnds boxes a = not (onSide boxes user (a .tail) && onSide boxes file (a .head))
@@ -53,13 +46,9 @@ wrongEnds boxes a = not (onSide boxes user (a .tail) && onSide boxes file (a .he
 unfoldable pub wrongMode : Arrow → Bool
 wrongMode a = ltb 7 (a .mode) || ltb 1 (a .sign)
 
--- the lowest arrow that fails check 6 or check 7
-unfoldable pub failsArrow : ℕ → List ℕ → Arrow → Bool
-failsArrow check boxes a = cond (eqb check 6) (wrongEnds boxes a) (wrongMode a)
-
-unfoldable pub arrowFault : ℕ → List ℕ → List ℕ → Option Refusal
-arrowFault check boxes arrows =
-    first (λ k. given (failsArrow check boxes (arrowAt arrows k)) (badRow check k)) (arrowCount arrows)
+-- the lowest row of a table that fails a check of 4 to 7
+unfoldable pub rowFault : ℕ → (ℕ → Bool) → ℕ → Option Refusal
+rowFault check bad count = first (λ k. given (bad k) (badRow check k)) count
 
 -- checks 1 to 7: a lower number wins, and within it the lower table, row or box
 unfoldable pub tableFault : List ℕ → List ℕ → List ℕ → Option Refusal
@@ -67,9 +56,21 @@ tableFault boxes rows arrows =
     orElse (raggedFault (length rows) (length arrows))
     (orElse (countFault (length boxes) (rowCount rows) (arrowCount arrows))
     (orElse (byteFault boxes)
-    (orElse (rowFault 4 boxes rows)
-    (orElse (rowFault 5 boxes rows)
-    (orElse (arrowFault 6 boxes arrows) (arrowFault 7 boxes arrows))))))
+    (orElse (rowFault 4 (λ k. namesNoBox boxes (rowAt rows k)) (rowCount rows))
+    (orElse (rowFault 5 (λ k. acrossSides boxes (rowAt rows k)) (rowCount rows))
+    (orElse (rowFault 6 (λ k. wrongEnds boxes (arrowAt arrows k)) (arrowCount arrows))
+    (rowFault 7 (λ k. wrongMode (arrowAt arrows k)) (arrowCount arrows)))))))
+
+-- the test of a row by the number of the check, 4 to 7, and how many rows it is for
+abbrev pub fails : ℕ → List ℕ → List ℕ → ℕ → Bool
+fails check boxes table k =
+    cond (eqb check 4) (namesNoBox boxes (rowAt table k))
+    (cond (eqb check 5) (acrossSides boxes (rowAt table k))
+    (cond (eqb check 6) (wrongEnds boxes (arrowAt table k))
+    (wrongMode (arrowAt table k))))
+
+abbrev pub rowsFor : ℕ → List ℕ → ℕ
+rowsFor check table = cond (ltb check 6) (rowCount table) (arrowCount table)
 
 -- 8: the asked mode
 unfoldable pub modeFault : ℕ → Option Refusal

@@ -2,13 +2,13 @@
 ghost use mathlib.Core.Path.{_≡_};
 ghost use mathlib.Core.List.{List, []};
 ghost use Prim.Native.Nat.{ℕ, _+_, _*_, _/_, _%_, _<_, _≤_};
-ghost use lib.ListN.{length, replicate};
+ghost use lib.ListN.{length};
 ghost use Rattle.tables.specs.Search.{given};
-ghost use Rattle.tables.specs.Buffers.{written};
+ghost use Rattle.tables.specs.Buffers.{written, zeros};
 ghost use Rattle.tables.specs.Atoms.{outer, atom, atoms, Marks};
 ghost use Rattle.tables.specs.Rows.{sideOf, onSide, rowAt, rowCount, arrowAt, arrowCount};
 ghost use Rattle.tables.specs.Refusals.{refusal, verdictOf, either};
-ghost use Rattle.tables.specs.Faults.{raggedFault, countFault, byteFault, failsRow, rowFault, failsArrow, arrowFault, tableFault, modeFault, roomFault, SoundRows};
+ghost use Rattle.tables.specs.Faults.{raggedFault, countFault, byteFault, namesNoBox, acrossSides, wrongEnds, wrongMode, fails, rowsFor, rowFault, tableFault, modeFault, roomFault, SoundRows};
 
 // A row of the boxes: its side.
 pub struct BoxRow {
@@ -112,10 +112,18 @@ impl Verdict {
     }
 }
 
-fn wide(x: u16) -> usize
+pub fn wide(x: u16) -> usize
     ensures { λ r. ⌜ r ≡ x ⌝ }
 {
     x as usize
+}
+
+// A number that 16 bits hold.
+pub fn narrow(x: usize) -> u16
+    requires { ⌜ x < 65536 ⌝ }
+    ensures { λ r. ⌜ r ≡ x ⌝ }
+{
+    (x % 65536) as u16
 }
 
 // The side that box b is on, 0 where there is no such box.
@@ -157,29 +165,100 @@ pub fn check_counts(boxes: usize, rows: usize, arrows: usize) -> Verdict
         .or_else(Verdict::refused_if(Arrow::LIMIT < arrows, 2, 2, arrows, 0))
 }
 
-// Whether a row fails check 4 or check 5.
-fn fails_row(check: u8, boxes: &[u8], row: Containment) -> bool
-    ensures { λ r. ⌜ r ≡ failsRow check (now (boxes .entry)) row ⌝ }
+// Check 3.
+fn check_bytes(boxes: &[u8]) -> Verdict
+    ensures { λ r. ⌜ r ≡ verdictOf (byteFault (now (boxes .entry))) ⌝ }
 {
-    let outer = wide(row.outer);
-    let inner = wide(row.inner);
-    if check == 4 {
-        return boxes.len() <= outer || boxes.len() <= inner;
+    for b in 0..boxes.len() {
+        if 1 < boxes[b] {
+            return Verdict::refused_if(true, 3, b, 0, 0);
+        }
     }
-    side_of(boxes, outer) != side_of(boxes, inner)
+    Verdict::Passed
 }
 
-// Whether an arrow fails check 6 or check 7.
-fn fails_arrow(check: u8, boxes: &[u8], a: Arrow) -> bool
-    ensures { λ r. ⌜ r ≡ failsArrow check (now (boxes .entry)) a ⌝ }
+// Check 4 of a row: it names a box that isn't there.
+fn names_no_box(boxes: &[u8], row: Containment) -> bool
+    ensures { λ r. ⌜ r ≡ namesNoBox (now (boxes .entry)) row ⌝ }
 {
-    if check == 6 {
-        if on_side(boxes, BoxRow::USER, wide(a.tail)) {
-            return !on_side(boxes, BoxRow::FILE, wide(a.head));
-        }
-        return true;
+    boxes.len() <= wide(row.outer) || boxes.len() <= wide(row.inner)
+}
+
+// Check 5 of a row: its boxes are on two sides.
+fn across_sides(boxes: &[u8], row: Containment) -> bool
+    ensures { λ r. ⌜ r ≡ acrossSides (now (boxes .entry)) row ⌝ }
+{
+    side_of(boxes, wide(row.outer)) != side_of(boxes, wide(row.inner))
+}
+
+// Check 6 of an arrow: its tail is no user box or its head no file box.
+fn wrong_ends(boxes: &[u8], a: Arrow) -> bool
+    ensures { λ r. ⌜ r ≡ wrongEnds (now (boxes .entry)) a ⌝ }
+{
+    if on_side(boxes, BoxRow::USER, wide(a.tail)) {
+        return !on_side(boxes, BoxRow::FILE, wide(a.head));
     }
+    true
+}
+
+// Check 7 of an arrow: its mode is above 7 or its sign above 1.
+fn wrong_mode(a: Arrow) -> bool
+    ensures { λ r. ⌜ r ≡ wrongMode a ⌝ }
+{
     7 < a.mode || 1 < a.sign
+}
+
+// Whether row k of the table that the check is for fails it: check 4 or 5 of the containments, 6 or 7 of the arrows.
+fn row_fails(check: u8, boxes: &[u8], table: &[u16], k: usize) -> bool
+    requires { ⌜ (4 ≤ check) × (k < rowsFor check (now table)) ⌝ }
+    ensures { λ r. ⌜ r ≡ fails check (now (boxes .entry)) (now (table .entry)) k ⌝ }
+{
+    if check < 6 {
+        let row = Containment::at(table, k);
+        if check == 4 {
+            return names_no_box(boxes, row);
+        }
+        return across_sides(boxes, row);
+    }
+    let a = Arrow::at(table, k);
+    if check == 6 {
+        return wrong_ends(boxes, a);
+    }
+    wrong_mode(a)
+}
+
+// One of the checks 4 to 7 on all rows of its table.
+fn check_rows(check: u8, boxes: &[u8], table: &[u16], count: usize) -> Verdict
+    requires { ⌜ (4 ≤ check) × (count ≤ rowsFor check (now table)) ⌝ }
+    ensures { λ r. ⌜ r ≡ verdictOf (rowFault check (fails check (now (boxes .entry)) (now (table .entry))) count) ⌝ }
+{
+    for k in 0..count {
+        if row_fails(check, boxes, table, k) {
+            return Verdict::refused_if(true, check, k, 0, 0);
+        }
+    }
+    Verdict::Passed
+}
+
+// Checks 1 to 7. Tables of the wrong shape are refused by their lengths alone.
+pub fn check(boxes: &[u8], rows: &[u16], arrows: &[u16]) -> Verdict
+    ensures { λ r. ⌜ r ≡ verdictOf (tableFault (now (boxes .entry)) (now (rows .entry)) (now (arrows .entry))) ⌝ }
+{
+    let shape = check_ragged(rows.len(), arrows.len()).or_else(check_counts(
+        boxes.len(),
+        rows.len() / 2,
+        arrows.len() / 4,
+    ));
+    if let Verdict::Refused(r) = shape {
+        return Verdict::Refused(r);
+    }
+    let row_count = rows.len() / 2;
+    let arrow_count = arrows.len() / 4;
+    check_bytes(boxes)
+        .or_else(check_rows(4, boxes, rows, row_count))
+        .or_else(check_rows(5, boxes, rows, row_count))
+        .or_else(check_rows(6, boxes, arrows, arrow_count))
+        .or_else(check_rows(7, boxes, arrows, arrow_count))
 }
 
 // Check 8.
@@ -196,9 +275,83 @@ pub fn check_room(buffer: usize, have: usize, need: usize) -> Verdict
     Verdict::refused_if(have < need, 9, buffer, need, 0)
 }
 
+// Whether box b is the outer one of a row. Costs a step a row.
+fn is_outer(rows: &[u16], b: usize) -> bool
+    requires { ⌜ length (now rows) % 2 ≡ 0 ⌝ }
+    ensures { λ r. ⌜ r ≡ outer (now (rows .entry)) b ⌝ }
+{
+    let mut found = false;
+    let mut k = rows.len() / 2;
+    while 0 < k {
+        k -= 1;
+        let row = Containment::at(rows, k);
+        if wide(row.outer) == b {
+            found = true;
+        }
+    }
+    found
+}
+
+// Whether b is an atomic box of the side.
+pub fn is_atom(boxes: &[u8], rows: &[u16], side: u8, b: usize) -> bool
+    requires { ⌜ length (now rows) % 2 ≡ 0 ⌝ }
+    ensures { λ r. ⌜ r ≡ atom (now (boxes .entry)) (now (rows .entry)) side b ⌝ }
+{
+    on_side(boxes, side, b) && !is_outer(rows, b)
+}
+
 // No box is marked.
 fn no_marks() -> [u8; 256]
-    ensures { λ r. ⌜ r ≡ replicate 256 0 ⌝ }
+    ensures { λ r. ⌜ r ≡ zeros 256 ⌝ }
 {
     [0u8; 256]
+}
+
+// Marks the outer box of each row by a 1.
+fn mark_outer(rows: &[u16], marks: &mut [u8])
+    requires { ⌜ length (now rows) % 2 ≡ 0 ⌝ }
+    requires { ⌜ ((k : ℕ) → k < rowCount (now rows) → rowAt (now rows) k .outer < length (now marks)) ⌝ }
+    requires { ⌜ Marks (outer []) (now marks) ⌝ }
+    ensures { λ _. ⌜ Marks (outer (now (rows .entry))) (now (marks .exit)) ⌝ }
+{
+    let mut k = rows.len() / 2;
+    while 0 < k {
+        k -= 1;
+        let row = Containment::at(rows, k);
+        let b = wide(row.outer);
+        marks[b] = 1;
+    }
+}
+
+// Whether b is an atomic box of the side, by the marks of the outer boxes.
+fn is_unmarked(boxes: &[u8], rows: &[u16], side: u8, marks: &[u8], b: usize) -> bool
+    requires { ⌜ Marks (outer (now rows)) (now marks) × (b < length (now marks)) ⌝ }
+    ensures { λ r. ⌜ r ≡ atom (now (boxes .entry)) (now (rows .entry)) side b ⌝ }
+{
+    on_side(boxes, side, b) && marks[b] == 0
+}
+
+// Writes the atomic boxes of the side, by the marks of the outer boxes, and answers how many.
+fn gather(boxes: &[u8], rows: &[u16], side: u8, marks: &[u8], out: &mut [u16]) -> usize
+    requires { ⌜ Marks (outer (now rows)) (now marks) × (length (now boxes) ≤ 256) × (256 ≤ length (now marks)) × (256 ≤ length (now out)) ⌝ }
+    ensures { λ r. ⌜ (r ≡ length (atoms (now (boxes .entry)) (now (rows .entry)) side)) × (now (out .exit) ≡ written (atoms (now (boxes .entry)) (now (rows .entry)) side) (now (out .entry))) ⌝ }
+{
+    let mut count = 0;
+    for b in 0..boxes.len() {
+        if is_unmarked(boxes, rows, side, marks, b) {
+            out[count] = narrow(b);
+            count += 1;
+        }
+    }
+    count
+}
+
+// Writes the atomic boxes of a side, by rising number, and answers how many. Costs a step a row and a step a box.
+pub fn atoms_of(boxes: &[u8], rows: &[u16], side: u8, out: &mut [u16]) -> usize
+    requires { ⌜ SoundRows (now boxes) (now rows) × (256 ≤ length (now out)) ⌝ }
+    ensures { λ r. ⌜ (r ≡ length (atoms (now (boxes .entry)) (now (rows .entry)) side)) × (now (out .exit) ≡ written (atoms (now (boxes .entry)) (now (rows .entry)) side) (now (out .entry))) ⌝ }
+{
+    let mut marks = no_marks();
+    mark_outer(rows, &mut marks);
+    gather(boxes, rows, side, &marks, out)
 }

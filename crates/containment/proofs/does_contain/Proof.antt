@@ -2,8 +2,8 @@
 use Prim.Native.Nat.{_+_, _*_, _<_}
 use native.Mathlib.Omega.{arith}
 use lib.ListN.{length}
-use Rattle.tables.proofs.Bits.{bit-test}
 use Rattle.containment.specs.Contains.{contains}
+use Rattle.tables.proofs.Bits.{bit-test}
 use Rattle.containment.proofs.Index.{in-table}
 use Rattle.containment.proofs.does_contain.Statement.{statement}
 use Rattle.containment.proofs.does_contain.Tie as tie

@@ -1,36 +1,25 @@
-use Rattle.tables.proofs.Verdicts.{either-verdict, orElse-assoc}
-use Rattle.tables.proofs.Verdicts.{either-verdict}
-use Rattle.tables.specs.Faults.{countFault}
-use native.Mathlib.Omega.{arith}
+-- `tables::check_counts` meets its contract: three faults, the lower table first. Assumes nothing.
 use borrow.Author.Needs.{needs}
+use Rattle.tables.specs.Faults.{countFault}
+use Rattle.tables.proofs.Verdicts.{either-verdict, orElse-assoc}
 use Rattle.tables.proofs.check_counts.Statement.{statement}
 use Rattle.tables.proofs.check_counts.Tie as tie
-use Rattle.tables.proofs.check_counts.Reads as reads
-use Rattle.tables.proofs.check_counts.Lts as lts
-use Rattle.tables.proofs.Verdict.or_else.Reads as or-else-reads
-use Rattle.tables.proofs.Verdict.refused_if.Reads as refused-if-reads
 
--- src/lib.rt:155:5
 refused-if-requires : tie.Need-refused-if-requires
 refused-if-requires c κs = search needs
 
--- src/lib.rt:156:18
 refused-if-requires-2 : tie.Need-refused-if-requires-2
 refused-if-requires-2 c κs = search needs
 
--- src/lib.rt:155:5
 or-else-requires : tie.Need-or-else-requires
 or-else-requires c κs = search needs
 
--- src/lib.rt:157:18
 refused-if-requires-3 : tie.Need-refused-if-requires-3
 refused-if-requires-3 c κs = search needs
 
--- src/lib.rt:155:5
 or-else-requires-2 : tie.Need-or-else-requires-2
 or-else-requires-2 c κs = search needs
 
--- src/lib.rt:152:1
 returns : tie.Need-returns
 unfolding countFault
 returns c = rw (c .or-else2 .ensures, c .before .refused-if3 .ensures, c .before .before .or-else .ensures, c .before .before .before .refused-if2 .ensures, c .before .before .before .before .refused-if .ensures)

@@ -1,23 +1,18 @@
+-- `tables::side_of` meets its contract: the byte, or 0 past the end. Assumes nothing.
 use mathlib.Core.Path.{refl, sym}
+use borrow.Author.Needs.{needs}
 use lib.ListN.{List·getD-eq-default}
 use Rattle.tables.specs.Rows.{sideOf}
-use native.Mathlib.Omega.{arith}
-use borrow.Author.Needs.{needs}
 use Rattle.tables.proofs.side_of.Statement.{statement}
 use Rattle.tables.proofs.side_of.Tie as tie
-use Rattle.tables.proofs.side_of.Reads as reads
-use Rattle.tables.proofs.side_of.Lts as lts
 
--- src/lib.rt:126:16
 shared-slice-read-result : tie.Need-shared-slice-read-result
 shared-slice-read-result c = search needs
 
--- src/lib.rt:126:9
 returns : tie.Need-returns
 unfolding sideOf
 returns c = refl
 
--- src/lib.rt:122:1
 returns-2 : tie.Need-returns-2
 unfolding sideOf
 returns-2 c = sym (List·getD-eq-default (c .before .args .boxes .now) 0 (c .if1 .left))

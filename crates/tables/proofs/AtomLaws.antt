@@ -1,0 +1,45 @@
+-- How the outer boxes of the rows are found, from the last row to the first. Assumes nothing.
+use mathlib.Core.Path.{_≡_, refl, sym, _∙_}
+use mathlib.Core.Bool.{_||_}
+use mathlib.Core.List.{List, [], _∷_}
+use Prim.Native.Nat.{ℕ, suc, _*_, _/_, _%_, _-_, _<_, _≤_}
+use native.Mathlib.Numerals.{add-one}
+use native.Mathlib.Decide.{ℕ-discrete}
+use native.Mathlib.Omega.{arith}
+use borrow.Author.Tests.{eq-eqb, ne-eqb}
+use lib.Dec.{eqb}
+use lib.ListN.{length, getD, set, drop, length-set}
+use lib.Seq.{drop-cons, drop-length, getD-set-same, getD-set-other}
+use Rattle.tables.specs.Search.{bit}
+use Rattle.tables.specs.Rows.{rowCount, rowAt}
+use Rattle.tables.specs.Atoms.{outer, Marks}
+
+-- a table of whole rows ends after the last one
+pub rows-end : (rows : List ℕ) → length rows % 2 ≡ 0 → drop (2 * rowCount rows) rows ≡ []
+rows-end rows even =
+    let e : 2 * (length rows / 2) ≡ length rows = omega arith in
+    rw (e, drop-length)
+
+-- the rows from k - 1 on: row k - 1, and the rows from k on
+pub rows-from : (rows : List ℕ) (k : ℕ) → 0 < k → k ≤ rowCount rows
+    → drop (2 * (k - 1)) rows ≡ rowAt rows (k - 1) .outer ∷ rowAt rows (k - 1) .inner ∷ drop (2 * k) rows
+rows-from rows k pos h =
+    let h₁ : 2 * (k - 1) < length rows = omega arith in
+    let h₂ : suc (2 * (k - 1)) < length rows = omega arith in
+    let e : suc (suc (2 * (k - 1))) ≡ 2 * k = omega arith in
+    rw (drop-cons rows (2 * (k - 1)) 0, drop-cons rows (suc (2 * (k - 1))) 0, e, add-one)
+
+module _ (rows : List ℕ) (k : ℕ) (pos : 0 < k) (h : k ≤ rowCount rows) where
+  pub outer-from : (b : ℕ) → outer (drop (2 * (k - 1)) rows) b ≡ (eqb (rowAt rows (k - 1) .outer) b || outer (drop (2 * k) rows) b)
+  unfolding outer
+  outer-from b = rw (rows-from rows k pos h, outer)
+
+  -- the outer box of row k - 1 is marked
+  pub marked : (marks : List ℕ) (o : ℕ) → o ≡ rowAt rows (k - 1) .outer → o < length marks
+      → Marks (outer (drop (2 * k) rows)) marks → Marks (outer (drop (2 * (k - 1)) rows)) (set marks o 1)
+  unfolding bit
+  marked marks o e l m b lb = rw (outer-from b, ← e) (go (ℕ-discrete o b))
+    where
+      go : Dec (o ≡ b) → getD (set marks o 1) b 0 ≡ bit (eqb o b || outer (drop (2 * k) rows) b)
+      go (yes i) = rw (← i, eq-eqb o o refl) (getD-set-same marks o 1 0 l)
+      go (no i) = rw (ne-eqb o b i) (getD-set-other marks o b 1 0 (λ j. i (sym j)) ∙ m b (rw length-set at lb))

@@ -1,0 +1,127 @@
+-- What holds of tables that pass checks 1 to 7. Assumes nothing.
+use mathlib.Core.Path.{_≡_, refl}
+use mathlib.Core.Bool.{Bool, true, false, not, _&&_}
+use mathlib.Core.List.{List}
+use mathlib.Core.Option.{Option, none, some}
+use Prim.Native.Nat.{ℕ, _<_, _≤_, _%_}
+use lib.Dec.{T, eqb, ltb, leb, not-T, eqb→eq, nltb→le, nleb→lt}
+use lib.ListN.{length, getD}
+use Rattle.tables.specs.Search.{orElse, given}
+use Rattle.tables.specs.Rows.{user, file, sideOf, onSide, rowCount, rowAt, arrowCount, arrowAt}
+use Rattle.tables.specs.Refusals.{ragged, tooMany, badByte, badRow}
+use Rattle.tables.specs.Faults.{raggedFault, countFault, byteFault, namesNoBox, acrossSides, wrongEnds, wrongMode, rowFault, tableFault, SoundRows, SoundArrows}
+use Rattle.tables.specs.declared.Refusal.{Refusal}
+use Rattle.tables.proofs.Tests.{and-T, T-or₁, T-or₂}
+use Rattle.tables.proofs.SearchLaws.{first-none, given-none, some-none}
+
+-- neither of two checks found a fault
+pub both-none : {A : Type 0} (a b : Option A) → orElse a b ≡ none → (a ≡ none) × (b ≡ none)
+unfolding orElse
+both-none none b e = (refl, e)
+both-none (some x) b e = absurd (some-none e)
+
+pub not-not : (b : Bool) → (T (not b) → ⊥) → T b
+not-not true h = tt
+not-not false h = h tt
+
+-- a number that is not above the most
+at-most : (most n : ℕ) (r : Refusal) → given (ltb most n) r ≡ none → n ≤ most
+at-most most n r e = nltb→le most n (not-T (ltb most n) (given-none (ltb most n) r e))
+
+whole-rows : (n width : ℕ) (r : Refusal) → given (not (eqb (n % width) 0)) r ≡ none → n % width ≡ 0
+whole-rows n width r e = eqb→eq (n % width) 0 (not-not (eqb (n % width) 0) (given-none (not (eqb (n % width) 0)) r e))
+
+-- no row fails
+no-row : (check : ℕ) (bad : ℕ → Bool) (count : ℕ) → rowFault check bad count ≡ none → (k : ℕ) → k < count → T (bad k) → ⊥
+unfolding rowFault
+no-row check bad count e k l = given-none (bad k) (badRow check k) (first-none (λ j. given (bad j) (badRow check j)) count e k l)
+
+module _ (boxes rows arrows : List ℕ) (e : tableFault boxes rows arrows ≡ none) where
+  Checks : Type 0
+  Checks =
+      (raggedFault (length rows) (length arrows) ≡ none)
+      × (countFault (length boxes) (rowCount rows) (arrowCount arrows) ≡ none)
+      × (byteFault boxes ≡ none)
+      × (rowFault 4 (λ k. namesNoBox boxes (rowAt rows k)) (rowCount rows) ≡ none)
+      × (rowFault 5 (λ k. acrossSides boxes (rowAt rows k)) (rowCount rows) ≡ none)
+      × (rowFault 6 (λ k. wrongEnds boxes (arrowAt arrows k)) (arrowCount arrows) ≡ none)
+      × (rowFault 7 (λ k. wrongMode (arrowAt arrows k)) (arrowCount arrows) ≡ none)
+
+  checks : Checks
+  unfolding tableFault Checks
+  checks =
+      let c1 = both-none (raggedFault (length rows) (length arrows)) _ e in
+      let c2 = both-none (countFault (length boxes) (rowCount rows) (arrowCount arrows)) _ (c1 .1) in
+      let c3 = both-none (byteFault boxes) _ (c2 .1) in
+      let c4 = both-none (rowFault 4 (λ k. namesNoBox boxes (rowAt rows k)) (rowCount rows)) _ (c3 .1) in
+      let c5 = both-none (rowFault 5 (λ k. acrossSides boxes (rowAt rows k)) (rowCount rows)) _ (c4 .1) in
+      let c6 = both-none (rowFault 6 (λ k. wrongEnds boxes (arrowAt arrows k)) (arrowCount arrows)) _ (c5 .1) in
+      (c1 .0, c2 .0, c3 .0, c4 .0, c5 .0, c6 .0, c6 .1)
+
+  rag : (length rows % 2 ≡ 0) × (length arrows % 4 ≡ 0)
+  unfolding raggedFault Checks
+  rag =
+      let r = both-none (given (not (eqb (length rows % 2) 0)) (ragged 1 (length rows))) _ (checks .0) in
+      (whole-rows (length rows) 2 _ (r .0), whole-rows (length arrows) 4 _ (r .1))
+
+  few : (length boxes ≤ 256) × (rowCount rows ≤ 1024) × (arrowCount arrows ≤ 512)
+  unfolding countFault Checks
+  few =
+      let b = both-none (given (ltb 256 (length boxes)) (tooMany 0 (length boxes))) _ (checks .1) in
+      let r = both-none (given (ltb 1024 (rowCount rows)) (tooMany 1 (rowCount rows))) _ (b .1) in
+      (at-most 256 (length boxes) _ (b .0), at-most 1024 (rowCount rows) _ (r .0), at-most 512 (arrowCount arrows) _ (r .1))
+
+  bytes : (b : ℕ) → b < length boxes → getD boxes b 0 ≤ 1
+  unfolding byteFault Checks
+  bytes b l = at-most 1 (getD boxes b 0) (badByte b) (first-none (λ b. given (ltb 1 (getD boxes b 0)) (badByte b)) (length boxes) (checks .2) b l)
+
+  there : (k : ℕ) → k < rowCount rows → (rowAt rows k .outer < length boxes) × (rowAt rows k .inner < length boxes)
+  unfolding namesNoBox Checks
+  there k l =
+      let o = leb (length boxes) (rowAt rows k .outer) in
+      let i = leb (length boxes) (rowAt rows k .inner) in
+      let n = no-row 4 (λ k. namesNoBox boxes (rowAt rows k)) (rowCount rows) (checks .3) k l in
+      (nleb→lt (length boxes) (rowAt rows k .outer) (not-T o (λ t. n (T-or₁ o i t))), nleb→lt (length boxes) (rowAt rows k .inner) (not-T i (λ t. n (T-or₂ o i t))))
+
+  one-side : (k : ℕ) → k < rowCount rows → sideOf boxes (rowAt rows k .outer) ≡ sideOf boxes (rowAt rows k .inner)
+  unfolding acrossSides Checks
+  one-side k l =
+      let o = sideOf boxes (rowAt rows k .outer) in
+      let i = sideOf boxes (rowAt rows k .inner) in
+      eqb→eq o i (not-not (eqb o i) (no-row 5 (λ k. acrossSides boxes (rowAt rows k)) (rowCount rows) (checks .4) k l))
+
+  ends : (k : ℕ) → k < arrowCount arrows → T (onSide boxes user (arrowAt arrows k .tail)) × T (onSide boxes file (arrowAt arrows k .head))
+  unfolding wrongEnds Checks
+  ends k l =
+      let t = onSide boxes user (arrowAt arrows k .tail) in
+      let h = onSide boxes file (arrowAt arrows k .head) in
+      and-T t h (not-not (t && h) (no-row 6 (λ k. wrongEnds boxes (arrowAt arrows k)) (arrowCount arrows) (checks .5) k l))
+
+  modes : (k : ℕ) → k < arrowCount arrows → (arrowAt arrows k .mode ≤ 7) × (arrowAt arrows k .sign ≤ 1)
+  unfolding wrongMode Checks
+  modes k l =
+      let m = ltb 7 (arrowAt arrows k .mode) in
+      let s = ltb 1 (arrowAt arrows k .sign) in
+      let n = no-row 7 (λ k. wrongMode (arrowAt arrows k)) (arrowCount arrows) (checks .6) k l in
+      (nltb→le 7 (arrowAt arrows k .mode) (not-T m (λ t. n (T-or₁ m s t))), nltb→le 1 (arrowAt arrows k .sign) (not-T s (λ t. n (T-or₂ m s t))))
+
+  pub sound-rows : SoundRows boxes rows
+  sound-rows = record {
+    few-boxes = few .0;
+    whole = rag .0;
+    few-rows = few .1;
+    sides = bytes;
+    outer-there = λ k l. there k l .0;
+    inner-there = λ k l. there k l .1;
+    one-side = one-side;
+  }
+
+  pub sound-arrows : SoundArrows boxes arrows
+  sound-arrows = record {
+    whole = rag .1;
+    few-arrows = few .2;
+    tail-user = λ k l. ends k l .0;
+    head-file = λ k l. ends k l .1;
+    mode-most = λ k l. modes k l .0;
+    sign-most = λ k l. modes k l .1;
+  }

@@ -1,0 +1,93 @@
+-- `tables::gather` meets its contract: the boxes below b that are atomic are written and counted. Assumes nothing.
+use mathlib.Core.Logic.{⊎-elim}
+use mathlib.Core.Path.{_≡_, sym, _∙_}
+use Prim.Native.Nat.{_-_, _≤_, _<_}
+use native.Mathlib.Omega.{arith}
+use borrow.Author.Needs.{needs}
+use lib.ListN.{length}
+use Rattle.tables.specs.Atoms.{atom, atoms}
+use Rattle.tables.proofs.BufferLaws.{Selected, selected-none, selected-length, selected-most, selected-yes, selected-no}
+use Rattle.tables.proofs.gather.Statement.{statement}
+use Rattle.tables.proofs.gather.Tie as tie
+
+abbrev Inv-loop : tie.InvT-loop
+Inv-loop boxes rows side marks out₀ count₀ b₀ b-end out count b = (b ≤ length boxes) × Selected (atom boxes rows side) out₀ b count out
+
+abbrev μ-loop : tie.MeasureT-loop
+μ-loop boxes rows side marks out₀ count₀ b₀ b-end out count b = length boxes - b
+
+loop-holds : tie.Need-loop-holds Inv-loop μ-loop
+loop-holds c = let a = c .before .before .before .before .args in
+    (search needs, selected-none (atom (a .boxes .now) (a .rows .now) (a .side)) (a .out .now))
+
+-- there is a place for the box
+room : (c : tie.After-narrow Inv-loop μ-loop) → let l = c .before .before .before .before .loop in (l .count < length (l .out)) × (l .count ≤ 256)
+room c =
+    let at = c .before .before .before .before in
+    let a = at .before .before .before .before .before .args in
+    let p = atom (a .boxes .now) (a .rows .now) (a .side) in
+    let most = selected-most p (a .out .now) (at .loop .b) (at .loop .count) (at .loop .out) (at .loop .inv .1) in
+    let len = selected-length p (a .out .now) (at .loop .b) (at .loop .count) (at .loop .out) (omega arith) (at .loop .inv .1) in
+    (omega arith, omega arith)
+
+is-unmarked-requires : tie.Need-is-unmarked-requires Inv-loop μ-loop
+is-unmarked-requires c κs = search needs
+
+narrow-requires : tie.Need-narrow-requires Inv-loop μ-loop
+narrow-requires c κs = omega arith
+
+mul-out : tie.Need-mul-out Inv-loop μ-loop
+mul-out c = omega (arith, room c)
+
+slice-write-out : tie.Need-slice-write-out Inv-loop μ-loop
+slice-write-out c = room c .0
+
+add-count : tie.Need-add-count Inv-loop μ-loop
+add-count c = omega (arith, room c)
+
+add-b : tie.Need-add-b Inv-loop μ-loop
+add-b c = search needs
+
+loop-less : tie.Need-loop-less Inv-loop μ-loop
+loop-less c = search needs
+
+loop-again : tie.Need-loop-again Inv-loop μ-loop
+loop-again c = let at = c .before .before .before in
+    let a = at .before .before .before .before .before .args in
+    let p = atom (a .boxes .now) (a .rows .now) (a .side) in
+    let is = c .before .is-unmarked .ensures in (
+      search needs,
+      ⊎-elim
+          (λ w. rw (w .2, w .3) (selected-yes p (a .out .now) (at .loop .b) (at .loop .count) (at .loop .out) (w .1 .result) (omega arith) (sym is ∙ w .0 .taken) (w .1 .ensures) (at .loop .inv .1)))
+          (λ w. rw (w .1, w .2) (selected-no p (a .out .now) (at .loop .b) (at .loop .count) (at .loop .out) (sym is ∙ w .0 .left) (at .loop .inv .1)))
+          (c .if1 .came),
+    )
+
+same-length : tie.Need-same-length Inv-loop μ-loop
+same-length c = let at = c .before in
+    let a = at .before .before .before .before .before .args in
+    selected-length (atom (a .boxes .now) (a .rows .now) (a .side)) (a .out .now) (at .loop .b) (at .loop .count) (at .loop .out) (omega arith) (at .loop .inv .1)
+
+returns : tie.Need-returns Inv-loop μ-loop
+unfolding atoms
+returns c = let at = c .before in
+    let e : at .loop .b ≡ length (at .before .before .before .before .before .args .boxes .now) = omega arith in
+    rw e at (at .loop .inv .1)
+
+pub gather-spec : {M : Type 1} → statement M
+gather-spec =
+    tie.close
+    (tie.spec
+    Inv-loop
+    μ-loop
+    loop-holds
+    is-unmarked-requires
+    narrow-requires
+    mul-out
+    slice-write-out
+    add-count
+    add-b
+    loop-less
+    loop-again
+    same-length
+    returns)
