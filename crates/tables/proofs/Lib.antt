@@ -5,4 +5,4 @@ pub mod SearchLaws
 pub mod Bits
 pub mod BufferLaws
 pub mod TableLaws
-mod AtomLaws
+pub mod RowLaws
