@@ -1,0 +1,5 @@
+-- Laws for the proofs of this crate.
+pub mod CountLaws
+pub mod MatchLaws
+pub mod GreedyLaws
+pub mod OrderLaws

@@ -1,0 +1,4 @@
+pub mod Order
+pub mod Greedy
+pub mod Calls
+pub mod Cases
