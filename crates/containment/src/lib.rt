@@ -1,15 +1,147 @@
-// Which box contains which, as bytes that the caller lends.
+// Which box contains which, as bytes that the caller lends: n × n of them for n boxes.
 ghost use mathlib.Core.Path.{_≡_};
-ghost use Prim.Native.Nat.{_*_, _<_, _≤_};
+ghost use mathlib.Core.Logic.{_⊎_};
+ghost use mathlib.Core.Bool.{Bool};
+ghost use mathlib.Core.List.{[]};
+ghost use Prim.Native.Nat.{ℕ, _+_, _*_, _%_, _<_, _≤_};
 ghost use lib.ListN.{length};
-ghost use Rattle.containment.specs.Contains.{contains};
-ghost use Rattle.containment.specs.Scratch.{Says};
+ghost use Rattle.tables.specs.Buffers.{written, zeros};
+ghost use Rattle.tables.specs.Refusals.{verdictOf};
+ghost use Rattle.tables.specs.Rows.{rowAt, rowCount};
+ghost use Rattle.tables.specs.Faults.{SoundRows};
+ghost use Rattle.containment.specs.Contains.{contains, loopFault};
+ghost use Rattle.containment.specs.Scratch.{filled, Says, scratchFault, scratchAfter, earlyFault, pictureFault};
+ghost use Rattle.containment.specs.Steps.{direct, through, rounds, Cells, SameFrom, Joined};
+use tables::Containment;
+use tables::Verdict;
 
-// Whether box a contains box b, by the scratch that was filled from the rows for n boxes. The one place where the scratch is
-// read by other layers; the rows are there for the promise.
+// Whether box a contains box b, by the scratch that was filled from the rows for n boxes. The one place where other layers read
+// the scratch; the rows are there for the promise.
 pub fn does_contain(n: usize, rows: &[u16], scratch: &[u8], a: usize, b: usize) -> bool
     requires { ⌜ Says n (now rows) (now scratch) × (a < n) × (b < n) ⌝ }
     ensures { λ r. ⌜ r ≡ contains (now (rows .entry)) a b ⌝ }
 {
     scratch[a * n + b] != 0
+}
+
+// Sets the first `count` bytes to 0.
+fn clear(s: &mut [u8], count: usize)
+    requires { ⌜ count ≤ length (now s) ⌝ }
+    ensures { λ _. ⌜ now (s .exit) ≡ written (zeros count) (now (s .entry)) ⌝ }
+{
+    for p in 0..count {
+        s[p] = 0;
+    }
+}
+
+// Sets the byte of each row's pair of boxes to 1.
+fn mark(rows: &[u16], s: &mut [u8], n: usize)
+    requires { ⌜ length (now rows) % 2 ≡ 0 ⌝ }
+    requires { ⌜ ((k : ℕ) → k < rowCount (now rows) → (rowAt (now rows) k .outer < n) × (rowAt (now rows) k .inner < n)) ⌝ }
+    requires { ⌜ n * n ≤ length (now s) ⌝ }
+    requires { ⌜ Cells n (direct []) (now s) ⌝ }
+    ensures { λ _. ⌜ Cells n (direct (now (rows .entry))) (now (s .exit)) × SameFrom (n * n) (now (s .entry)) (now (s .exit)) ⌝ }
+{
+    let mut k = rows.len() / 2;
+    while 0 < k {
+        k -= 1;
+        let row = Containment::at(rows, k);
+        let o = tables::wide(row.outer);
+        let i = tables::wide(row.inner);
+        s[o * n + i] = 1;
+    }
+}
+
+// Joins the n bytes from dst on with those from src on. The loop has no branch, so that the compiler can take many bytes at a time.
+fn join_row(s: &mut [u8], src: usize, dst: usize, n: usize)
+    requires { ⌜ (src + n ≤ length (now s)) × (dst + n ≤ length (now s)) ⌝ }
+    requires { ⌜ (dst ≤ src) ⊎ (src + n ≤ dst) ⌝ }
+    ensures { λ _. ⌜ Joined src dst n (now (s .entry)) (now (s .exit)) ⌝ }
+{
+    for j in 0..n {
+        s[dst + j] = s[dst + j] | s[src + j];
+    }
+}
+
+// Adds the ways through box k. Boxes that do not contain k are skipped.
+fn round(s: &mut [u8], n: usize, k: usize)
+    requires { ⌜ (k < n) × (n * n ≤ length (now s)) ⌝ }
+    ensures { λ _. ⌜ ((f : ℕ → ℕ → Bool) → Cells n f (now (s .entry)) → Cells n (through f k) (now (s .exit))) ⌝ }
+    ensures { λ _. ⌜ SameFrom (n * n) (now (s .entry)) (now (s .exit)) ⌝ }
+{
+    for i in 0..n {
+        if s[i * n + k] != 0 {
+            join_row(s, k * n, i * n, n);
+        }
+    }
+}
+
+// Adds the ways through each box in turn.
+fn close(s: &mut [u8], n: usize)
+    requires { ⌜ n * n ≤ length (now s) ⌝ }
+    ensures { λ _. ⌜ ((f : ℕ → ℕ → Bool) → Cells n f (now (s .entry)) → Cells n (rounds f n) (now (s .exit))) ⌝ }
+    ensures { λ _. ⌜ SameFrom (n * n) (now (s .entry)) (now (s .exit)) ⌝ }
+{
+    for k in 0..n {
+        round(s, n, k);
+    }
+}
+
+// Fills the scratch by Warshall's rounds: n² steps, and n more for each pair of boxes of which one contains the other.
+fn fill(boxes: &[u8], rows: &[u16], scratch: &mut [u8])
+    requires { ⌜ SoundRows (now boxes) (now rows) ⌝ }
+    requires { ⌜ length (now boxes) * length (now boxes) ≤ length (now scratch) ⌝ }
+    ensures { λ _. ⌜ now (scratch .exit) ≡ filled (length (now (boxes .entry))) (now (rows .entry)) (now (scratch .entry)) ⌝ }
+{
+    let n = boxes.len();
+    clear(scratch, n * n);
+    mark(rows, scratch, n);
+    close(scratch, n);
+}
+
+// Check 10, by a filled scratch.
+fn check_loops(boxes: &[u8], rows: &[u16], scratch: &[u8]) -> Verdict
+    requires { ⌜ Says (length (now boxes)) (now rows) (now scratch) ⌝ }
+    ensures { λ r. ⌜ r ≡ verdictOf (loopFault (now (boxes .entry)) (now (rows .entry))) ⌝ }
+{
+    for b in 0..boxes.len() {
+        if does_contain(boxes.len(), rows, scratch, b, b) {
+            return Verdict::refused_if(true, 10, b, 0, 0);
+        }
+    }
+    Verdict::Passed
+}
+
+// Fills the scratch, then check 10.
+pub fn contain(boxes: &[u8], rows: &[u16], scratch: &mut [u8]) -> Verdict
+    requires { ⌜ SoundRows (now boxes) (now rows) ⌝ }
+    requires { ⌜ length (now boxes) * length (now boxes) ≤ length (now scratch) ⌝ }
+    ensures { λ r. ⌜ (r ≡ verdictOf (loopFault (now (boxes .entry)) (now (rows .entry)))) × (now (scratch .exit) ≡ filled (length (now (boxes .entry))) (now (rows .entry)) (now (scratch .entry))) ⌝ }
+{
+    fill(boxes, rows, scratch);
+    check_loops(boxes, rows, scratch)
+}
+
+// Check 9 for the scratch of so many boxes as passed check 2.
+pub fn check_scratch(boxes: &[u8], scratch: &[u8]) -> Verdict
+    requires { ⌜ length (now boxes) ≤ 256 ⌝ }
+    ensures { λ r. ⌜ r ≡ verdictOf (scratchFault (length (now (boxes .entry))) (now (scratch .entry))) ⌝ }
+{
+    let n = boxes.len();
+    tables::check_room(0, scratch.len(), n * n)
+}
+
+// Checks 1 to 7, 9 for the scratch, and 10, for a call that asks nothing else before 10.
+pub fn prepare(boxes: &[u8], rows: &[u16], arrows: &[u16], scratch: &mut [u8]) -> Verdict
+    ensures { λ r. ⌜ (r ≡ verdictOf (pictureFault (now (boxes .entry)) (now (rows .entry)) (now (arrows .entry)) (now (scratch .entry)))) × (now (scratch .exit) ≡ scratchAfter (earlyFault (now (boxes .entry)) (now (rows .entry)) (now (arrows .entry)) (now (scratch .entry))) (now (boxes .entry)) (now (rows .entry)) (now (scratch .entry))) ⌝ }
+{
+    let tables = tables::check(boxes, rows, arrows);
+    if let Verdict::Refused(r) = tables {
+        return Verdict::Refused(r);
+    }
+    let room = check_scratch(boxes, scratch);
+    if let Verdict::Refused(r) = room {
+        return Verdict::Refused(r);
+    }
+    contain(boxes, rows, scratch)
 }

@@ -7,7 +7,7 @@ use Prim.Native.Nat.{ℕ, zero, suc, _+_, _-_, _<_, _≤_}
 use native.Mathlib.Numerals.{add-one}
 use native.Mathlib.Omega.{arith}
 use native.Mathlib.Nat.{eq-or-lt-of-le, le-of-suc-le-suc}
-use lib.ListN.{length, getD, set, drop, length-append, length-drop, length-replicate, getD-replicate, List·getD-append}
+use lib.ListN.{length, getD, set, drop, length-append, length-drop, length-replicate, getD-replicate, replicate-append-replicate, List·getD-append}
 use lib.Seq.{drop-cons, set-append-seam, getD-append-add, getD-append-seam, getD-drop}
 use Rattle.tables.specs.Search.{select}
 use Rattle.tables.specs.Buffers.{build, written, zeros}
@@ -124,3 +124,11 @@ zeros-length n = length-replicate {A = ℕ} n 0
 pub zeros-at : (n k : ℕ) → k < n → getD (zeros n) k 0 ≡ 0
 unfolding zeros
 zeros-at n k h = getD-replicate n k 0 0 h
+
+-- place n of a buffer that a loop clears
+pub written-zeros : (n : ℕ) (old : List ℕ) → n < length old → set (written (zeros n) old) n 0 ≡ written (zeros (n + 1)) old
+unfolding zeros
+written-zeros n old h =
+    ap (λ (k : ℕ). set (written (zeros n) old) k 0) (sym (zeros-length n))
+    ∙ written-more (zeros n) old 0 (rw zeros-length h)
+    ∙ ap (λ (l : List ℕ). written l old) (replicate-append-replicate n 1 0)

@@ -5,6 +5,6 @@ pub mod SearchLaws
 pub mod Bits
 pub mod BufferLaws
 pub mod TableLaws
-mod AtomLaws
+pub mod RowLaws
 pub mod SelectLaws
 pub mod AtomPlaces

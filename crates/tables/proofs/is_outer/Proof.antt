@@ -7,7 +7,7 @@ use borrow.Author.Needs.{needs}
 use lib.ListN.{drop}
 use Rattle.tables.specs.Rows.{rowAt, rowCount}
 use Rattle.tables.specs.Atoms.{outer}
-use Rattle.tables.proofs.AtomLaws.{rows-end, outer-from}
+use Rattle.tables.proofs.RowLaws.{rows-end, outer-from}
 use Rattle.tables.proofs.is_outer.Statement.{statement}
 use Rattle.tables.proofs.is_outer.Tie as tie
 

@@ -1,0 +1,168 @@
+-- What one turn of each loop that fills the scratch does to its bytes. Assumes nothing.
+use mathlib.Core.Path.{_≡_, refl, sym, ap, _∙_}
+use mathlib.Core.Logic.{_⊎_, inl, inr, ⊎-elim, _≢_}
+use mathlib.Core.Bool.{Bool, true, false, _&&_, _||_, and-false, or-false}
+use mathlib.Core.List.{List, [], _∷_}
+use Prim.Native.Nat.{ℕ, suc, _+_, _*_, _-_, _<_, _≤_}
+use native.Mathlib.Nat.{mul-le-mul-right}
+use native.Mathlib.Numerals.{add-one}
+use native.Mathlib.Decide.{ℕ-discrete, decLt}
+use native.Mathlib.Omega.{arith}
+use borrow.Author.Tests.{eq-eqb, ne-eqb}
+use borrow.Author.Count.{below-more}
+use lib.Bits.{bitOr}
+use lib.Dec.{eqb}
+use lib.ListN.{length, getD, set, drop, length-set}
+use lib.Seq.{getD-set-same, getD-set-other}
+use Rattle.tables.specs.Search.{bit}
+use Rattle.tables.specs.Buffers.{written, zeros}
+use Rattle.tables.specs.Rows.{rowCount, rowAt}
+use Rattle.containment.specs.Contains.{Row, here, later}
+use Rattle.containment.specs.Steps.{direct, through, rounds, Cells, SameFrom, Joined}
+use Rattle.tables.proofs.RowLaws.{rows-from}
+use Rattle.tables.proofs.BufferLaws.{written-length, written-at, written-rest, zeros-length, zeros-at}
+use Rattle.containment.proofs.Index.{row-step, in-table, same-row, same-col, next-row}
+
+pub same-trans : {m : ℕ} {s t u : List ℕ} → SameFrom m s t → SameFrom m t u → SameFrom m s u
+same-trans h g = record { len = g .len ∙ h .len; rest = λ p l. g .rest p l ∙ h .rest p l }
+
+-- ---- clear
+
+module _ (n : ℕ) (s : List ℕ) (room : n * n ≤ length s) where
+  pub cleared : Cells n (direct []) (written (zeros (n * n)) s)
+  unfolding direct bit
+  cleared a b la lb =
+      let l = in-table n n a b la lb in
+      written-at (zeros (n * n)) s (a * n + b) (rw zeros-length l) ∙ zeros-at (n * n) (a * n + b) l
+
+  pub cleared-rest : SameFrom (n * n) s (written (zeros (n * n)) s)
+  cleared-rest = record {
+    len = written-length (zeros (n * n)) s (rw zeros-length room);
+    rest = λ p l. written-rest (zeros (n * n)) s p (rw zeros-length l);
+  }
+
+-- ---- mark
+
+module _ (n o i : ℕ) (s : List ℕ) (ho : o < n) (hi : i < n) (room : n * n ≤ length s) where
+  pub mark-cells : (rows : List ℕ) → Cells n (direct rows) s → Cells n (direct (o ∷ i ∷ rows)) (set s (o * n + i) 1)
+  unfolding direct bit
+  mark-cells rows h a b la lb = go (ℕ-discrete o a) (ℕ-discrete i b)
+    where
+      other : (o ≢ a) ⊎ (i ≢ b) → getD (set s (o * n + i) 1) (a * n + b) 0 ≡ bit (direct rows a b)
+      other q =
+          getD-set-other s (o * n + i) (a * n + b) 1 0 (λ e. ⊎-elim (λ d. d (sym (same-row n a b o i lb hi e))) (λ d. d (sym (same-col n a b o i lb hi e))) q)
+          ∙ h a b la lb
+
+      go : Dec (o ≡ a) → Dec (i ≡ b) → getD (set s (o * n + i) 1) (a * n + b) 0 ≡ bit (eqb o a && eqb i b || direct rows a b)
+      go (yes p) (yes q) = rw (← p, ← q, eq-eqb o o refl, eq-eqb i i refl) (getD-set-same s (o * n + i) 1 0 (omega (arith, in-table n n o i ho hi)))
+      go (yes p) (no q) = rw (ne-eqb i b q, and-false) (other (inr q))
+      go (no p) d = rw (ne-eqb o a p) (other (inl p))
+
+  pub mark-rest : (s₀ : List ℕ) → SameFrom (n * n) s₀ s → SameFrom (n * n) s₀ (set s (o * n + i) 1)
+  mark-rest s₀ h = record {
+    len = length-set s (o * n + i) 1 ∙ h .len;
+    rest = λ p l. getD-set-other s (o * n + i) p 1 0 (omega (arith, in-table n n o i ho hi)) ∙ h .rest p l;
+  }
+
+-- row k - 1
+pub mark-turn : (n k : ℕ) (rows s : List ℕ) → 0 < k → k ≤ rowCount rows → n * n ≤ length s → (o i : ℕ)
+    → o ≡ rowAt rows (k - 1) .outer → i ≡ rowAt rows (k - 1) .inner → o < n → i < n
+    → Cells n (direct (drop (2 * k) rows)) s → Cells n (direct (drop (2 * (k - 1)) rows)) (set s (o * n + i) 1)
+mark-turn n k rows s pos h room o i eo ei ho hi cells =
+    rw (rows-from rows k pos h, ← eo, ← ei) (mark-cells n o i s ho hi room (drop (2 * k) rows) cells)
+
+-- ---- join_row
+
+module _ (src dst n j : ℕ) (s t : List ℕ) (h : Joined src dst j s t) (apart : (dst ≤ src) ⊎ (src + n ≤ dst)) (l : j < n) (room : dst + n ≤ length s) where
+  pub join-more : (v : ℕ) → v ≡ bitOr (getD t (dst + j) 0) (getD t (src + j) 0) → Joined src dst (j + 1) s (set t (dst + j) v)
+  join-more v e = record { len = length-set t (dst + j) v ∙ h .len; hit = hits; miss = misses }
+    where
+      -- the two bytes that are read are as they were
+      read : v ≡ bitOr (getD s (dst + j) 0) (getD s (src + j) 0)
+      read = e ∙ rw (h .miss (src + j) (⊎-elim (λ e. inr (omega arith)) (λ e. inl (omega arith)) apart), h .miss (dst + j) (inr (omega arith)))
+
+      hits : (i : ℕ) → i < j + 1 → getD (set t (dst + j) v) (dst + i) 0 ≡ bitOr (getD s (dst + i) 0) (getD s (src + i) 0)
+      hits = below-more (λ (i : ℕ). getD (set t (dst + j) v) (dst + i) 0 ≡ bitOr (getD s (dst + i) 0) (getD s (src + i) 0)) j
+          (λ i q. getD-set-other t (dst + j) (dst + i) v 0 (omega arith) ∙ h .hit i q)
+          (getD-set-same t (dst + j) v 0 (omega (arith, h .len)) ∙ read)
+
+      misses : (p : ℕ) → (p < dst) ⊎ (dst + (j + 1) ≤ p) → getD (set t (dst + j) v) p 0 ≡ getD s p 0
+      misses p q = getD-set-other t (dst + j) p v 0 (⊎-elim (λ a. omega arith) (λ a. omega arith) q) ∙ h .miss p (⊎-elim (λ a. inl a) (λ a. inr (omega arith)) q)
+
+-- ---- round: the rows below i have their ways through k
+
+abbrev pub RowsDone : ℕ → ℕ → ℕ → List ℕ → List ℕ → Type 0
+RowsDone n k i s t = (f : ℕ → ℕ → Bool) → Cells n f s → (a b : ℕ) → a < i → b < n → getD t (a * n + b) 0 ≡ bit (through f k a b)
+
+or-bits : (p q : Bool) → bitOr (bit p) (bit q) ≡ bit (p || q)
+unfolding bit
+or-bits true true = refl
+or-bits true false = refl
+or-bits false true = refl
+or-bits false false = refl
+
+bit-zero : (p : Bool) → bit p ≡ 0 → p ≡ false
+unfolding bit
+bit-zero true e = absurd (omega arith)
+bit-zero false e = refl
+
+bit-some : (p : Bool) → (bit p ≡ 0 → ⊥) → p ≡ true
+unfolding bit
+bit-some true e = refl
+bit-some false e = absurd (e refl)
+
+absorb : (p q : Bool) → (p || (q && p)) ≡ p
+absorb true q = refl
+absorb false q = and-false q
+
+module _ (n k i : ℕ) (s t : List ℕ) (kn : k < n) (l : i < n) (same : SameFrom (i * n) s t) (done : RowsDone n k i s t) where
+  -- row i and those after it are as they were
+  old : (f : ℕ → ℕ → Bool) → Cells n f s → (a b : ℕ) → i ≤ a → a < n → b < n → getD t (a * n + b) 0 ≡ bit (f a b)
+  old f h a b ia la lb = same .rest (a * n + b) (omega (arith, mul-le-mul-right n ia)) ∙ h a b la lb
+
+  -- and so is row k
+  row-k : (f : ℕ → ℕ → Bool) → Cells n f s → (b : ℕ) → b < n → getD t (k * n + b) 0 ≡ bit (f k b)
+  unfolding through
+  row-k f h b lb = go (decLt k i)
+    where
+      go : Dec (k < i) → getD t (k * n + b) 0 ≡ bit (f k b)
+      go (yes q) = done f h k b q lb ∙ ap bit (absorb (f k b) (f k k))
+      go (no q) = old f h k b (omega arith) kn lb
+
+  pub round-yes : (getD t (i * n + k) 0 ≡ 0 → ⊥) → (u : List ℕ) → Joined (k * n) (i * n) n t u → SameFrom ((i + 1) * n) s u × RowsDone n k (i + 1) s u
+  unfolding through
+  round-yes e u o = (
+    record { len = o .len ∙ same .len; rest = λ p q. o .miss p (inr (omega (arith, next-row n i))) ∙ same .rest p (omega (arith, next-row n i)) },
+    λ f h a b la lb. below-more (λ (a : ℕ). (b : ℕ) → b < n → getD u (a * n + b) 0 ≡ bit (through f k a b)) i
+        (λ a la b lb. o .miss (a * n + b) (inl (omega (arith, row-step n a i la))) ∙ done f h a b la lb)
+        (λ b lb. o .hit b lb
+        ∙ rw (old f h i b (omega arith) l lb, row-k f h b lb, bit-some (f i k) (λ z. e (old f h i k (omega arith) l kn ∙ z))) (or-bits (f i b) (f k b)))
+        a la b lb,
+  )
+
+  pub round-no : getD t (i * n + k) 0 ≡ 0 → SameFrom ((i + 1) * n) s t × RowsDone n k (i + 1) s t
+  unfolding through
+  round-no e = (
+    record { len = same .len; rest = λ p q. same .rest p (omega (arith, next-row n i)) },
+    λ f h a b la lb. below-more (λ (a : ℕ). (b : ℕ) → b < n → getD t (a * n + b) 0 ≡ bit (through f k a b)) i
+        (λ a la b lb. done f h a b la lb)
+        (λ b lb. old f h i b (omega arith) l lb ∙ rw (bit-zero (f i k) (sym (old f h i k (omega arith) l kn) ∙ e), or-false))
+        a la b lb,
+  )
+
+-- ---- close
+
+pub rounds-none : (n : ℕ) (f : ℕ → ℕ → Bool) (s : List ℕ) → Cells n f s → Cells n (rounds f 0) s
+unfolding rounds
+rounds-none n f s h = h
+
+pub rounds-more : (n k : ℕ) (f : ℕ → ℕ → Bool) (s : List ℕ) → Cells n (through (rounds f k) k) s → Cells n (rounds f (k + 1)) s
+unfolding rounds
+rounds-more n k f s h = rw add-one h
+
+-- ---- fill: the boxes of a row are below what those of each place in the table are below
+
+pub row-below : {rows : List ℕ} {a b : ℕ} (n : ℕ) → Row rows a b → ((k : ℕ) → k < rowCount rows → rowAt rows k .inner < n) → b < n
+row-below n here h = h 0 (omega arith)
+row-below n (later {x = x} {y = y} {rows = rows} r) h =
+    row-below n r (λ k l. let e : 2 * (k + 1) + 1 ≡ suc (suc (2 * k + 1)) = omega arith in rw e at (h (k + 1) (omega arith)))

@@ -1,0 +1,47 @@
+-- `containment::fill` meets its contract: after n rounds a way is a chain of rows. Assumes nothing.
+use mathlib.Core.Path.{_∙_, ap}
+use borrow.Author.Needs.{needs}
+use lib.ListN.{length}
+use Rattle.tables.specs.Search.{bit}
+use Rattle.containment.specs.Steps.{direct}
+use Rattle.containment.proofs.ScratchLaws.{is-filled}
+use Rattle.containment.proofs.Rounds.{rounds-all}
+use Rattle.containment.proofs.StepLaws.{cleared, cleared-rest, same-trans, row-below}
+use Rattle.containment.proofs.fill.Statement.{statement}
+use Rattle.containment.proofs.fill.Tie as tie
+
+mul-clear : tie.Need-mul-clear
+mul-clear c = search needs
+
+clear-requires : tie.Need-clear-requires
+clear-requires c κs = search needs
+
+mark-requires : tie.Need-mark-requires
+mark-requires c κs = let cl = c .before .before .before in
+    let start = c .before .before .before .before .before .before .before .before in
+    let sound = start .pre .0 in
+    (sound .whole, (λ k h. (sound .outer-there k h, sound .inner-there k h), (search needs, rw (cl .clear .ensures) (cleared (length (start .args .boxes .now)) (start .args .scratch .now) (start .pre .1)))))
+
+close-requires : tie.Need-close-requires
+close-requires c κs = search needs
+
+same-length : tie.Need-same-length
+same-length c = search needs
+
+returns : tie.Need-returns
+returns c = let cd = c .before .before in
+    let mk = cd .before .before .before .before in
+    let cl = mk .before .before .before .before in
+    let start = cl .before .before .before .before .before in
+    let n = length (start .args .boxes .now) in
+    let rows = start .args .rows .now in
+    let s = start .args .scratch .now in
+    let room = start .pre .1 in
+    is-filled n rows s (cd .close .last .0) room
+    (λ a b la lb. cd .close .ensures .0 (direct rows) (mk .mark .ensures .0) a b la lb
+    ∙ ap bit (rounds-all rows n (λ x y r. row-below n r (start .pre .0 .inner-there)) a b))
+    (same-trans (same-trans (rw (cl .clear .ensures) (cleared-rest n s room)) (mk .mark .ensures .1)) (cd .close .ensures .1))
+
+pub fill-spec : {M : Type 1} → statement M
+fill-spec =
+    tie.close (tie.spec mul-clear clear-requires mark-requires close-requires same-length returns)

@@ -1,0 +1,40 @@
+-- How the scratch stands while it is filled: what the functions that fill it promise each other. Assumes nothing.
+use mathlib.Core.Path.{_≡_}
+use mathlib.Core.Logic.{_⊎_}
+use mathlib.Core.Bool.{Bool, false, _&&_, _||_}
+use mathlib.Core.List.{List, [], _∷_}
+use Prim.Native.Nat.{ℕ, zero, suc, _+_, _*_, _<_, _≤_}
+use lib.Bits.{bitOr}
+use lib.Dec.{eqb}
+use lib.ListN.{length, getD}
+use Rattle.tables.specs.Search.{bit}
+
+-- a row of the table has outer box a and inner box b
+unfoldable pub direct : List ℕ → ℕ → ℕ → Bool
+direct [] a b = false
+direct (x ∷ []) a b = false
+direct (x ∷ y ∷ rows) a b = eqb x a && eqb y b || direct rows a b
+
+-- f a b, or a way through box k
+unfoldable pub through : (ℕ → ℕ → Bool) → ℕ → ℕ → ℕ → Bool
+through f k a b = f a b || f a k && f k b
+
+-- ways through boxes below k
+unfoldable pub rounds : (ℕ → ℕ → Bool) → ℕ → ℕ → ℕ → Bool
+rounds f zero a b = f a b
+rounds f (suc k) a b = through (rounds f k) k a b
+
+-- byte a × n + b is 1 if f a b, else 0
+abbrev pub Cells : ℕ → (ℕ → ℕ → Bool) → List ℕ → Type 0
+Cells n f s = (a b : ℕ) → a < n → b < n → getD s (a * n + b) 0 ≡ bit (f a b)
+
+-- t has as many bytes as s, and the same from m on
+pub record SameFrom (m : ℕ) (s t : List ℕ) : Type 0 where
+  pub len : length t ≡ length s
+  pub rest : (p : ℕ) → m ≤ p → getD t p 0 ≡ getD s p 0
+
+-- t is s with the n bytes from dst on joined by those from src on
+pub record Joined (src dst n : ℕ) (s t : List ℕ) : Type 0 where
+  pub len : length t ≡ length s
+  pub hit : (j : ℕ) → j < n → getD t (dst + j) 0 ≡ bitOr (getD s (dst + j) 0) (getD s (src + j) 0)
+  pub miss : (p : ℕ) → (p < dst) ⊎ (dst + n ≤ p) → getD t p 0 ≡ getD s p 0
