@@ -6,19 +6,23 @@ use mathlib.Core.Option.{Option, none, some}
 use Prim.Native.Nat.{ℕ, zero, suc, _+_, _<_, _≤_}
 use native.Mathlib.Numerals.{add-one}
 use native.Mathlib.Omega.{arith}
+use borrow.Author.Count.{below-more}
 use lib.Dec.{T, eqb}
-use lib.ListN.{length, getD, take}
-use lib.Seq.{take-suc}
+use lib.ListN.{length, getD, take, set, length-append, length-take}
+use lib.Seq.{take-suc, take-length}
 use Rattle.tables.specs.Search.{every, lowest, select}
 use Rattle.tables.specs.Rows.{arrowCount, arrowAt}
-use Rattle.tables.proofs.Tests.{and-T, T-and, T-same}
+use Rattle.tables.specs.Buffers.{written}
+use Rattle.tables.specs.declared.Arrow.{Arrow}
+use Rattle.tables.proofs.Tests.{and-T, T-and, T-same, T-true, true-T, not-false, false-not}
+use Rattle.tables.proofs.BufferLaws.{written-none, written-more, written-length}
 use Rattle.tables.proofs.SearchLaws.{every-at, every-is}
 use Rattle.tables.proofs.SelectLaws.{select-found, select-has, selected-lowest, selected-nothing}
 use Rattle.answers.specs.Meaning.{positive, negative, reaches, overrides, hits, certifies, settle, answer}
-use Rattle.answers.specs.Among.{keep, modeArrows, reachesBy, reaching, overridesAll, Numbers}
+use Rattle.answers.specs.Among.{keep, hasMode, modeArrows, reachesBy, reachesAt, reaching, overridesAll, wins, Numbers, NoneBefore, FirstAt}
 use Rattle.answers.specs.declared.Entry.{Entry}
 use Rattle.answers.specs.declared.Entry.the-variants.{Granted, Denied, Default, Unclear}
-use Rattle.answers.proofs.AnswerLaws.{certifies-hits, certifies-over, certifies-is}
+use Rattle.answers.proofs.AnswerLaws.{overrides-asym, certifies-hits, certifies-over, certifies-is}
 
 -- ---- `keep`
 
@@ -32,17 +36,203 @@ keep-append p (x ∷ xs) ys = go (p x) (keep-append p xs ys)
     go true e = ap (λ (l : List ℕ). x ∷ l) e
     go false e = e
 
--- a loop over the list: before it, and after an element that is kept or not
-pub keep-none : (p : ℕ → Bool) (xs : List ℕ) → keep p (take 0 xs) ≡ []
-unfolding keep
-keep-none p xs = refl
-
-pub keep-yes : (p : ℕ → Bool) (xs : List ℕ) (i : ℕ) → i < length xs → p (getD xs i 0) ≡ true
+keep-yes : (p : ℕ → Bool) (xs : List ℕ) (i : ℕ) → i < length xs → p (getD xs i 0) ≡ true
     → keep p (take (i + 1) xs) ≡ keep p (take i xs) ++ (getD xs i 0 ∷ [])
 unfolding keep
 keep-yes p xs i h e = rw (add-one, take-suc xs i 0 h, keep-append p (take i xs) (getD xs i 0 ∷ [])) (rw (keep, e))
 
-pub keep-no : (p : ℕ → Bool) (xs : List ℕ) (i : ℕ) → i < length xs → p (getD xs i 0) ≡ false
+keep-no : (p : ℕ → Bool) (xs : List ℕ) (i : ℕ) → i < length xs → p (getD xs i 0) ≡ false
     → keep p (take (i + 1) xs) ≡ keep p (take i xs)
 unfolding keep
-keep-no p xs i h e = rw (add-one, take-suc xs i 0 h, keep-append p (take i xs) (getD xs i 0 ∷ [])) (rw (keep, e) (append-nil (keep p (take i xs))))
+keep-no p xs i h e =
+    rw (add-one, take-suc xs i 0 h, keep-append p (take i xs) (getD xs i 0 ∷ [])) (rw (keep, e) (append-nil (keep p (take i xs))))
+
+keep-most : (p : ℕ → Bool) (xs : List ℕ) → length (keep p xs) ≤ length xs
+unfolding keep
+keep-most p [] = omega arith
+keep-most p (x ∷ xs) = go (p x) (keep-most p xs)
+  where
+    go : (b : Bool) → length (keep p xs) ≤ length xs → length (cond b (x ∷ keep p xs) (keep p xs)) ≤ suc (length xs)
+    go true h = omega arith
+    go false h = omega arith
+
+-- a loop over a list that writes the elements at which the test holds, and counts them
+module _ (p : ℕ → Bool) (own old : List ℕ) where
+  abbrev pub Kept : ℕ → ℕ → List ℕ → Type 0
+  Kept t count out = (count ≡ length (keep p (take t own))) × (out ≡ written (keep p (take t own)) old)
+
+  pub kept-none : Kept 0 0 old
+  unfolding keep
+  kept-none = (refl, sym (written-none old))
+
+  fewer : (t : ℕ) → length (keep p (take t own)) ≤ t
+  fewer t = let most = keep-most p (take t own) in omega (arith, length-take t own)
+
+  pub kept-most : (t count : ℕ) (out : List ℕ) → Kept t count out → count ≤ t
+  kept-most t count out k = omega (arith, fewer t, k .0)
+
+  pub kept-length : (t count : ℕ) (out : List ℕ) → t ≤ length old → Kept t count out → length out ≡ length old
+  kept-length t count out h k = ap length (k .1) ∙ written-length (keep p (take t own)) old (omega (arith, fewer t))
+
+  pub kept-yes : (t count : ℕ) (out : List ℕ) → t < length own → t < length old → p (getD own t 0) ≡ true
+      → Kept t count out → Kept (t + 1) (count + 1) (set out count (getD own t 0))
+  kept-yes t count out h l e k = (
+    rw (keep-yes p own t h e, length-append, k .0),
+    rw (k .0, k .1, keep-yes p own t h e) (written-more (keep p (take t own)) old (getD own t 0) (omega (arith, fewer t))),
+  )
+
+  pub kept-no : (t count : ℕ) (out : List ℕ) → t < length own → p (getD own t 0) ≡ false → Kept t count out → Kept (t + 1) count out
+  kept-no t count out h e k = rw (keep-no p own t h e) k
+
+  pub kept-all : (t count : ℕ) (out : List ℕ) → t ≡ length own → Kept t count out → (count ≡ length (keep p own)) × (out ≡ written (keep p own) old)
+  kept-all t count out e k = rw (e, take-length) at k
+
+-- the selected numbers at which a further test holds
+select-keep : (p q : ℕ → Bool) (n : ℕ) → select (λ k. p k && q k) n ≡ keep q (select p n)
+unfolding select keep
+select-keep p q zero = refl
+select-keep p q (suc n) = go (p n) (q n) refl (select-keep p q n)
+  where
+    go : (a b : Bool) → q n ≡ b → select (λ k. p k && q k) n ≡ keep q (select p n)
+        → cond (a && b) (select (λ k. p k && q k) n ++ (n ∷ [])) (select (λ k. p k && q k) n) ≡ keep q (cond a (select p n ++ (n ∷ [])) (select p n))
+    go false b e ih = ih
+    go true false e ih = ih ∙ sym (rw (keep-append q (select p n) (n ∷ []), keep, e) (append-nil (keep q (select p n))))
+    go true true e ih = rw (ih, keep-append q (select p n) (n ∷ [])) (rw (keep, e))
+
+module _ (rows arrows : List ℕ) where
+  -- the arrows that reach a pair, out of the mode's arrows
+  pub reaching-keep : (m s u f : ℕ) → reaching rows arrows m s u f ≡ keep (reachesAt rows arrows s u f) (modeArrows arrows m)
+  unfolding reaching hits hasMode modeArrows reachesAt reachesBy
+  reaching-keep m s u f =
+      select-keep (λ k. eqb (arrowAt arrows k .mode) m) (λ k. eqb (arrowAt arrows k .sign) s && reaches rows (arrowAt arrows k) u f) (arrowCount arrows)
+
+  pub mode-numbers : (m : ℕ) → Numbers arrows (modeArrows arrows m)
+  unfolding modeArrows
+  mode-numbers m i h = select-found _ (arrowCount arrows) i h .0
+
+  pub reaching-numbers : (m s u f : ℕ) → Numbers arrows (reaching rows arrows m s u f)
+  unfolding reaching
+  reaching-numbers m s u f i h = select-found _ (arrowCount arrows) i h .0
+
+  -- ---- an arrow against all opposite ones
+
+  pub all-yes : (p : Arrow) (ns : List ℕ) → ((i : ℕ) → i < length ns → T (overrides rows p (arrowAt arrows (getD ns i 0)))) → overridesAll rows arrows p ns ≡ true
+  unfolding overridesAll
+  all-yes p ns h = T-true _ (every-is (λ i. overrides rows p (arrowAt arrows (getD ns i 0))) (length ns) h)
+
+  all-at : (p : Arrow) (ns : List ℕ) → T (overridesAll rows arrows p ns) → (i : ℕ) → i < length ns → T (overrides rows p (arrowAt arrows (getD ns i 0)))
+  unfolding overridesAll
+  all-at p ns t i l = every-at (λ i. overrides rows p (arrowAt arrows (getD ns i 0))) (length ns) t i l
+
+  pub all-no : (p : Arrow) (ns : List ℕ) (i : ℕ) → i < length ns → overrides rows p (arrowAt arrows (getD ns i 0)) ≡ false → overridesAll rows arrows p ns ≡ false
+  all-no p ns i l e = not-false (overridesAll rows arrows p ns) (λ t. false-not (overrides rows p (arrowAt arrows (getD ns i 0))) e (all-at p ns t i l))
+
+  -- ---- striking: an arrow that is overridden, or that does not override, is no certificate
+
+  module _ (ps ns : List ℕ) (i j : ℕ) (li : i < length ps) (lj : j < length ns) where
+    pub struck-first : overrides rows (arrowAt arrows (getD ps i 0)) (arrowAt arrows (getD ns j 0)) ≡ false
+        → NoneBefore rows arrows ps ns i → NoneBefore rows arrows ps ns (i + 1)
+    unfolding wins
+    struck-first e before =
+        below-more (λ k. T (wins rows arrows ps ns k) → ⊥) i before
+        (λ t. false-not (overrides rows (arrowAt arrows (getD ps i 0)) (arrowAt arrows (getD ns j 0))) e (all-at (arrowAt arrows (getD ps i 0)) ns t j lj))
+
+    pub struck-second : overrides rows (arrowAt arrows (getD ps i 0)) (arrowAt arrows (getD ns j 0)) ≡ true
+        → NoneBefore rows arrows ns ps j → NoneBefore rows arrows ns ps (j + 1)
+    unfolding wins
+    struck-second e before =
+        below-more (λ k. T (wins rows arrows ns ps k) → ⊥) j before
+        (λ t. overrides-asym rows (arrowAt arrows (getD ps i 0)) (arrowAt arrows (getD ns j 0))
+        (true-T (overrides rows (arrowAt arrows (getD ps i 0)) (arrowAt arrows (getD ns j 0))) e)
+        (all-at (arrowAt arrows (getD ns j 0)) ps t i li))
+
+-- ---- the answer from the two lists
+
+module _ (rows arrows : List ℕ) (m u f : ℕ) where
+  -- the arrows of sign s that reach the pair
+  abbrev of : ℕ → List ℕ
+  of s = reaching rows arrows m s u f
+
+  of-found : (s i : ℕ) → i < length (of s) → (getD (of s) i 0 < arrowCount arrows) × T (hits rows arrows m s u f (getD (of s) i 0))
+  unfolding reaching
+  of-found s i l = select-found (hits rows arrows m s u f) (arrowCount arrows) i l
+
+  -- a certificate is an arrow of the list that overrides the whole other list
+  wins-certifies : (s o i : ℕ) → i < length (of s) → T (wins rows arrows (of s) (of o) i) → T (certifies rows arrows m s o u f (getD (of s) i 0))
+  unfolding wins reaching
+  wins-certifies s o i l t =
+      certifies-is rows arrows m u f s o (getD (of s) i 0) (of-found s i l .1)
+      (λ j h k.
+      let x = select-has (hits rows arrows m o u f) (arrowCount arrows) j h k in
+      subst (λ (z : ℕ). T (overrides rows (arrowAt arrows (getD (of s) i 0)) (arrowAt arrows z))) (x .2)
+      (all-at rows arrows (arrowAt arrows (getD (of s) i 0)) (of o) t (x .0) (x .1)))
+
+  certifies-wins : (s o i : ℕ) → T (certifies rows arrows m s o u f (getD (of s) i 0)) → T (wins rows arrows (of s) (of o) i)
+  unfolding wins
+  certifies-wins s o i t =
+      true-T (overridesAll rows arrows (arrowAt arrows (getD (of s) i 0)) (of o))
+      (all-yes rows arrows (arrowAt arrows (getD (of s) i 0)) (of o)
+      (λ j l. let x = of-found o j l in certifies-over rows arrows m u f s o (getD (of s) i 0) t (getD (of o) j 0) (x .0) (x .1)))
+
+  module _ (s o r : ℕ) (found : FirstAt (wins rows arrows (of s) (of o)) (length (of s)) r) where
+    certificate-some : r < length (of s) → lowest (certifies rows arrows m s o u f) (arrowCount arrows) ≡ some (getD (of s) r 0)
+    unfolding reaching
+    certificate-some h =
+        selected-lowest (hits rows arrows m s u f) (certifies rows arrows m s o u f) (certifies-hits rows arrows m u f s o) (arrowCount arrows) r h
+        (wins-certifies s o r h (found .holds h)) (λ i l t. found .none-before i l (certifies-wins s o i t))
+
+    certificate-none : length (of s) ≤ r → lowest (certifies rows arrows m s o u f) (arrowCount arrows) ≡ none
+    unfolding reaching
+    certificate-none h =
+        selected-nothing (hits rows arrows m s u f) (certifies rows arrows m s o u f) (certifies-hits rows arrows m u f s o) (arrowCount arrows)
+        (λ i l t. found .none-before i (omega arith) (certifies-wins s o i t))
+
+  hit-some : (s : ℕ) → 0 < length (of s) → lowest (hits rows arrows m s u f) (arrowCount arrows) ≡ some (getD (of s) 0 0)
+  unfolding reaching
+  hit-some s h =
+      selected-lowest (hits rows arrows m s u f) (hits rows arrows m s u f) (λ k t. t) (arrowCount arrows) 0 h (of-found s 0 h .1) (λ i l. absurd (omega arith))
+
+  hit-none : (s : ℕ) → length (of s) ≡ 0 → lowest (hits rows arrows m s u f) (arrowCount arrows) ≡ none
+  unfolding reaching
+  hit-none s e = selected-nothing (hits rows arrows m s u f) (hits rows arrows m s u f) (λ k t. t) (arrowCount arrows) (λ i l. absurd (omega arith))
+
+  -- the two lists, and the places r and q at which the searches for a certificate end
+  module _ (ps ns : List ℕ) (ep : ps ≡ of positive) (en : ns ≡ of negative) (r : ℕ) (p : FirstAt (wins rows arrows ps ns) (length ps) r) where
+    first : FirstAt (wins rows arrows (of positive) (of negative)) (length (of positive)) r
+    first = rw (ep, en) at p
+
+    pub answer-granted : r < length ps → answer rows arrows m u f ≡ Granted (getD ps r 0)
+    unfolding answer settle
+    answer-granted h = rw (certificate-some positive negative r first (rw ep at h), ep)
+
+    module _ (h : length ps ≤ r) (q : ℕ) (n : FirstAt (wins rows arrows ns ps) (length ns) q) where
+      none-positive : lowest (certifies rows arrows m positive negative u f) (arrowCount arrows) ≡ none
+      none-positive = certificate-none positive negative r first (rw ep at h)
+
+      second : FirstAt (wins rows arrows (of negative) (of positive)) (length (of negative)) q
+      second = rw (ep, en) at n
+
+      pub answer-denied : q < length ns → answer rows arrows m u f ≡ Denied (getD ns q 0)
+      unfolding answer settle
+      answer-denied k = rw (none-positive, certificate-some negative positive q second (rw en at k), en)
+
+      module _ (k : length ns ≤ q) where
+        none-negative : lowest (certifies rows arrows m negative positive u f) (arrowCount arrows) ≡ none
+        none-negative = certificate-none negative positive q second (rw en at k)
+
+        pub no-positive : length ps ≡ 0 → answer rows arrows m u f ≡ Default
+        unfolding answer settle
+        no-positive e = rw (none-positive, none-negative, hit-none positive (rw ep at e))
+
+        pub no-negative : length ns ≡ 0 → answer rows arrows m u f ≡ Default
+        unfolding answer settle
+        no-negative e =
+            rw (none-positive, none-negative, hit-none negative (rw en at e)) (go (lowest (hits rows arrows m positive u f) (arrowCount arrows)))
+          where
+            go : (x : Option ℕ) → settle none none x none ≡ Default
+            go none = refl
+            go (some y) = refl
+
+        pub answer-unclear : 0 < length ps → 0 < length ns → answer rows arrows m u f ≡ Unclear (getD ps 0 0) (getD ns 0 0)
+        unfolding answer settle
+        answer-unclear a b = rw (none-positive, none-negative, hit-some positive (rw ep at a), hit-some negative (rw en at b), ep, en)

@@ -16,12 +16,18 @@ keep p [] = []
 keep p (x ∷ xs) = cond (p x) (x ∷ keep p xs) (keep p xs)
 
 -- the numbers of the arrows of mode m, rising
+unfoldable pub hasMode : List ℕ → ℕ → ℕ → Bool
+hasMode arrows m k = eqb (arrowAt arrows k .mode) m
+
 unfoldable pub modeArrows : List ℕ → ℕ → List ℕ
-modeArrows arrows m = select (λ k. eqb (arrowAt arrows k .mode) m) (arrowCount arrows)
+modeArrows arrows m = select (hasMode arrows m) (arrowCount arrows)
 
 -- an arrow has sign s and reaches the pair
 unfoldable pub reachesBy : List ℕ → ℕ → ℕ → ℕ → Arrow → Bool
 reachesBy rows s u f a = eqb (a .sign) s && reaches rows a u f
+
+unfoldable pub reachesAt : List ℕ → List ℕ → ℕ → ℕ → ℕ → ℕ → Bool
+reachesAt rows arrows s u f k = reachesBy rows s u f (arrowAt arrows k)
 
 -- the arrows of mode m and sign s that reach the pair, rising
 unfoldable pub reaching : List ℕ → List ℕ → ℕ → ℕ → ℕ → ℕ → List ℕ
@@ -39,6 +45,14 @@ pub record Within (n : ℕ) (arrows : List ℕ) : Type 0 where
 -- each of ns is the number of an arrow
 abbrev pub Numbers : List ℕ → List ℕ → Type 0
 Numbers arrows ns = (i : ℕ) → i < length ns → getD ns i 0 < arrowCount arrows
+
+-- the arrow at place i of the list ps overrides each of the arrows ns
+unfoldable pub wins : List ℕ → List ℕ → List ℕ → List ℕ → ℕ → Bool
+wins rows arrows ps ns i = overridesAll rows arrows (arrowAt arrows (getD ps i 0)) ns
+
+-- none of the first r does
+abbrev pub NoneBefore : List ℕ → List ℕ → List ℕ → List ℕ → ℕ → Type 0
+NoneBefore rows arrows ps ns r = (k : ℕ) → k < r → T (wins rows arrows ps ns k) → ⊥
 
 -- r is the lowest number below n at which the test holds, or none does below n
 pub record FirstAt (p : ℕ → Bool) (n r : ℕ) : Type 0 where

@@ -13,9 +13,10 @@ use Rattle.tables.specs.Refusals.{inItself, unclearPair}
 use Rattle.tables.specs.Faults.{raggedFault, countFault, byteFault, namesNoBox, acrossSides, wrongEnds, wrongMode, rowFault, tableFault, modeFault, roomFault}
 use Rattle.tables.specs.declared.Refusal.{Refusal}
 use Rattle.containment.specs.Contains.{contains, around, loopFault}
+use Rattle.containment.specs.Scratch.{scratchFault, earlyFault, pictureFault}
 use Rattle.answers.specs.Meaning.{reaches, nests, level, overrides, settle, hits, certifies, answer, byteOf, numberOf, isUnclear}
 use Rattle.answers.specs.Pairs.{userAt, fileAt, firstPair, answerAt, matrixBytes, matrixNumbers, unclearFault, anyUnclear}
-use Rattle.answers.specs.Calls.{askedFault, entryEarly, entryFault, judgeEarly, judgeFault, matrixEarly, matrixFault, replyOf}
+use Rattle.answers.specs.Calls.{askedFault, replyOf, entryEarly, entryFault, judgeFault}
 use Rattle.answers.specs.declared.Entry.the-variants.{Granted, Denied, Default, Unclear}
 use Rattle.answers.specs.declared.Reply.{Reply}
 use Rattle.answers.specs.declared.Reply.the-variants.{Answered}
@@ -47,7 +48,7 @@ compute c =
     record {
       picture = c .picture;
       judged = judgeFault boxes rows arrows scratch;
-      entries = map (λ q. (q .0, q .1, replyOf (entryFault boxes rows arrows 0 scratch (q .0) (q .1)) (answer rows arrows 0 (q .0) (q .1)))) (c .entries);
+      entries = map (λ q. (q .0, q .1, replyOf (entryFault boxes rows arrows scratch 0 (q .0) (q .1)) (answer rows arrows 0 (q .0) (q .1)))) (c .entries);
       bytes = matrixBytes boxes rows arrows 0;
       numbers = matrixNumbers boxes rows arrows 0;
     }
@@ -195,5 +196,5 @@ table =
     ∷ []
 
 pub table-right : map compute table ≡ table
-unfolding compute table picture-A picture-B picture-C picture-D picture-E picture-F picture-G picture-H picture-I picture-J orElse given first lowest every select build written sideOf onSide outer atom atoms pairCount raggedFault countFault byteFault namesNoBox acrossSides wrongEnds wrongMode rowFault tableFault modeFault roomFault contains around loopFault reaches nests level overrides settle hits certifies answer byteOf numberOf isUnclear userAt fileAt firstPair answerAt matrixBytes matrixNumbers unclearFault anyUnclear askedFault entryEarly entryFault judgeEarly judgeFault matrixEarly matrixFault
+unfolding compute table picture-A picture-B picture-C picture-D picture-E picture-F picture-G picture-H picture-I picture-J orElse given first lowest every select build written sideOf onSide outer atom atoms pairCount raggedFault countFault byteFault namesNoBox acrossSides wrongEnds wrongMode rowFault tableFault modeFault roomFault contains around loopFault scratchFault earlyFault pictureFault reaches nests level overrides settle hits certifies answer byteOf numberOf isUnclear userAt fileAt firstPair answerAt matrixBytes matrixNumbers unclearFault anyUnclear askedFault replyOf entryEarly entryFault judgeFault
 table-right = refl

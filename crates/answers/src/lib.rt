@@ -8,11 +8,13 @@ ghost use Rattle.tables.specs.Rows.{arrowAt, arrowCount};
 ghost use Rattle.tables.specs.Buffers.{written};
 ghost use Rattle.containment.specs.Contains.{around};
 ghost use Rattle.containment.specs.Scratch.{Says};
-ghost use Rattle.answers.specs.Meaning.{reaches, nests, overrides, answer};
-ghost use Rattle.answers.specs.Among.{keep, modeArrows, reachesBy, reaching, overridesAll, Within, Numbers, FirstAt};
+ghost use Rattle.answers.specs.Meaning.{positive, negative, reaches, nests, overrides, answer};
+ghost use Rattle.answers.specs.Among.{keep, modeArrows, reachesBy, reachesAt, reaching, overridesAll, Within, Numbers, FirstAt, wins, NoneBefore};
 use containment::does_contain;
 use tables::Arrow;
 use tables::Refusal;
+use tables::narrow;
+use tables::wide;
 
 // The answer to one question (document 01, "Meaning").
 pub enum Entry {
@@ -30,12 +32,6 @@ pub enum Entry {
 pub enum Reply {
     Answered(Entry),
     Refused(Refusal),
-}
-
-fn wide(x: u16) -> usize
-    ensures { λ r. ⌜ r ≡ x ⌝ }
-{
-    x as usize
 }
 
 // In what follows the scratch was filled from the rows for n boxes.
@@ -92,4 +88,153 @@ fn does_reach_by(
     ensures { λ r. ⌜ r ≡ reachesBy (now (rows .entry)) sign u f a ⌝ }
 {
     a.sign == sign && does_reach(n, rows, scratch, a, u, f)
+}
+
+// The arrow with a number of 16 bits.
+fn arrow_at(arrows: &[u16], k: u16) -> Arrow
+    requires { ⌜ k < arrowCount (now arrows) ⌝ }
+    ensures { λ r. ⌜ r ≡ arrowAt (now (arrows .entry)) k ⌝ }
+{
+    Arrow::at(arrows, wide(k))
+}
+
+// Writes the numbers of the mode's arrows, rising, and answers how many. Done once for all pairs of a mode.
+pub fn mode_arrows(arrows: &[u16], mode: u16, out: &mut [u16]) -> usize
+    requires { ⌜ (arrowCount (now arrows) ≤ 512) × (512 ≤ length (now out)) ⌝ }
+    ensures { λ r. ⌜ (r ≡ length (modeArrows (now (arrows .entry)) mode)) × (now (out .exit) ≡ written (modeArrows (now (arrows .entry)) mode) (now (out .entry))) ⌝ }
+{
+    let mut count = 0;
+    for k in 0..arrows.len() / 4 {
+        let a = Arrow::at(arrows, k);
+        if a.mode == mode {
+            out[count] = narrow(k);
+            count += 1;
+        }
+    }
+    count
+}
+
+// Writes those of the numbered arrows that have the sign and reach the pair, and answers how many.
+fn gather(
+    n: usize,
+    rows: &[u16],
+    scratch: &[u8],
+    arrows: &[u16],
+    own: &[u16],
+    sign: u16,
+    u: u16,
+    f: u16,
+    out: &mut [u16],
+) -> usize
+    requires { ⌜ Says n (now rows) (now scratch) × Within n (now arrows) × Numbers (now arrows) (now own) × (u < n) × (f < n) × (length (now own) ≤ length (now out)) ⌝ }
+    ensures { λ r. ⌜ (r ≡ length (keep (reachesAt (now (rows .entry)) (now (arrows .entry)) sign u f) (now (own .entry)))) × (now (out .exit) ≡ written (keep (reachesAt (now (rows .entry)) (now (arrows .entry)) sign u f) (now (own .entry))) (now (out .entry))) ⌝ }
+{
+    let mut count = 0;
+    for t in 0..own.len() {
+        let k = own[t];
+        if does_reach_by(n, rows, scratch, sign, arrow_at(arrows, k), u, f) {
+            out[count] = k;
+            count += 1;
+        }
+    }
+    count
+}
+
+// Whether p overrides each of the numbered arrows.
+fn overrides_all(
+    n: usize,
+    rows: &[u16],
+    scratch: &[u8],
+    arrows: &[u16],
+    p: Arrow,
+    opposite: &[u16],
+) -> bool
+    requires { ⌜ Says n (now rows) (now scratch) × Within n (now arrows) × Numbers (now arrows) (now opposite) × (p .tail < n) × (p .head < n) ⌝ }
+    ensures { λ r. ⌜ r ≡ overridesAll (now (rows .entry)) (now (arrows .entry)) p (now (opposite .entry)) ⌝ }
+{
+    for i in 0..opposite.len() {
+        if !does_override(n, rows, scratch, p, arrow_at(arrows, opposite[i])) {
+            return false;
+        }
+    }
+    true
+}
+
+// How many numbers at the front of two lists are no certificates.
+struct Struck {
+    first: usize,
+    second: usize,
+}
+
+// Strikes numbers from the front of two lists of opposite sign: of two arrows at most one overrides the other, so each comparison
+// shows one that is no certificate. Ends when a list is used up: a step for each number at most.
+fn strike(n: usize, rows: &[u16], scratch: &[u8], arrows: &[u16], ps: &[u16], ns: &[u16]) -> Struck
+    requires { ⌜ Says n (now rows) (now scratch) × Within n (now arrows) × Numbers (now arrows) (now ps) × Numbers (now arrows) (now ns) ⌝ }
+    ensures { λ r. ⌜ NoneBefore (now (rows .entry)) (now (arrows .entry)) (now (ps .entry)) (now (ns .entry)) (r .first) × NoneBefore (now (rows .entry)) (now (arrows .entry)) (now (ns .entry)) (now (ps .entry)) (r .second) ⌝ }
+{
+    let mut i = 0;
+    let mut j = 0;
+    while i < ps.len() && j < ns.len() {
+        if does_override(
+            n,
+            rows,
+            scratch,
+            arrow_at(arrows, ps[i]),
+            arrow_at(arrows, ns[j]),
+        ) {
+            j += 1;
+        } else {
+            i += 1;
+        }
+    }
+    Struck {
+        first: i,
+        second: j,
+    }
+}
+
+// The first place from `from` on whose arrow overrides all of the opposite ones, or one past the end.
+fn certificate(
+    n: usize,
+    rows: &[u16],
+    scratch: &[u8],
+    arrows: &[u16],
+    own: &[u16],
+    from: usize,
+    opposite: &[u16],
+) -> usize
+    requires { ⌜ Says n (now rows) (now scratch) × Within n (now arrows) × Numbers (now arrows) (now own) × Numbers (now arrows) (now opposite) × NoneBefore (now rows) (now arrows) (now own) (now opposite) from ⌝ }
+    ensures { λ r. ⌜ FirstAt (wins (now (rows .entry)) (now (arrows .entry)) (now (own .entry)) (now (opposite .entry))) (length (now (own .entry))) r ⌝ }
+{
+    let mut i = from;
+    while i < own.len() {
+        if overrides_all(n, rows, scratch, arrows, arrow_at(arrows, own[i]), opposite) {
+            return i;
+        }
+        i += 1;
+    }
+    i
+}
+
+// The answer, by the mode's positive and negative arrows that reach the pair.
+fn settle(n: usize, rows: &[u16], scratch: &[u8], arrows: &[u16], ps: &[u16], ns: &[u16]) -> Entry
+    requires { ⌜ Says n (now rows) (now scratch) × Within n (now arrows) × Numbers (now arrows) (now ps) × Numbers (now arrows) (now ns) ⌝ }
+    ensures { λ r. ⌜ ((m u f : ℕ) → now (ps .entry) ≡ reaching (now (rows .entry)) (now (arrows .entry)) m positive u f → now (ns .entry) ≡ reaching (now (rows .entry)) (now (arrows .entry)) m negative u f → r ≡ answer (now (rows .entry)) (now (arrows .entry)) m u f) ⌝ }
+{
+    let struck = strike(n, rows, scratch, arrows, ps, ns);
+    let p = certificate(n, rows, scratch, arrows, ps, struck.first, ns);
+    if p < ps.len() {
+        return Entry::Granted(ps[p]);
+    }
+    let q = certificate(n, rows, scratch, arrows, ns, struck.second, ps);
+    if q < ns.len() {
+        return Entry::Denied(ns[q]);
+    }
+    if ps.len() == 0 {
+        return Entry::Default;
+    }
+    if ns.len() == 0 {
+        return Entry::Default;
+    }
+    Entry::Unclear(ps[0], ns[0])
 }

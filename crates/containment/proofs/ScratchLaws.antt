@@ -1,17 +1,25 @@
 -- What the filled scratch says. Assumes nothing.
 use mathlib.Core.Path.{_≡_, sym, subst, _∙_}
 use mathlib.Core.List.{List}
+use mathlib.Core.Option.{none}
 use Prim.Native.Nat.{ℕ, zero, suc, _+_, _*_, _/_, _%_, _<_, _≤_}
 use native.Mathlib.Nat.{not-suc-le-zero, mod-lt, div-lt-iff-lt-mul}
 use native.Mathlib.Decide.{decLt}
 use native.Mathlib.Omega.{arith}
 use lib.ListN.{length, getD}
 use lib.Seq.{ext-getD}
-use Rattle.tables.specs.Search.{bit}
+use Rattle.tables.specs.Search.{bit, orElse}
+use Rattle.tables.specs.Faults.{tableFault}
+use Rattle.tables.specs.Refusals.{verdictOf}
+use Rattle.tables.specs.declared.Refusal.{Refusal}
+use Rattle.tables.specs.declared.Verdict.{Verdict}
+use Rattle.tables.specs.declared.Verdict.the-variants.{Passed, Refused}
 use Rattle.tables.specs.Buffers.{build}
-use Rattle.containment.specs.Contains.{contains}
-use Rattle.containment.specs.Scratch.{filled, Says}
+use Rattle.containment.specs.Contains.{contains, loopFault}
+use Rattle.containment.specs.Scratch.{filled, Says, scratchFault, scratchAfter, earlyFault, pictureFault}
 use Rattle.containment.specs.Steps.{Cells, SameFrom}
+use Rattle.tables.proofs.Verdicts.{passed, refused}
+use Rattle.tables.proofs.TableLaws.{room-passed}
 use Rattle.tables.proofs.BufferLaws.{written-length, written-at, written-rest, build-length, build-at}
 use Rattle.containment.proofs.Index.{in-table, at-div, at-mod, place}
 
@@ -52,3 +60,33 @@ module _ (n : ℕ) (rows s : List ℕ) where
           subst (λ (k : ℕ). getD t k 0 ≡ cell p) (place n p) (h (p / n) (p % n) (div-lt-iff-lt-mul pos .1 l) (mod-lt p pos))
           ∙ sym (filled-place p l)
       at p (no l) = g .rest p (omega arith) ∙ sym (filled-rest p (omega arith))
+
+-- ---- the stages of `prepare`: a refusal by checks 1 to 7, one by 9, and neither
+
+module _ (boxes rows arrows s : List ℕ) where
+  abbrev pub Ends : Verdict → List ℕ → Type 0
+  Ends v t = (v ≡ verdictOf (pictureFault boxes rows arrows s)) × (t ≡ scratchAfter (earlyFault boxes rows arrows s) boxes rows s)
+
+  pub ends-tables : (r : Refusal) → verdictOf (tableFault boxes rows arrows) ≡ Refused r → Ends (Refused r) s
+  unfolding orElse pictureFault earlyFault scratchAfter
+  ends-tables r e = let f = refused (tableFault boxes rows arrows) r e in (rw (f, orElse), rw (f, orElse))
+
+  pub ends-room : (r : Refusal) → verdictOf (tableFault boxes rows arrows) ≡ Passed → verdictOf (scratchFault (length boxes) s) ≡ Refused r → Ends (Refused r) s
+  unfolding orElse pictureFault earlyFault scratchAfter
+  ends-room r p e =
+      let f = passed (tableFault boxes rows arrows) p in
+      let g = refused (scratchFault (length boxes) s) r e in
+      (rw (f, orElse, g, orElse), rw (f, orElse, g, orElse))
+
+  pub ends-filled : verdictOf (tableFault boxes rows arrows) ≡ Passed → verdictOf (scratchFault (length boxes) s) ≡ Passed
+      → Ends (verdictOf (loopFault boxes rows)) (filled (length boxes) rows s)
+  unfolding orElse pictureFault earlyFault scratchAfter
+  ends-filled p q =
+      let f = passed (tableFault boxes rows arrows) p in
+      let g = passed (scratchFault (length boxes) s) q in
+      (rw (f, orElse, g, orElse), rw (f, orElse, g, orElse))
+
+-- where check 9 passes, there is room
+pub scratch-room : (n : ℕ) (s : List ℕ) → scratchFault n s ≡ none → n * n ≤ length s
+unfolding scratchFault
+scratch-room n s e = room-passed 0 (length s) (n * n) e

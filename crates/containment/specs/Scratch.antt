@@ -1,11 +1,14 @@
--- What the scratch holds (document 01, "What may be asked"). Assumes nothing.
+-- What the scratch holds (document 01, "What may be asked"), and when it is filled ("Who can cause a refusal"). Assumes nothing.
 use mathlib.Core.Path.{_≡_}
 use mathlib.Core.List.{List}
+use mathlib.Core.Option.{Option, none, some}
 use Prim.Native.Nat.{ℕ, _+_, _*_, _/_, _%_, _<_, _≤_}
 use lib.ListN.{length, getD}
-use Rattle.tables.specs.Search.{bit}
+use Rattle.tables.specs.Search.{bit, orElse}
 use Rattle.tables.specs.Buffers.{build, written}
-use Rattle.containment.specs.Contains.{contains}
+use Rattle.tables.specs.Faults.{tableFault, roomFault}
+use Rattle.tables.specs.declared.Refusal.{Refusal}
+use Rattle.containment.specs.Contains.{contains, loopFault}
 
 -- n × n bytes for n boxes: byte a × n + b is 1 if a contains b, else 0; places beyond them are as they were
 unfoldable pub filled : ℕ → List ℕ → List ℕ → List ℕ
@@ -15,3 +18,20 @@ filled n rows s = written (build (λ p. bit (contains rows (p / n) (p % n))) (n 
 pub record Says (n : ℕ) (rows s : List ℕ) : Type 0 where
   pub room : n * n ≤ length s
   pub cell : (a b : ℕ) → a < n → b < n → getD s (a * n + b) 0 ≡ bit (contains rows a b)
+
+-- 9 for the scratch of n boxes
+unfoldable pub scratchFault : ℕ → List ℕ → Option Refusal
+scratchFault n s = roomFault 0 (length s) (n * n)
+
+-- the scratch is filled whenever checks 1 to 9 pass; else it is as it was
+unfoldable pub scratchAfter : Option Refusal → List ℕ → List ℕ → List ℕ → List ℕ
+scratchAfter none boxes rows s = filled (length boxes) rows s
+scratchAfter (some r) boxes rows s = s
+
+-- checks 1 to 7 of a picture, 9 for the scratch
+unfoldable pub earlyFault : List ℕ → List ℕ → List ℕ → List ℕ → Option Refusal
+earlyFault boxes rows arrows s = orElse (tableFault boxes rows arrows) (scratchFault (length boxes) s)
+
+-- and 10
+unfoldable pub pictureFault : List ℕ → List ℕ → List ℕ → List ℕ → Option Refusal
+pictureFault boxes rows arrows s = orElse (earlyFault boxes rows arrows s) (loopFault boxes rows)

@@ -10,7 +10,7 @@ ghost use Rattle.tables.specs.Refusals.{verdictOf};
 ghost use Rattle.tables.specs.Rows.{rowAt, rowCount};
 ghost use Rattle.tables.specs.Faults.{SoundRows};
 ghost use Rattle.containment.specs.Contains.{contains, loopFault};
-ghost use Rattle.containment.specs.Scratch.{filled, Says};
+ghost use Rattle.containment.specs.Scratch.{filled, Says, scratchFault, scratchAfter, earlyFault, pictureFault};
 ghost use Rattle.containment.specs.Steps.{direct, through, rounds, Cells, SameFrom, Joined};
 use tables::Containment;
 use tables::Verdict;
@@ -120,4 +120,28 @@ pub fn contain(boxes: &[u8], rows: &[u16], scratch: &mut [u8]) -> Verdict
 {
     fill(boxes, rows, scratch);
     check_loops(boxes, rows, scratch)
+}
+
+// Check 9 for the scratch of so many boxes as passed check 2.
+pub fn check_scratch(boxes: &[u8], scratch: &[u8]) -> Verdict
+    requires { ⌜ length (now boxes) ≤ 256 ⌝ }
+    ensures { λ r. ⌜ r ≡ verdictOf (scratchFault (length (now (boxes .entry))) (now (scratch .entry))) ⌝ }
+{
+    let n = boxes.len();
+    tables::check_room(0, scratch.len(), n * n)
+}
+
+// Checks 1 to 7, 9 for the scratch, and 10, for a call that asks nothing else before 10.
+pub fn prepare(boxes: &[u8], rows: &[u16], arrows: &[u16], scratch: &mut [u8]) -> Verdict
+    ensures { λ r. ⌜ (r ≡ verdictOf (pictureFault (now (boxes .entry)) (now (rows .entry)) (now (arrows .entry)) (now (scratch .entry)))) × (now (scratch .exit) ≡ scratchAfter (earlyFault (now (boxes .entry)) (now (rows .entry)) (now (arrows .entry)) (now (scratch .entry))) (now (boxes .entry)) (now (rows .entry)) (now (scratch .entry))) ⌝ }
+{
+    let tables = tables::check(boxes, rows, arrows);
+    if let Verdict::Refused(r) = tables {
+        return Verdict::Refused(r);
+    }
+    let room = check_scratch(boxes, scratch);
+    if let Verdict::Refused(r) = room {
+        return Verdict::Refused(r);
+    }
+    contain(boxes, rows, scratch)
 }

@@ -5,6 +5,6 @@ pub mod SearchLaws
 pub mod Bits
 pub mod BufferLaws
 pub mod TableLaws
+pub mod RowLaws
 pub mod SelectLaws
 pub mod AtomPlaces
-pub mod RowLaws

@@ -8,8 +8,8 @@ use lib.Dec.{T, eqb, ltb, leb, not-T, eqb→eq, nltb→le, nleb→lt}
 use lib.ListN.{length, getD}
 use Rattle.tables.specs.Search.{orElse, given}
 use Rattle.tables.specs.Rows.{user, file, sideOf, onSide, rowCount, rowAt, arrowCount, arrowAt}
-use Rattle.tables.specs.Refusals.{ragged, tooMany, badByte, badRow}
-use Rattle.tables.specs.Faults.{raggedFault, countFault, byteFault, namesNoBox, acrossSides, wrongEnds, wrongMode, rowFault, tableFault, SoundRows, SoundArrows}
+use Rattle.tables.specs.Refusals.{ragged, tooMany, badByte, badRow, tooShort}
+use Rattle.tables.specs.Faults.{raggedFault, countFault, byteFault, namesNoBox, acrossSides, wrongEnds, wrongMode, rowFault, tableFault, roomFault, SoundRows, SoundArrows}
 use Rattle.tables.specs.declared.Refusal.{Refusal}
 use Rattle.tables.proofs.Tests.{and-T, T-or₁, T-or₂}
 use Rattle.tables.proofs.SearchLaws.{first-none, given-none, some-none}
@@ -27,6 +27,11 @@ not-not false h = h tt
 -- a number that is not above the most
 at-most : (most n : ℕ) (r : Refusal) → given (ltb most n) r ≡ none → n ≤ most
 at-most most n r e = nltb→le most n (not-T (ltb most n) (given-none (ltb most n) r e))
+
+-- where check 9 passes, the buffer has room
+pub room-passed : (buffer have need : ℕ) → roomFault buffer have need ≡ none → need ≤ have
+unfolding roomFault
+room-passed buffer have need e = nltb→le have need (not-T (ltb have need) (given-none (ltb have need) (tooShort buffer need) e))
 
 whole-rows : (n width : ℕ) (r : Refusal) → given (not (eqb (n % width) 0)) r ≡ none → n % width ≡ 0
 whole-rows n width r e = eqb→eq (n % width) 0 (not-not (eqb (n % width) 0) (given-none (not (eqb (n % width) 0)) r e))

@@ -6,7 +6,6 @@ use Rattle.answers.proofs.is_around.Statement.{statement}
 use Rattle.answers.proofs.is_around.Tie as tie
 use Rattle.answers.proofs.is_around.Reads as reads
 use Rattle.answers.proofs.is_around.Lts as lts
-use Rattle.answers.proofs.wide.Reads as wide-reads
 use Rattle.containment.proofs.does_contain.Reads as does-contain-reads
 
 -- src/lib.rt:48:46

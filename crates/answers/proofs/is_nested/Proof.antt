@@ -5,7 +5,6 @@ use Rattle.answers.proofs.is_nested.Statement.{statement}
 use Rattle.answers.proofs.is_nested.Tie as tie
 use Rattle.answers.proofs.is_nested.Reads as reads
 use Rattle.answers.proofs.is_nested.Lts as lts
-use Rattle.answers.proofs.wide.Reads as wide-reads
 use Rattle.containment.proofs.does_contain.Reads as does-contain-reads
 
 -- src/lib.rt:56:36

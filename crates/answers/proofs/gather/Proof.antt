@@ -1,0 +1,124 @@
+use Rattle.answers.proofs.AmongLaws.{Kept, kept-none, kept-most, kept-length, kept-yes, kept-no, kept-all}
+use Rattle.answers.specs.Among.{reachesAt}
+use mathlib.Core.Logic.{⊎-elim}
+use mathlib.Core.Path.{_≡_, sym, _∙_}
+use Rattle.tables.specs.Rows.{arrowAt}
+use lib.ListN.{length, getD}
+use Prim.Native.Nat.{_-_, _≤_, _<_}
+use native.Mathlib.Omega.{arith}
+use borrow.Author.Needs.{needs}
+use Rattle.answers.proofs.gather.Statement.{statement}
+use Rattle.answers.proofs.gather.Tie as tie
+use Rattle.answers.proofs.gather.Reads as reads
+use Rattle.answers.proofs.gather.Lts as lts
+use Rattle.answers.proofs.arrow_at.Reads as arrow-at-reads
+use Rattle.answers.proofs.does_reach_by.Reads as does-reach-by-reads
+
+abbrev Inv-loop : tie.InvT-loop
+Inv-loop n rows scratch arrows own sign u f out₀ count₀ t₀ t-end out count t = (t ≤ length own) × Kept (reachesAt rows arrows sign u f) own out₀ t count out
+
+abbrev μ-loop : tie.MeasureT-loop
+μ-loop n rows scratch arrows own sign u f out₀ count₀ t₀ t-end out count t = length own - t
+
+-- src/lib.rt:133:5
+loop-holds : tie.Need-loop-holds Inv-loop μ-loop
+loop-holds c = let a = c .before .before .before .before .before .args in
+    (search needs, kept-none (reachesAt (a .rows .now) (a .arrows .now) (a .sign) (a .u) (a .f)) (a .own .now) (a .out .now))
+
+-- src/lib.rt:134:17
+mul-k : tie.Need-mul-k Inv-loop μ-loop
+mul-k c = search needs
+
+-- src/lib.rt:134:17
+shared-slice-read-k : tie.Need-shared-slice-read-k Inv-loop μ-loop
+shared-slice-read-k c = search needs
+
+-- src/lib.rt:135:50
+arrow-at-requires : tie.Need-arrow-at-requires Inv-loop μ-loop
+arrow-at-requires c κs = c .before .before .before .before .before .before .before .before .pre .2 (c .before .before .loop .t) (c .before .loop-test .taken)
+
+-- src/lib.rt:135:12
+does-reach-by-requires : tie.Need-does-reach-by-requires Inv-loop μ-loop
+does-reach-by-requires c κs = let start = c .before .before .before .before .before .before .before .before .before in
+    let k = getD (start .args .own .now) (c .before .before .before .loop .t) 0 in
+    let h = start .pre .2 (c .before .before .before .loop .t) (c .before .before .loop-test .taken) in
+    rw (c .arrow-at .ensures) (start .pre .0, start .pre .1 .tail-in k h, start .pre .1 .head-in k h, start .pre .3, start .pre .4)
+
+-- there is a place for the number
+room : (c : tie.Then1 Inv-loop μ-loop) → let l = c .before .before .before .before .before .loop in (l .count < length (l .out)) × (l .count ≤ l .t)
+room c =
+    let a = c .before .before .before .before .before .before .before .before .before .before .before .args in
+    let l = c .before .before .before .before .before .loop in
+    let p = reachesAt (a .rows .now) (a .arrows .now) (a .sign) (a .u) (a .f) in
+    let most = kept-most p (a .own .now) (a .out .now) (l .t) (l .count) (l .out) (l .inv .1) in
+    let len = kept-length p (a .own .now) (a .out .now) (l .t) (l .count) (l .out) (omega arith) (l .inv .1) in
+    (omega arith, omega arith)
+
+-- src/lib.rt:136:13
+mul-out : tie.Need-mul-out Inv-loop μ-loop
+mul-out c = omega (arith, room c)
+
+-- src/lib.rt:136:13
+slice-write-out : tie.Need-slice-write-out Inv-loop μ-loop
+slice-write-out c = room c .0
+
+-- src/lib.rt:137:13
+add-count : tie.Need-add-count Inv-loop μ-loop
+add-count c = omega (arith, room c)
+
+-- src/lib.rt:133:9
+add-t : tie.Need-add-t Inv-loop μ-loop
+add-t c = search needs
+
+-- src/lib.rt:133:5
+loop-less : tie.Need-loop-less Inv-loop μ-loop
+loop-less c = search needs
+
+tested : (c : tie.After-does-reach-by Inv-loop μ-loop) → let a = c .before .before .before .before .before .before .before .before .before .before .args in
+    reachesAt (a .rows .now) (a .arrows .now) (a .sign) (a .u) (a .f) (getD (a .own .now) (c .before .before .before .before .loop .t) 0) ≡ c .does-reach-by .result
+unfolding reachesAt
+tested c = rw (← c .before .arrow-at .ensures) (sym (c .does-reach-by .ensures))
+
+-- src/lib.rt:133:5
+loop-again : tie.Need-loop-again Inv-loop μ-loop
+loop-again c = let a = c .before .before .before .before .before .before .before .before .before .before .before .args in
+    let l = c .before .before .before .before .before .loop in
+    let p = reachesAt (a .rows .now) (a .arrows .now) (a .sign) (a .u) (a .f) in (
+      search needs,
+      ⊎-elim
+          (λ w. rw (w .1, w .2) (kept-yes p (a .own .now) (a .out .now) (l .t) (l .count) (l .out) (omega arith) (omega arith) (tested (c .before) ∙ w .0 .taken) (l .inv .1)))
+          (λ w. rw (w .1, w .2) (kept-no p (a .own .now) (a .out .now) (l .t) (l .count) (l .out) (omega arith) (tested (c .before) ∙ w .0 .left) (l .inv .1)))
+          (c .if1 .came),
+    )
+
+-- src/lib.rt:118:1
+same-length : tie.Need-same-length Inv-loop μ-loop
+same-length c = let a = c .before .before .before .before .before .before .before .args in
+    let l = c .before .loop in
+    kept-length (reachesAt (a .rows .now) (a .arrows .now) (a .sign) (a .u) (a .f)) (a .own .now) (a .out .now) (l .t) (l .count) (l .out) (omega arith) (l .inv .1)
+
+-- src/lib.rt:118:1
+returns : tie.Need-returns Inv-loop μ-loop
+returns c = let a = c .before .before .before .before .before .before .before .args in
+    let l = c .before .loop in
+    kept-all (reachesAt (a .rows .now) (a .arrows .now) (a .sign) (a .u) (a .f)) (a .own .now) (a .out .now) (l .t) (l .count) (l .out) (omega arith) (l .inv .1)
+
+pub gather-spec : {M : Type 1} → statement M
+gather-spec =
+    tie.close
+    (tie.spec
+    Inv-loop
+    μ-loop
+    loop-holds
+    mul-k
+    shared-slice-read-k
+    arrow-at-requires
+    does-reach-by-requires
+    mul-out
+    slice-write-out
+    add-count
+    add-t
+    loop-less
+    loop-again
+    same-length
+    returns)
