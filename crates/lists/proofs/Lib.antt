@@ -1,5 +1,7 @@
 -- Laws for the proofs of this crate.
 pub mod CountLaws
 pub mod MatchLaws
+pub mod PlaceLaws
 pub mod GreedyLaws
 pub mod OrderLaws
+pub mod StepLaws

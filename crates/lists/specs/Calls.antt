@@ -14,7 +14,8 @@ use Rattle.tables.specs.declared.Refusal.{Refusal}
 use Rattle.containment.specs.Contains.{loopFault}
 use Rattle.answers.specs.Among.{modeArrows}
 use Rattle.answers.specs.Pairs.{unclearFault}
-use Rattle.answers.specs.Calls.{unlessRefused, scratchAfter, scratchFault}
+use Rattle.containment.specs.Scratch.{scratchFault, scratchAfter}
+use Rattle.answers.specs.Calls.{unlessRefused}
 use Rattle.lists.specs.Order.{qualifies}
 use Rattle.lists.specs.Greedy.{orderFault}
 use Rattle.lists.specs.declared.Listed.{Listed}
