@@ -4,15 +4,22 @@ ghost use mathlib.Core.List.{List};
 ghost use Prim.Native.Nat.{ℕ, _<_, _≤_};
 ghost use lib.Dec.{T};
 ghost use lib.ListN.{length, getD};
-ghost use Rattle.tables.specs.Rows.{arrowAt, arrowCount};
+ghost use Rattle.tables.specs.Rows.{user, file, arrowAt, arrowCount};
+ghost use Rattle.tables.specs.Atoms.{atoms, pairCount};
+ghost use Rattle.tables.specs.Faults.{SoundRows, SoundArrows};
+ghost use Rattle.tables.specs.Refusals.{verdictOf};
 ghost use Rattle.tables.specs.Buffers.{written, zeros};
 ghost use Rattle.containment.specs.Contains.{around};
 ghost use Rattle.containment.specs.Scratch.{Says};
 ghost use Rattle.answers.specs.Meaning.{positive, negative, reaches, nests, overrides, answer, byteOf, numberOf, isUnclear, grantingOf};
+ghost use Rattle.answers.specs.Pairs.{answerAt, matrixBytes, matrixNumbers, unclearFault, anyUnclear};
 ghost use Rattle.answers.specs.Among.{modeArrows, reachesBy, reaching, overridesAll, Within, Numbers, FirstAt, wins, NoneBefore};
 use containment::does_contain;
 use tables::Arrow;
+use tables::BoxRow;
 use tables::Refusal;
+use tables::Verdict;
+use tables::atoms_of;
 use tables::narrow;
 use tables::wide;
 
@@ -344,4 +351,47 @@ pub fn answer_pair(
         &mut ps,
         &mut ns,
     )
+}
+
+// ---- All pairs of an atomic user and an atomic file, by place: rows are the users, columns the files.
+
+// Room for box numbers.
+fn no_boxes() -> [u16; 256]
+    ensures { λ r. ⌜ r ≡ zeros 256 ⌝ }
+{
+    [0u16; 256]
+}
+
+// How many pairs there are.
+pub fn pair_count(boxes: &[u8], rows: &[u16]) -> usize
+    requires { ⌜ SoundRows (now boxes) (now rows) ⌝ }
+    ensures { λ r. ⌜ r ≡ pairCount (now (boxes .entry)) (now (rows .entry)) ⌝ }
+{
+    let mut atoms = no_boxes();
+    let users = atoms_of(boxes, rows, BoxRow::USER, &mut atoms);
+    let files = atoms_of(boxes, rows, BoxRow::FILE, &mut atoms);
+    users * files
+}
+
+// The answer for the pair at place p.
+fn answer_at(
+    boxes: &[u8],
+    rows: &[u16],
+    scratch: &[u8],
+    arrows: &[u16],
+    mode: u16,
+    own: &[u16],
+    users: &[u16],
+    files: &[u16],
+    p: usize,
+    ps: &mut [u16],
+    ns: &mut [u16],
+) -> Entry
+    requires { ⌜ Says (length (now boxes)) (now rows) (now scratch) × Within (length (now boxes)) (now arrows) × (now own ≡ modeArrows (now arrows) mode) × (now users ≡ atoms (now boxes) (now rows) user) × (now files ≡ atoms (now boxes) (now rows) file) × (p < pairCount (now boxes) (now rows)) × (length (now own) ≤ length (now ps)) × (length (now own) ≤ length (now ns)) ⌝ }
+    ensures { λ r. ⌜ r ≡ answerAt (now (boxes .entry)) (now (rows .entry)) (now (arrows .entry)) mode p ⌝ }
+{
+    let columns = files.len();
+    let u = users[p / columns];
+    let f = files[p % columns];
+    answer_among(boxes.len(), rows, scratch, arrows, mode, own, u, f, ps, ns)
 }
