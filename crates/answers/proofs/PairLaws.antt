@@ -4,8 +4,8 @@ use mathlib.Core.Logic.{_⊎_, ⊎-elim}
 use mathlib.Core.Bool.{Bool}
 use mathlib.Core.List.{List}
 use mathlib.Core.Option.{Option, none, some}
-use Prim.Native.Nat.{ℕ, _+_, _*_, _/_, _%_, _<_}
-use native.Mathlib.Nat.{mod-lt, div-lt-iff-lt-mul, eq-zero-or-pos, mul-zero}
+use Prim.Native.Nat.{ℕ, _+_, _*_, _/_, _%_, _<_, _≤_}
+use native.Mathlib.Nat.{mod-lt, div-lt-iff-lt-mul, eq-zero-or-pos, mul-zero, mul-le-mul, le-trans}
 use native.Mathlib.Omega.{arith}
 use lib.Dec.{T}
 use lib.ListN.{length, getD}
@@ -14,7 +14,7 @@ use Rattle.tables.specs.Rows.{user, file}
 use Rattle.tables.specs.Atoms.{atom, atoms, pairCount}
 use Rattle.tables.specs.declared.Refusal.{Refusal}
 use Rattle.tables.proofs.SearchLaws.{first-none, first-some, given-some, given-none}
-use Rattle.tables.proofs.AtomPlaces.{atoms-found, atoms-has, atoms-before, atoms-same}
+use Rattle.tables.proofs.AtomPlaces.{atoms-found, atoms-has, atoms-before, atoms-same, atoms-most}
 use Rattle.containment.proofs.Index.{in-table, at-div, at-mod, place, row-step}
 use Rattle.answers.specs.Pairs.{userAt, fileAt, firstPair}
 
@@ -58,6 +58,24 @@ module _ (boxes rows : List ℕ) where
         rw (at-div n (i .0) (j .0) (j .1)) (i .2),
         rw (at-mod n (i .0) (j .0) (j .1)) (j .2),
       )
+
+  -- at most 256 boxes give so many pairs
+  pub few-pairs : length boxes ≤ 256 → length (atoms boxes rows user) * length (atoms boxes rows file) ≤ 65536
+  few-pairs h = mul-le-mul (le-trans (atoms-most boxes rows user) h) (le-trans (atoms-most boxes rows file) h)
+
+  -- a pair read out of the two lists by its place
+  module _ (us fs : List ℕ) (eu : us ≡ atoms boxes rows user) (ef : fs ≡ atoms boxes rows file) (p : ℕ) where
+    pub place-there : p < pairCount boxes rows → (p / length fs < length us) × (p % length fs < length fs)
+    unfolding pairCount
+    place-there h = rw (eu, ef) (place-in _ _ p h)
+
+    pub user-read : getD us (p / length fs) 0 ≡ userAt boxes rows p
+    unfolding userAt
+    user-read = rw (eu, ef)
+
+    pub file-read : getD fs (p % length fs) 0 ≡ fileAt boxes rows p
+    unfolding fileAt
+    file-read = rw ef
 
   -- places follow the order by user, then file
   pub pair-before : (p q : ℕ) → p < pairCount boxes rows → q < pairCount boxes rows

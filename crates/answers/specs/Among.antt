@@ -1,7 +1,7 @@
 -- How the code goes about an answer: the mode's arrows, those of them that reach the pair, and tests over such lists of arrow
 -- numbers. Assumes nothing.
-use mathlib.Core.Bool.{Bool, _&&_, cond}
-use mathlib.Core.List.{List, [], _∷_}
+use mathlib.Core.Bool.{Bool, _&&_}
+use mathlib.Core.List.{List}
 use Prim.Native.Nat.{ℕ, _<_}
 use lib.Dec.{T, eqb}
 use lib.ListN.{length, getD}
@@ -9,11 +9,6 @@ use Rattle.tables.specs.Search.{every, select}
 use Rattle.tables.specs.Rows.{arrowCount, arrowAt}
 use Rattle.tables.specs.declared.Arrow.{Arrow}
 use Rattle.answers.specs.Meaning.{reaches, overrides, hits}
-
--- the elements at which the test holds
-unfoldable pub keep : (ℕ → Bool) → List ℕ → List ℕ
-keep p [] = []
-keep p (x ∷ xs) = cond (p x) (x ∷ keep p xs) (keep p xs)
 
 -- the numbers of the arrows of mode m, rising
 unfoldable pub hasMode : List ℕ → ℕ → ℕ → Bool
@@ -25,9 +20,6 @@ modeArrows arrows m = select (hasMode arrows m) (arrowCount arrows)
 -- an arrow has sign s and reaches the pair
 unfoldable pub reachesBy : List ℕ → ℕ → ℕ → ℕ → Arrow → Bool
 reachesBy rows s u f a = eqb (a .sign) s && reaches rows a u f
-
-unfoldable pub reachesAt : List ℕ → List ℕ → ℕ → ℕ → ℕ → ℕ → Bool
-reachesAt rows arrows s u f k = reachesBy rows s u f (arrowAt arrows k)
 
 -- the arrows of mode m and sign s that reach the pair, rising
 unfoldable pub reaching : List ℕ → List ℕ → ℕ → ℕ → ℕ → ℕ → List ℕ

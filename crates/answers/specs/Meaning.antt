@@ -78,6 +78,13 @@ numberOf (Denied k) = k
 numberOf Default = 65535
 numberOf (Unclear p n) = 65535
 
+-- the granting arrow, or 65,535
+unfoldable pub grantingOf : Entry → ℕ
+grantingOf (Granted k) = k
+grantingOf (Denied k) = 65535
+grantingOf Default = 65535
+grantingOf (Unclear p n) = 65535
+
 unfoldable pub isGranted : Entry → Bool
 isGranted (Granted k) = true
 isGranted (Denied k) = false

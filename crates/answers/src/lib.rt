@@ -4,15 +4,22 @@ ghost use mathlib.Core.List.{List};
 ghost use Prim.Native.Nat.{ℕ, _<_, _≤_};
 ghost use lib.Dec.{T};
 ghost use lib.ListN.{length, getD};
-ghost use Rattle.tables.specs.Rows.{arrowAt, arrowCount};
-ghost use Rattle.tables.specs.Buffers.{written};
+ghost use Rattle.tables.specs.Rows.{user, file, arrowAt, arrowCount};
+ghost use Rattle.tables.specs.Atoms.{atoms, pairCount};
+ghost use Rattle.tables.specs.Faults.{SoundRows, SoundArrows};
+ghost use Rattle.tables.specs.Refusals.{verdictOf};
+ghost use Rattle.tables.specs.Buffers.{written, zeros};
 ghost use Rattle.containment.specs.Contains.{around};
 ghost use Rattle.containment.specs.Scratch.{Says};
-ghost use Rattle.answers.specs.Meaning.{positive, negative, reaches, nests, overrides, answer};
-ghost use Rattle.answers.specs.Among.{keep, modeArrows, reachesBy, reachesAt, reaching, overridesAll, Within, Numbers, FirstAt, wins, NoneBefore};
+ghost use Rattle.answers.specs.Meaning.{positive, negative, reaches, nests, overrides, answer, byteOf, numberOf, isUnclear, grantingOf};
+ghost use Rattle.answers.specs.Pairs.{answerAt, matrixBytes, matrixNumbers, unclearFault, anyUnclear};
+ghost use Rattle.answers.specs.Among.{modeArrows, reachesBy, reaching, overridesAll, Within, Numbers, FirstAt, wins, NoneBefore};
 use containment::does_contain;
 use tables::Arrow;
+use tables::BoxRow;
 use tables::Refusal;
+use tables::Verdict;
+use tables::atoms_of;
 use tables::narrow;
 use tables::wide;
 
@@ -32,6 +39,52 @@ pub enum Entry {
 pub enum Reply {
     Answered(Entry),
     Refused(Refusal),
+}
+
+// The arrow that grants, where only that is wanted, or 65,535, the number of no arrow.
+pub fn granting(e: Entry) -> u16
+    ensures { λ r. ⌜ r ≡ grantingOf e ⌝ }
+{
+    let Entry::Granted(k) = e else {
+        return 65535;
+    };
+    k
+}
+
+// An answer's byte in the matrix.
+pub fn byte_of(e: Entry) -> u8
+    ensures { λ r. ⌜ r ≡ byteOf e ⌝ }
+{
+    match e {
+        Entry::Granted(_) => 1,
+        Entry::Denied(_) => 0,
+        Entry::Default => 0,
+        Entry::Unclear(_, _) => 2,
+    }
+}
+
+// An answer's number in the matrix.
+pub fn number_of(e: Entry) -> u16
+    ensures { λ r. ⌜ r ≡ numberOf e ⌝ }
+{
+    match e {
+        Entry::Granted(k) => k,
+        Entry::Denied(k) => k,
+        Entry::Default => 65535,
+        Entry::Unclear(_, _) => 65535,
+    }
+}
+
+// Whether an answer is unclear.
+pub fn is_unclear(e: Entry) -> bool
+    ensures { λ r. ⌜ r ≡ isUnclear e ⌝ }
+{
+    match e {
+        Entry::Granted(_) => false,
+        Entry::Denied(_) => false,
+        Entry::Default => false,
+        Entry::Unclear(_, _) => true,
+    }
 }
 
 // In what follows the scratch was filled from the rows for n boxes.
@@ -114,20 +167,21 @@ pub fn mode_arrows(arrows: &[u16], mode: u16, out: &mut [u16]) -> usize
     count
 }
 
-// Writes those of the numbered arrows that have the sign and reach the pair, and answers how many.
+// Writes those of the mode's arrows that have the sign and reach the pair, and answers how many.
 fn gather(
     n: usize,
     rows: &[u16],
     scratch: &[u8],
     arrows: &[u16],
+    mode: u16,
     own: &[u16],
     sign: u16,
     u: u16,
     f: u16,
     out: &mut [u16],
 ) -> usize
-    requires { ⌜ Says n (now rows) (now scratch) × Within n (now arrows) × Numbers (now arrows) (now own) × (u < n) × (f < n) × (length (now own) ≤ length (now out)) ⌝ }
-    ensures { λ r. ⌜ (r ≡ length (keep (reachesAt (now (rows .entry)) (now (arrows .entry)) sign u f) (now (own .entry)))) × (now (out .exit) ≡ written (keep (reachesAt (now (rows .entry)) (now (arrows .entry)) sign u f) (now (own .entry))) (now (out .entry))) ⌝ }
+    requires { ⌜ Says n (now rows) (now scratch) × Within n (now arrows) × (now own ≡ modeArrows (now arrows) mode) × (u < n) × (f < n) × (length (now own) ≤ length (now out)) ⌝ }
+    ensures { λ r. ⌜ (r ≡ length (reaching (now (rows .entry)) (now (arrows .entry)) mode sign u f)) × (now (out .exit) ≡ written (reaching (now (rows .entry)) (now (arrows .entry)) mode sign u f) (now (out .entry))) ⌝ }
 {
     let mut count = 0;
     for t in 0..own.len() {
@@ -237,4 +291,107 @@ fn settle(n: usize, rows: &[u16], scratch: &[u8], arrows: &[u16], ps: &[u16], ns
         return Entry::Default;
     }
     Entry::Unclear(ps[0], ns[0])
+}
+
+// Room for arrow numbers.
+fn no_numbers() -> [u16; 512]
+    ensures { λ r. ⌜ r ≡ zeros 512 ⌝ }
+{
+    [0u16; 512]
+}
+
+// The answer for a pair, by the numbers of the mode's arrows. The two buffers are for the positive and the negative arrows that
+// reach the pair, so that a caller with many pairs lends the same ones to each.
+pub fn answer_among(
+    n: usize,
+    rows: &[u16],
+    scratch: &[u8],
+    arrows: &[u16],
+    mode: u16,
+    own: &[u16],
+    u: u16,
+    f: u16,
+    ps: &mut [u16],
+    ns: &mut [u16],
+) -> Entry
+    requires { ⌜ Says n (now rows) (now scratch) × Within n (now arrows) × (now own ≡ modeArrows (now arrows) mode) × (u < n) × (f < n) × (length (now own) ≤ length (now ps)) × (length (now own) ≤ length (now ns)) ⌝ }
+    ensures { λ r. ⌜ (r ≡ answer (now (rows .entry)) (now (arrows .entry)) mode u f) × (now (ps .exit) ≡ written (reaching (now (rows .entry)) (now (arrows .entry)) mode positive u f) (now (ps .entry))) × (now (ns .exit) ≡ written (reaching (now (rows .entry)) (now (arrows .entry)) mode negative u f) (now (ns .entry))) ⌝ }
+{
+    let p = gather(n, rows, scratch, arrows, mode, own, 1, u, f, ps);
+    let q = gather(n, rows, scratch, arrows, mode, own, 0, u, f, ns);
+    settle(n, rows, scratch, arrows, &ps[..p], &ns[..q])
+}
+
+// The answer for a pair of one mode.
+pub fn answer_pair(
+    n: usize,
+    rows: &[u16],
+    scratch: &[u8],
+    arrows: &[u16],
+    mode: u16,
+    u: u16,
+    f: u16,
+) -> Entry
+    requires { ⌜ Says n (now rows) (now scratch) × Within n (now arrows) × (arrowCount (now arrows) ≤ 512) × (u < n) × (f < n) ⌝ }
+    ensures { λ r. ⌜ r ≡ answer (now (rows .entry)) (now (arrows .entry)) mode u f ⌝ }
+{
+    let mut own = no_numbers();
+    let mut ps = no_numbers();
+    let mut ns = no_numbers();
+    let m = mode_arrows(arrows, mode, &mut own);
+    answer_among(
+        n,
+        rows,
+        scratch,
+        arrows,
+        mode,
+        &own[..m],
+        u,
+        f,
+        &mut ps,
+        &mut ns,
+    )
+}
+
+// ---- All pairs of an atomic user and an atomic file, by place: rows are the users, columns the files.
+
+// Room for box numbers.
+fn no_boxes() -> [u16; 256]
+    ensures { λ r. ⌜ r ≡ zeros 256 ⌝ }
+{
+    [0u16; 256]
+}
+
+// How many pairs there are.
+pub fn pair_count(boxes: &[u8], rows: &[u16]) -> usize
+    requires { ⌜ SoundRows (now boxes) (now rows) ⌝ }
+    ensures { λ r. ⌜ r ≡ pairCount (now (boxes .entry)) (now (rows .entry)) ⌝ }
+{
+    let mut atoms = no_boxes();
+    let users = atoms_of(boxes, rows, BoxRow::USER, &mut atoms);
+    let files = atoms_of(boxes, rows, BoxRow::FILE, &mut atoms);
+    users * files
+}
+
+// The answer for the pair at place p.
+fn answer_at(
+    boxes: &[u8],
+    rows: &[u16],
+    scratch: &[u8],
+    arrows: &[u16],
+    mode: u16,
+    own: &[u16],
+    users: &[u16],
+    files: &[u16],
+    p: usize,
+    ps: &mut [u16],
+    ns: &mut [u16],
+) -> Entry
+    requires { ⌜ Says (length (now boxes)) (now rows) (now scratch) × Within (length (now boxes)) (now arrows) × (now own ≡ modeArrows (now arrows) mode) × (now users ≡ atoms (now boxes) (now rows) user) × (now files ≡ atoms (now boxes) (now rows) file) × (p < pairCount (now boxes) (now rows)) × (length (now own) ≤ length (now ps)) × (length (now own) ≤ length (now ns)) ⌝ }
+    ensures { λ r. ⌜ r ≡ answerAt (now (boxes .entry)) (now (rows .entry)) (now (arrows .entry)) mode p ⌝ }
+{
+    let columns = files.len();
+    let u = users[p / columns];
+    let f = files[p % columns];
+    answer_among(boxes.len(), rows, scratch, arrows, mode, own, u, f, ps, ns)
 }

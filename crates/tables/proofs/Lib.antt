@@ -8,3 +8,4 @@ pub mod TableLaws
 pub mod RowLaws
 pub mod SelectLaws
 pub mod AtomPlaces
+pub mod PartLaws

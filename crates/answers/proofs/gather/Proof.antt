@@ -1,5 +1,6 @@
-use Rattle.answers.proofs.AmongLaws.{Kept, kept-none, kept-most, kept-length, kept-yes, kept-no, kept-all}
-use Rattle.answers.specs.Among.{reachesAt}
+use Rattle.answers.specs.Among.{Numbers}
+use Rattle.answers.proofs.Keep.{Kept, kept-none, kept-most, kept-length, kept-yes, kept-no, kept-all}
+use Rattle.answers.proofs.AmongLaws.{reachesAt, reaching-keep, mode-numbers}
 use mathlib.Core.Logic.{⊎-elim}
 use mathlib.Core.Path.{_≡_, sym, _∙_}
 use Rattle.tables.specs.Rows.{arrowAt}
@@ -15,15 +16,18 @@ use Rattle.answers.proofs.arrow_at.Reads as arrow-at-reads
 use Rattle.answers.proofs.does_reach_by.Reads as does-reach-by-reads
 
 abbrev Inv-loop : tie.InvT-loop
-Inv-loop n rows scratch arrows own sign u f out₀ count₀ t₀ t-end out count t = (t ≤ length own) × Kept (reachesAt rows arrows sign u f) own out₀ t count out
+Inv-loop n rows scratch arrows mode own sign u f out₀ count₀ t₀ t-end out count t = (t ≤ length own) × Kept (reachesAt rows arrows sign u f) own out₀ t count out
 
 abbrev μ-loop : tie.MeasureT-loop
-μ-loop n rows scratch arrows own sign u f out₀ count₀ t₀ t-end out count t = length own - t
+μ-loop n rows scratch arrows mode own sign u f out₀ count₀ t₀ t-end out count t = length own - t
 
 -- src/lib.rt:133:5
 loop-holds : tie.Need-loop-holds Inv-loop μ-loop
 loop-holds c = let a = c .before .before .before .before .before .args in
     (search needs, kept-none (reachesAt (a .rows .now) (a .arrows .now) (a .sign) (a .u) (a .f)) (a .own .now) (a .out .now))
+
+numbered : (c : tie.Start Inv-loop μ-loop) → Numbers (c .args .arrows .now) (c .args .own .now)
+numbered c = rw (c .pre .2) (mode-numbers (c .args .rows .now) (c .args .arrows .now) (c .args .mode))
 
 -- src/lib.rt:134:17
 mul-k : tie.Need-mul-k Inv-loop μ-loop
@@ -35,13 +39,13 @@ shared-slice-read-k c = search needs
 
 -- src/lib.rt:135:50
 arrow-at-requires : tie.Need-arrow-at-requires Inv-loop μ-loop
-arrow-at-requires c κs = c .before .before .before .before .before .before .before .before .pre .2 (c .before .before .loop .t) (c .before .loop-test .taken)
+arrow-at-requires c κs = numbered (c .before .before .before .before .before .before .before .before) (c .before .before .loop .t) (c .before .loop-test .taken)
 
 -- src/lib.rt:135:12
 does-reach-by-requires : tie.Need-does-reach-by-requires Inv-loop μ-loop
 does-reach-by-requires c κs = let start = c .before .before .before .before .before .before .before .before .before in
     let k = getD (start .args .own .now) (c .before .before .before .loop .t) 0 in
-    let h = start .pre .2 (c .before .before .before .loop .t) (c .before .before .loop-test .taken) in
+    let h = numbered start (c .before .before .before .loop .t) (c .before .before .loop-test .taken) in
     rw (c .arrow-at .ensures) (start .pre .0, start .pre .1 .tail-in k h, start .pre .1 .head-in k h, start .pre .3, start .pre .4)
 
 -- there is a place for the number
@@ -99,9 +103,11 @@ same-length c = let a = c .before .before .before .before .before .before .befor
 
 -- src/lib.rt:118:1
 returns : tie.Need-returns Inv-loop μ-loop
-returns c = let a = c .before .before .before .before .before .before .before .args in
+returns c = let start = c .before .before .before .before .before .before .before in
+    let a = start .args in
     let l = c .before .loop in
-    kept-all (reachesAt (a .rows .now) (a .arrows .now) (a .sign) (a .u) (a .f)) (a .own .now) (a .out .now) (l .t) (l .count) (l .out) (omega arith) (l .inv .1)
+    rw (reaching-keep (a .rows .now) (a .arrows .now) (a .mode) (a .sign) (a .u) (a .f), ← start .pre .2)
+    (kept-all (reachesAt (a .rows .now) (a .arrows .now) (a .sign) (a .u) (a .f)) (a .own .now) (a .out .now) (l .t) (l .count) (l .out) (omega arith) (l .inv .1))
 
 pub gather-spec : {M : Type 1} → statement M
 gather-spec =
