@@ -3,3 +3,4 @@ pub mod AnswerLaws
 pub mod PairLaws
 mod Keep
 pub mod AmongLaws
+pub mod ModeLaws

@@ -5,3 +5,5 @@ pub mod PlaceLaws
 pub mod GreedyLaws
 pub mod OrderLaws
 pub mod StepLaws
+pub mod GrowLaws
+pub mod TurnLaws

@@ -21,7 +21,7 @@ use Rattle.lists.specs.Greedy.{greedy, leftBy, orderFault}
 use Rattle.lists.proofs.MatchLaws.{Full, maximal}
 use Rattle.lists.proofs.GreedyLaws.{implies, implied, honest-own, honest-right, Grown, greedy-grown, greedy-full}
 
-first-same : {A : Type 0} (g h : ℕ → Option A) (n : ℕ) → ((k : ℕ) → k < n → g k ≡ h k) → first g n ≡ first h n
+pub first-same : {A : Type 0} (g h : ℕ → Option A) (n : ℕ) → ((k : ℕ) → k < n → g k ≡ h k) → first g n ≡ first h n
 unfolding first
 first-same g h zero e = refl
 first-same g h (suc n) e = rw (first-same g h n (λ k l. e k (omega arith)), e n (omega arith))

@@ -11,8 +11,9 @@ use Rattle.tables.specs.Atoms.{atoms, pairCount}
 use Rattle.tables.proofs.AtomPlaces.{atom-there, atoms-most}
 use Rattle.containment.proofs.Index.{at-div, at-mod, place, next-row}
 use Rattle.answers.specs.Pairs.{userAt, fileAt}
-use Rattle.answers.proofs.PairLaws.{place-in, userAt-atom, fileAt-atom}
-use Rattle.lists.specs.Steps.{cellAt, Ready}
+use Rattle.answers.proofs.PairLaws.{userAt-atom, fileAt-atom}
+use Rattle.answers.proofs.PairLaws as pairs
+use Rattle.lists.specs.Steps.{cellAt, Placed}
 use Rattle.lists.specs.declared.Cell.{Cell}
 
 -- ---- the place after p
@@ -32,21 +33,18 @@ next-col w p l = cell-is w (p / w) (p % w + 1) (p + 1) l (omega (arith, place w 
 pub next-line : (w p : ℕ) → p % w < w → w ≤ p % w + 1 → cell (p / w + 1) 0 ≡ cellAt w (p + 1)
 next-line w p l g = cell-is w (p / w + 1) 0 (p + 1) (omega arith) (omega (arith, place w p, next-row w (p / w)))
 
-module _ (boxes rows users files : List ℕ) (pairs : ℕ) (r : Ready boxes rows users files pairs) (p : ℕ) (l : p < pairs) where
+module _ (boxes rows users files : List ℕ) (n : ℕ) (r : Placed boxes rows users files n) (p : ℕ) (l : p < n) where
   inside : p < pairCount boxes rows
   inside = rw (r .pairs-are) at l
 
   pub place-there : (p / length files < length users) × (p % length files < length files)
-  unfolding pairCount
-  place-there = rw (r .users-are, r .files-are) (place-in _ _ p inside)
+  place-there = pairs.place-there boxes rows users files (r .users-are) (r .files-are) p inside
 
   pub user-read : getD users (p / length files) 0 ≡ userAt boxes rows p
-  unfolding userAt
-  user-read = rw (r .users-are, r .files-are)
+  user-read = pairs.user-read boxes rows users files (r .users-are) (r .files-are) p
 
   pub file-read : getD files (p % length files) 0 ≡ fileAt boxes rows p
-  unfolding fileAt
-  file-read = rw (r .files-are)
+  file-read = pairs.file-read boxes rows users files (r .users-are) (r .files-are) p
 
   pub user-there : userAt boxes rows p < length boxes
   user-there = atom-there boxes rows user (userAt boxes rows p) (userAt-atom boxes rows p inside)

@@ -1,6 +1,6 @@
 -- How the list is found: what the functions promise each other. Assumes nothing.
 use mathlib.Core.Path.{_≡_}
-use mathlib.Core.Bool.{Bool, not, cond, _&&_}
+use mathlib.Core.Bool.{Bool, false, not, cond, _&&_}
 use mathlib.Core.List.{List}
 use mathlib.Core.Option.{Option}
 use Prim.Native.Nat.{ℕ, _+_, _/_, _%_, _<_, _≤_}
@@ -14,8 +14,8 @@ use Rattle.tables.specs.Refusals.{noOrder}
 use Rattle.tables.specs.declared.Arrow.{Arrow}
 use Rattle.tables.specs.declared.Refusal.{Refusal}
 use Rattle.answers.specs.Among.{Within, Numbers}
-use Rattle.answers.specs.Meaning.{reaches}
-use Rattle.answers.specs.Pairs.{userAt, fileAt}
+use Rattle.answers.specs.Meaning.{reaches, isUnclear}
+use Rattle.answers.specs.Pairs.{userAt, fileAt, answerAt}
 use Rattle.lists.specs.Order.{reached, granted, honest, distinct}
 use Rattle.lists.specs.Greedy.{addable}
 use Rattle.lists.specs.declared.Cell.{Cell}
@@ -25,7 +25,7 @@ abbrev pub cellAt : ℕ → ℕ → Cell
 cellAt width p = record { row = p / width; col = p % width }
 
 -- the users, the files and the number of pairs are those of the picture
-pub record Ready (boxes rows users files : List ℕ) (pairs : ℕ) : Type 0 where
+pub record Placed (boxes rows users files : List ℕ) (pairs : ℕ) : Type 0 where
   pub few : length boxes ≤ 256
   pub users-are : users ≡ atoms boxes rows user
   pub files-are : files ≡ atoms boxes rows file
@@ -88,6 +88,10 @@ abbrev pub nothing : Arrow → ℕ
 nothing a = 2
 
 module _ (boxes rows arrows : List ℕ) (m : ℕ) where
+  -- no pair is unclear
+  abbrev pub Clear : Type 0
+  Clear = (p : ℕ) → p < pairCount boxes rows → isUnclear (answerAt boxes rows arrows m p) ≡ false
+
   -- the work bytes when l is the list
   unfoldable pub workOf : List ℕ → List ℕ
   workOf l = build (λ p. bit (granted boxes rows arrows m p) + cond (reached boxes rows arrows l p) 2 0) (pairCount boxes rows)

@@ -1,6 +1,7 @@
 // The first-match list of a mode.
 ghost use mathlib.Core.Path.{_≡_};
 ghost use mathlib.Core.Bool.{true, cond};
+ghost use mathlib.Core.List.{[]};
 ghost use Prim.Native.Nat.{ℕ, _+_, _/_, _%_, _<_, _≤_};
 ghost use lib.Dec.{T};
 ghost use lib.ListN.{length, getD};
@@ -10,7 +11,7 @@ ghost use Rattle.tables.specs.Refusals.{verdictOf};
 ghost use Rattle.containment.specs.Scratch.{Says};
 ghost use Rattle.answers.specs.Among.{modeArrows, FirstAt};
 ghost use Rattle.lists.specs.Calls.{blanks};
-ghost use Rattle.lists.specs.Steps.{cellAt, Ready, Drawn, Ends, stops, NoStop, marked, Behind, followsAt, ownSign, nothing, leftIn, Ordered};
+ghost use Rattle.lists.specs.Steps.{cellAt, Placed, Drawn, Ends, stops, NoStop, marked, Behind, followsAt, ownSign, nothing, leftIn, Clear, workOf, Ordered};
 use answers::does_reach;
 use tables::Arrow;
 use tables::Refusal;
@@ -82,7 +83,7 @@ fn stops_at(
     p: usize,
     at: Cell,
 ) -> bool
-    requires { ⌜ Says (length (now boxes)) (now rows) (now scratch) × Ready (now boxes) (now rows) (now users) (now files) pairs × Ends (now boxes) a ⌝ }
+    requires { ⌜ Says (length (now boxes)) (now rows) (now scratch) × Placed (now boxes) (now rows) (now users) (now files) pairs × Ends (now boxes) a ⌝ }
     requires { ⌜ (p < pairs) × (p < length (now work)) × (at ≡ cellAt (length (now files)) p) ⌝ }
     ensures { λ r. ⌜ r ≡ stops (now (boxes .entry)) (now (rows .entry)) a (now (work .entry)) skip p ⌝ }
 {
@@ -111,7 +112,7 @@ fn advance(
     skip: u8,
     from: usize,
 ) -> usize
-    requires { ⌜ Says (length (now boxes)) (now rows) (now scratch) × Ready (now boxes) (now rows) (now users) (now files) pairs × Ends (now boxes) a × (pairs ≤ length (now work)) ⌝ }
+    requires { ⌜ Says (length (now boxes)) (now rows) (now scratch) × Placed (now boxes) (now rows) (now users) (now files) pairs × Ends (now boxes) a × (pairs ≤ length (now work)) ⌝ }
     requires { ⌜ NoStop (now boxes) (now rows) a (now work) skip from ⌝ }
     ensures { λ r. ⌜ FirstAt (stops (now (boxes .entry)) (now (rows .entry)) a (now (work .entry)) skip) pairs r ⌝ }
 {
@@ -159,7 +160,7 @@ fn may_follow(
     fresh: &mut [usize],
     t: usize,
 ) -> bool
-    requires { ⌜ Says (length (now boxes)) (now rows) (now scratch) × Ready (now boxes) (now rows) (now users) (now files) pairs × Drawn (now boxes) (now arrows) (now own) × (pairs ≤ length (now work)) × (t < length (now own)) ⌝ }
+    requires { ⌜ Says (length (now boxes)) (now rows) (now scratch) × Placed (now boxes) (now rows) (now users) (now files) pairs × Drawn (now boxes) (now arrows) (now own) × (pairs ≤ length (now work)) × (t < length (now own)) ⌝ }
     requires { ⌜ Behind (now boxes) (now rows) (now arrows) (now own) ownSign (now work) (now blocked) × Behind (now boxes) (now rows) (now arrows) (now own) nothing (now work) (now fresh) ⌝ }
     ensures { λ r. ⌜ r ≡ followsAt (now (boxes .entry)) (now (rows .entry)) (now (arrows .entry)) (now (own .entry)) (now (work .entry)) t ⌝ }
     ensures { λ _. ⌜ Behind (now (boxes .entry)) (now (rows .entry)) (now (arrows .entry)) (now (own .entry)) ownSign (now (work .entry)) (now (blocked .exit)) × Behind (now (boxes .entry)) (now (rows .entry)) (now (arrows .entry)) (now (own .entry)) nothing (now (work .entry)) (now (fresh .exit)) ⌝ }
@@ -211,7 +212,7 @@ fn pick(
     blocked: &mut [usize],
     fresh: &mut [usize],
 ) -> usize
-    requires { ⌜ Says (length (now boxes)) (now rows) (now scratch) × Ready (now boxes) (now rows) (now users) (now files) pairs × Drawn (now boxes) (now arrows) (now own) × (pairs ≤ length (now work)) ⌝ }
+    requires { ⌜ Says (length (now boxes)) (now rows) (now scratch) × Placed (now boxes) (now rows) (now users) (now files) pairs × Drawn (now boxes) (now arrows) (now own) × (pairs ≤ length (now work)) ⌝ }
     requires { ⌜ Behind (now boxes) (now rows) (now arrows) (now own) ownSign (now work) (now blocked) × Behind (now boxes) (now rows) (now arrows) (now own) nothing (now work) (now fresh) ⌝ }
     ensures { λ r. ⌜ FirstAt (followsAt (now (boxes .entry)) (now (rows .entry)) (now (arrows .entry)) (now (own .entry)) (now (work .entry))) (length (now (own .entry))) r ⌝ }
     ensures { λ _. ⌜ Behind (now (boxes .entry)) (now (rows .entry)) (now (arrows .entry)) (now (own .entry)) ownSign (now (work .entry)) (now (blocked .exit)) × Behind (now (boxes .entry)) (now (rows .entry)) (now (arrows .entry)) (now (own .entry)) nothing (now (work .entry)) (now (fresh .exit)) ⌝ }
@@ -259,7 +260,7 @@ fn mark(
     a: Arrow,
     work: &mut [u8],
 )
-    requires { ⌜ Says (length (now boxes)) (now rows) (now scratch) × Ready (now boxes) (now rows) (now users) (now files) pairs × Ends (now boxes) a × (pairs ≤ length (now work)) ⌝ }
+    requires { ⌜ Says (length (now boxes)) (now rows) (now scratch) × Placed (now boxes) (now rows) (now users) (now files) pairs × Ends (now boxes) a × (pairs ≤ length (now work)) ⌝ }
     ensures { λ _. ⌜ now (work .exit) ≡ written (build (marked (now (boxes .entry)) (now (rows .entry)) a (now (work .entry))) pairs) (now (work .entry)) ⌝ }
 {
     if pairs == 0 {
@@ -283,7 +284,7 @@ fn check_left(
     mode: u16,
     work: &[u8],
 ) -> Verdict
-    requires { ⌜ Ready (now boxes) (now rows) (now users) (now files) pairs × (pairs ≤ length (now work)) ⌝ }
+    requires { ⌜ Placed (now boxes) (now rows) (now users) (now files) pairs × (pairs ≤ length (now work)) ⌝ }
     ensures { λ r. ⌜ r ≡ verdictOf (leftIn (now (boxes .entry)) (now (rows .entry)) mode (now (work .entry))) ⌝ }
 {
     for p in 0..pairs {
@@ -314,5 +315,59 @@ fn blank(out: &mut [u16], count: usize)
 {
     for p in 0..count {
         out[p] = 65535;
+    }
+}
+
+// Room for a pointer for each arrow.
+fn no_places() -> [usize; 512]
+    ensures { λ r. ⌜ r ≡ zeros 512 ⌝ }
+{
+    [0usize; 512]
+}
+
+// Finds an honest list with no arrow twice to which nothing can be added: the lowest arrow that may follow, until there is none.
+// The work bytes are those of the empty list. Costs a few steps for each pair and arrow.
+fn order(
+    boxes: &[u8],
+    rows: &[u16],
+    scratch: &[u8],
+    users: &[u16],
+    files: &[u16],
+    pairs: usize,
+    arrows: &[u16],
+    mode: u16,
+    own: &[u16],
+    out: &mut [u16],
+    work: &mut [u8],
+) -> usize
+    requires { ⌜ Says (length (now boxes)) (now rows) (now scratch) × Placed (now boxes) (now rows) (now users) (now files) pairs × Drawn (now boxes) (now arrows) (now own) × (now own ≡ modeArrows (now arrows) mode) ⌝ }
+    requires { ⌜ Clear (now boxes) (now rows) (now arrows) mode × (length (now own) ≤ length (now out)) × (pairs ≤ length (now work)) × (now work ≡ written (workOf (now boxes) (now rows) (now arrows) mode []) (now work)) ⌝ }
+    ensures { λ r. ⌜ Ordered (now (boxes .entry)) (now (rows .entry)) (now (arrows .entry)) mode (now (out .entry)) (now (work .entry)) r (now (out .exit)) (now (work .exit)) ⌝ }
+{
+    let mut blocked = no_places();
+    let mut fresh = no_places();
+    let mut count = 0;
+    loop {
+        let t = pick(
+            boxes,
+            rows,
+            scratch,
+            users,
+            files,
+            pairs,
+            arrows,
+            own,
+            work,
+            &mut blocked,
+            &mut fresh,
+        );
+        if own.len() <= t {
+            return count;
+        }
+        let k = own[t];
+        out[count] = k;
+        count += 1;
+        let a = Arrow::at(arrows, wide(k));
+        mark(boxes, rows, scratch, users, files, pairs, a, work);
     }
 }

@@ -42,11 +42,13 @@ shared-slice-read-f c = there (c .before .before .before .before .before .before
 
 -- src/lib.rt:396:5
 answer-among-requires : tie.Need-answer-among-requires
-answer-among-requires c κs =     let start = c .before .before .before .before .before .before .before .before .before .before .before .before .before in
+answer-among-requires c κs = let start = c .before .before .before .before .before .before .before .before .before .before .before .before .before in
     let a = start .args in
     let p = start .pre in
-    rw (user-read (a .boxes .now) (a .rows .now) (a .users .now) (a .files .now) (p .3) (p .4) (a .p),
-      file-read (a .boxes .now) (a .rows .now) (a .users .now) (a .files .now) (p .3) (p .4) (a .p)) (
+    rw (
+      user-read (a .boxes .now) (a .rows .now) (a .users .now) (a .files .now) (p .3) (p .4) (a .p),
+      file-read (a .boxes .now) (a .rows .now) (a .users .now) (a .files .now) (p .3) (p .4) (a .p),
+    ) (
       p .0,
       p .1,
       p .2,
@@ -67,12 +69,14 @@ same-length-2 c = search needs
 -- src/lib.rt:377:1
 returns : tie.Need-returns
 unfolding answerAt
-returns c =     let start = c .before .before .before .before .before .before .before .before .before .before .before .before .before .before .before .before .before .before in
+returns c = let start = c .before .before .before .before .before .before .before .before .before .before .before .before .before .before .before .before .before .before in
     let a = start .args in
     let p = start .pre in
-    rw (c .before .before .before .before .answer-among .ensures .0,
+    rw (
+      c .before .before .before .before .answer-among .ensures .0,
       user-read (a .boxes .now) (a .rows .now) (a .users .now) (a .files .now) (p .3) (p .4) (a .p),
-      file-read (a .boxes .now) (a .rows .now) (a .users .now) (a .files .now) (p .3) (p .4) (a .p))
+      file-read (a .boxes .now) (a .rows .now) (a .users .now) (a .files .now) (p .3) (p .4) (a .p),
+    )
 
 pub answer-at-spec : {M : Type 1} → statement M
 answer-at-spec =
