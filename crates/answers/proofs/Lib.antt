@@ -4,3 +4,4 @@ pub mod PairLaws
 mod Keep
 pub mod AmongLaws
 pub mod ModeLaws
+pub mod GrantLaws

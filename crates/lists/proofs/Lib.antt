@@ -7,3 +7,6 @@ pub mod OrderLaws
 pub mod StepLaws
 pub mod GrowLaws
 pub mod TurnLaws
+pub mod FillLaws
+pub mod CallLaws
+pub mod ReadyLaws

@@ -5,11 +5,12 @@ use mathlib.Core.Bool.{Bool, true, false, not, cond, _&&_}
 use mathlib.Core.List.{List}
 use Prim.Native.Nat.{ℕ, _+_, _<_, _≤_}
 use native.Mathlib.Decide.{decLt, ℕ-discrete}
+use native.Mathlib.Numerals.{add-one}
 use native.Mathlib.Omega.{arith}
 use borrow.Author.Tests.{le-ltb, lt-ltb, eq-eqb, ne-eqb}
 use lib.Dec.{T, T-not, not-T, eqb, ltb, ltb→lt}
-use lib.ListN.{length, getD, set, replicate, length-set, length-replicate, replicate-append-replicate}
-use lib.Seq.{getD-set-same, getD-set-other}
+use lib.ListN.{length, getD, set, take, replicate, length-set, length-replicate, replicate-append-replicate}
+use lib.Seq.{getD-set-same, getD-set-other, length-take-le, take-suc}
 use Rattle.tables.specs.Search.{every}
 use Rattle.tables.specs.Buffers.{build, written}
 use Rattle.tables.specs.Rows.{arrowAt}
@@ -104,3 +105,12 @@ written-same v n old h =
     ap (λ (k : ℕ). set (written (replicate n v) old) k v) (sym (length-replicate {A = ℕ} n v))
     ∙ written-more (replicate n v) old v (rw (length-replicate {A = ℕ} n v) h)
     ∙ ap (λ (l : List ℕ). written l old) (replicate-append-replicate n 1 v)
+
+-- and one that is copied
+pub written-copy : (from old : List ℕ) (p : ℕ) → p < length from → p < length old
+    → set (written (take p from) old) p (getD from p 0) ≡ written (take (p + 1) from) old
+written-copy from old p h l =
+    let len : length (take p from) ≡ p = length-take-le p from (omega arith) in
+    ap (λ (k : ℕ). set (written (take p from) old) k (getD from p 0)) (sym len)
+    ∙ written-more (take p from) old (getD from p 0) (rw len l)
+    ∙ rw (add-one, take-suc from p 0 h)

@@ -2,20 +2,37 @@
 ghost use mathlib.Core.Path.{_≡_};
 ghost use mathlib.Core.Bool.{true, cond};
 ghost use mathlib.Core.List.{[]};
+ghost use mathlib.Core.Option.{none, some};
 ghost use Prim.Native.Nat.{ℕ, _+_, _/_, _%_, _<_, _≤_};
-ghost use lib.Dec.{T};
-ghost use lib.ListN.{length, getD};
-ghost use Rattle.tables.specs.Atoms.{pairCount};
+ghost use lib.ListN.{length, take};
 ghost use Rattle.tables.specs.Buffers.{build, written, zeros};
-ghost use Rattle.tables.specs.Refusals.{verdictOf};
+ghost use Rattle.tables.specs.Search.{bit};
+ghost use Rattle.tables.specs.Rows.{arrowCount};
+ghost use Rattle.tables.specs.Atoms.{pairCount};
+ghost use Rattle.tables.specs.Faults.{SoundRows, SoundArrows};
+ghost use Rattle.tables.specs.Refusals.{refusal, verdictOf};
 ghost use Rattle.containment.specs.Scratch.{Says};
+ghost use Rattle.answers.specs.Meaning.{isGranted};
+ghost use Rattle.answers.specs.Pairs.{userAt, fileAt, answerAt, unclearFault};
 ghost use Rattle.answers.specs.Among.{modeArrows, FirstAt};
-ghost use Rattle.lists.specs.Calls.{blanks};
+ghost use Rattle.lists.specs.Greedy.{orderFault};
+ghost use Rattle.lists.specs.Calls.{blanks, Answered, Listing};
 ghost use Rattle.lists.specs.Steps.{cellAt, Placed, Drawn, Ends, stops, NoStop, marked, Behind, followsAt, ownSign, nothing, leftIn, Clear, workOf, Ordered};
+use answers::Entry;
+use answers::answer_among;
 use answers::does_reach;
+use answers::is_unclear;
+use answers::mode_arrows;
+use answers::pair_count;
+use containment::check_scratch;
+use containment::contain;
 use tables::Arrow;
+use tables::BoxRow;
 use tables::Refusal;
 use tables::Verdict;
+use tables::atoms_of;
+use tables::check_mode;
+use tables::check_room;
 use tables::wide;
 
 // What the call for a list answers.
@@ -274,6 +291,26 @@ fn mark(
     }
 }
 
+// A refusal that names the mode and the pair at place p.
+fn refuse_pair(
+    boxes: &[u8],
+    rows: &[u16],
+    users: &[u16],
+    files: &[u16],
+    pairs: usize,
+    number: u8,
+    mode: u16,
+    p: usize,
+) -> Verdict
+    requires { ⌜ Placed (now boxes) (now rows) (now users) (now files) pairs × (p < pairs) ⌝ }
+    ensures { λ r. ⌜ r ≡ verdictOf (some (refusal number mode (userAt (now (boxes .entry)) (now (rows .entry)) p) (fileAt (now (boxes .entry)) (now (rows .entry)) p))) ⌝ }
+{
+    let columns = files.len();
+    let u = users[p / columns];
+    let f = files[p % columns];
+    Verdict::refused_if(true, number, wide(mode), wide(u), wide(f))
+}
+
 // The first granted pair that is not reached, by the work bytes: refusal 13 names it.
 fn check_left(
     boxes: &[u8],
@@ -289,10 +326,7 @@ fn check_left(
 {
     for p in 0..pairs {
         if work[p] == 1 {
-            let columns = files.len();
-            let u = users[p / columns];
-            let f = files[p % columns];
-            return Verdict::refused_if(true, 13, wide(mode), wide(u), wide(f));
+            return refuse_pair(boxes, rows, users, files, pairs, 13, mode, p);
         }
     }
     Verdict::Passed
@@ -370,4 +404,260 @@ fn order(
         let a = Arrow::at(arrows, wide(k));
         mark(boxes, rows, scratch, users, files, pairs, a, work);
     }
+}
+
+// 1 if the answer grants, else 0: the granting arrow is taken out, and the other three answers are turned away.
+fn granted_byte(e: Entry) -> u8
+    ensures { λ r. ⌜ r ≡ bit (isGranted e) ⌝ }
+{
+    let Entry::Granted(_) = e else {
+        return 0;
+    };
+    1
+}
+
+// The answer for the pair at place p. The last two buffers are for the arrows that reach it.
+fn answer_cell(
+    boxes: &[u8],
+    rows: &[u16],
+    scratch: &[u8],
+    users: &[u16],
+    files: &[u16],
+    pairs: usize,
+    arrows: &[u16],
+    mode: u16,
+    own: &[u16],
+    p: usize,
+    at: Cell,
+    ps: &mut [u16],
+    ns: &mut [u16],
+) -> Entry
+    requires { ⌜ Says (length (now boxes)) (now rows) (now scratch) × Placed (now boxes) (now rows) (now users) (now files) pairs × Drawn (now boxes) (now arrows) (now own) × (now own ≡ modeArrows (now arrows) mode) ⌝ }
+    requires { ⌜ (p < pairs) × (at ≡ cellAt (length (now files)) p) × (length (now own) ≤ length (now ps)) × (length (now own) ≤ length (now ns)) ⌝ }
+    ensures { λ r. ⌜ r ≡ answerAt (now (boxes .entry)) (now (rows .entry)) (now (arrows .entry)) mode p ⌝ }
+{
+    let i = at.row;
+    let j = at.col;
+    let u = users[i];
+    let f = files[j];
+    answer_among(boxes.len(), rows, scratch, arrows, mode, own, u, f, ps, ns)
+}
+
+// Check 12, and a byte for each pair, 1 if it is granted. They are no work bytes yet: check 12 leaves those untouched.
+fn fill_granted(
+    boxes: &[u8],
+    rows: &[u16],
+    scratch: &[u8],
+    users: &[u16],
+    files: &[u16],
+    pairs: usize,
+    arrows: &[u16],
+    mode: u16,
+    own: &[u16],
+    ps: &mut [u16],
+    ns: &mut [u16],
+    bytes: &mut [u8],
+) -> Verdict
+    requires { ⌜ Says (length (now boxes)) (now rows) (now scratch) × Placed (now boxes) (now rows) (now users) (now files) pairs × Drawn (now boxes) (now arrows) (now own) × (now own ≡ modeArrows (now arrows) mode) ⌝ }
+    requires { ⌜ (length (now own) ≤ length (now ps)) × (length (now own) ≤ length (now ns)) × (pairs ≤ length (now bytes)) ⌝ }
+    ensures { λ r. ⌜ r ≡ verdictOf (unclearFault (now (boxes .entry)) (now (rows .entry)) (now (arrows .entry)) mode) ⌝ }
+    ensures { λ r. ⌜ (r ≡ Verdict.Passed → now (bytes .exit) ≡ written (workOf (now (boxes .entry)) (now (rows .entry)) (now (arrows .entry)) mode []) (now (bytes .entry))) ⌝ }
+{
+    if pairs == 0 {
+        return Verdict::Passed;
+    }
+    let mut at = Cell::at(0, files.len());
+    for p in 0..pairs {
+        let e = answer_cell(
+            boxes,
+            rows,
+            scratch,
+            users,
+            files,
+            pairs,
+            arrows,
+            mode,
+            own,
+            p,
+            at,
+            ps,
+            ns,
+        );
+        if is_unclear(e) {
+            return refuse_pair(boxes, rows, users, files, pairs, 12, mode, p);
+        }
+        bytes[p] = granted_byte(e);
+        at = at.next(files.len());
+    }
+    Verdict::Passed
+}
+
+// Copies the first `count` bytes.
+fn copy(bytes: &[u8], work: &mut [u8], count: usize)
+    requires { ⌜ (count ≤ length (now bytes)) × (count ≤ length (now work)) ⌝ }
+    ensures { λ _. ⌜ now (work .exit) ≡ written (take count (now (bytes .entry))) (now (work .entry)) ⌝ }
+{
+    for p in 0..count {
+        work[p] = bytes[p];
+    }
+}
+
+// Writes the list of a clear mode, or 65,535 into each needed place where it leaves a granted pair. The work bytes are those of
+// the empty list, and 0 afterwards.
+fn finish(
+    boxes: &[u8],
+    rows: &[u16],
+    scratch: &[u8],
+    users: &[u16],
+    files: &[u16],
+    pairs: usize,
+    arrows: &[u16],
+    mode: u16,
+    own: &[u16],
+    out: &mut [u16],
+    work: &mut [u8],
+) -> Listed
+    requires { ⌜ Says (length (now boxes)) (now rows) (now scratch) × Placed (now boxes) (now rows) (now users) (now files) pairs × Drawn (now boxes) (now arrows) (now own) × (now own ≡ modeArrows (now arrows) mode) ⌝ }
+    requires { ⌜ Clear (now boxes) (now rows) (now arrows) mode × (length (now own) ≤ length (now out)) × (pairs ≤ length (now work)) × (now work ≡ written (workOf (now boxes) (now rows) (now arrows) mode []) (now work)) ⌝ }
+    ensures { λ r. ⌜ Answered (now (boxes .entry)) (now (rows .entry)) (now (arrows .entry)) mode none (orderFault (now (boxes .entry)) (now (rows .entry)) (now (arrows .entry)) mode) r (now (out .entry)) (now (out .exit)) ⌝ }
+    ensures { λ _. ⌜ now (work .exit) ≡ written (zeros pairs) (now (work .entry)) ⌝ }
+{
+    let count = order(
+        boxes,
+        rows,
+        scratch,
+        users,
+        files,
+        pairs,
+        arrows,
+        mode,
+        own,
+        out,
+        work,
+    );
+    let left = check_left(boxes, rows, users, files, pairs, mode, work);
+    clear(work, pairs);
+    if let Verdict::Refused(r) = left {
+        blank(out, own.len());
+        return Listed::Refused(r);
+    }
+    Listed::Written(count)
+}
+
+// Room for a byte for each pair: 256 boxes make at most 128 × 128.
+fn no_bytes() -> [u8; 16384]
+    ensures { λ r. ⌜ r ≡ zeros 16384 ⌝ }
+{
+    [0u8; 16384]
+}
+
+// Room for arrow numbers.
+fn no_numbers() -> [u16; 512]
+    ensures { λ r. ⌜ r ≡ zeros 512 ⌝ }
+{
+    [0u16; 512]
+}
+
+// Room for box numbers.
+fn no_boxes() -> [u16; 256]
+    ensures { λ r. ⌜ r ≡ zeros 256 ⌝ }
+{
+    [0u16; 256]
+}
+
+// Check 12, then the list, by the mode's arrows and the atomic boxes.
+fn list_pairs(
+    boxes: &[u8],
+    rows: &[u16],
+    scratch: &[u8],
+    users: &[u16],
+    files: &[u16],
+    pairs: usize,
+    arrows: &[u16],
+    mode: u16,
+    own: &[u16],
+    out: &mut [u16],
+    work: &mut [u8],
+) -> Listed
+    requires { ⌜ Says (length (now boxes)) (now rows) (now scratch) × Placed (now boxes) (now rows) (now users) (now files) pairs × Drawn (now boxes) (now arrows) (now own) × (now own ≡ modeArrows (now arrows) mode) × (length (now own) ≤ length (now out)) × (pairs ≤ length (now work)) ⌝ }
+    ensures { λ r. ⌜ Listing (now (boxes .entry)) (now (rows .entry)) (now (arrows .entry)) mode (now (out .entry)) (now (work .entry)) r (now (out .exit)) (now (work .exit)) ⌝ }
+{
+    let mut bytes = no_bytes();
+    let mut ps = no_numbers();
+    let mut ns = no_numbers();
+    let clear = fill_granted(
+        boxes,
+        rows,
+        scratch,
+        users,
+        files,
+        pairs,
+        arrows,
+        mode,
+        own,
+        &mut ps,
+        &mut ns,
+        &mut bytes,
+    );
+    if let Verdict::Refused(r) = clear {
+        return Listed::Refused(r);
+    }
+    copy(&bytes, work, pairs);
+    finish(
+        boxes,
+        rows,
+        scratch,
+        users,
+        files,
+        pairs,
+        arrows,
+        mode,
+        own,
+        out,
+        work,
+    )
+}
+
+// Check 12, then the list, by a filled scratch.
+fn write_list(
+    boxes: &[u8],
+    rows: &[u16],
+    scratch: &[u8],
+    arrows: &[u16],
+    mode: u16,
+    out: &mut [u16],
+    work: &mut [u8],
+) -> Listed
+    requires { ⌜ SoundRows (now boxes) (now rows) × SoundArrows (now boxes) (now arrows) × Says (length (now boxes)) (now rows) (now scratch) ⌝ }
+    requires { ⌜ (length (modeArrows (now arrows) mode) ≤ length (now out)) × (pairCount (now boxes) (now rows) ≤ length (now work)) ⌝ }
+    ensures { λ r. ⌜ Listing (now (boxes .entry)) (now (rows .entry)) (now (arrows .entry)) mode (now (out .entry)) (now (work .entry)) r (now (out .exit)) (now (work .exit)) ⌝ }
+{
+    let mut users = no_boxes();
+    let mut files = no_boxes();
+    let mut own = no_numbers();
+    let u = atoms_of(boxes, rows, BoxRow::USER, &mut users);
+    let f = atoms_of(boxes, rows, BoxRow::FILE, &mut files);
+    let m = mode_arrows(arrows, mode, &mut own);
+    list_pairs(
+        boxes,
+        rows,
+        scratch,
+        &users[..u],
+        &files[..f],
+        u * f,
+        arrows,
+        mode,
+        &own[..m],
+        out,
+        work,
+    )
+}
+
+// How many arrows the mode has.
+fn mode_count(arrows: &[u16], mode: u16) -> usize
+    requires { ⌜ arrowCount (now arrows) ≤ 512 ⌝ }
+    ensures { λ r. ⌜ r ≡ length (modeArrows (now (arrows .entry)) mode) ⌝ }
+{
+    let mut own = no_numbers();
+    mode_arrows(arrows, mode, &mut own)
 }
