@@ -10,3 +10,4 @@ pub mod TurnLaws
 pub mod FillLaws
 pub mod CallLaws
 pub mod ReadyLaws
+pub mod EndLaws

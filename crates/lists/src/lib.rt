@@ -16,7 +16,7 @@ ghost use Rattle.answers.specs.Meaning.{isGranted};
 ghost use Rattle.answers.specs.Pairs.{userAt, fileAt, answerAt, unclearFault};
 ghost use Rattle.answers.specs.Among.{modeArrows, FirstAt};
 ghost use Rattle.lists.specs.Greedy.{orderFault};
-ghost use Rattle.lists.specs.Calls.{blanks, Answered, Listing};
+ghost use Rattle.lists.specs.Calls.{blanks, Answered, Listing, Outcome};
 ghost use Rattle.lists.specs.Steps.{cellAt, Placed, Drawn, Ends, stops, NoStop, marked, Behind, followsAt, ownSign, nothing, leftIn, Clear, workOf, Ordered};
 use answers::Entry;
 use answers::answer_among;
@@ -660,4 +660,38 @@ fn mode_count(arrows: &[u16], mode: u16) -> usize
 {
     let mut own = no_numbers();
     mode_arrows(arrows, mode, &mut own)
+}
+
+// The first-match list of a mode (document 01, "What may be asked"): how many places of `out` hold it, or the refusal. Checks 1 to
+// 10, 12 in this mode, and 13. The scratch needs a byte for each pair of boxes, `out` a place for each arrow of the mode, and `work`
+// a byte for each pair. Costs a few steps for each pair and arrow of the mode, besides the answers of all pairs.
+pub fn list(
+    boxes: &[u8],
+    rows: &[u16],
+    arrows: &[u16],
+    scratch: &mut [u8],
+    mode: u16,
+    out: &mut [u16],
+    work: &mut [u8],
+) -> Listed
+    ensures { λ r. ⌜ Outcome (now (boxes .entry)) (now (rows .entry)) (now (arrows .entry)) mode (now (scratch .entry)) (now (out .entry)) (now (work .entry)) r (now (scratch .exit)) (now (out .exit)) (now (work .exit)) ⌝ }
+{
+    let tables = tables::check(boxes, rows, arrows);
+    if let Verdict::Refused(r) = tables {
+        return Listed::Refused(r);
+    }
+    let pairs = pair_count(boxes, rows);
+    let count = mode_count(arrows, mode);
+    let early = check_mode(mode)
+        .or_else(check_scratch(boxes, scratch))
+        .or_else(check_room(3, out.len(), count))
+        .or_else(check_room(4, work.len(), pairs));
+    if let Verdict::Refused(r) = early {
+        return Listed::Refused(r);
+    }
+    let loops = contain(boxes, rows, scratch);
+    if let Verdict::Refused(r) = loops {
+        return Listed::Refused(r);
+    }
+    write_list(boxes, rows, scratch, arrows, mode, out, work)
 }
