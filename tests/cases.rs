@@ -463,6 +463,18 @@ fn limits(report: &mut Report) {
         let got = rights::judge(picture, &mut [9; 4]);
         report.same("limit of arrows", numbers(&got), want);
     }
+    // The last row of a full table counts.
+    let picture = Picture {
+        boxes: &[0, 0, 0, 1],
+        containments: &[[0, 1].repeat(1023), vec![2, 0]].concat(),
+        arrows: &[[1, 3, 7, 1].repeat(511), vec![2, 3, 6, 0]].concat(),
+    };
+    let mut scratch = [9; 16];
+    let got = rights::entry(picture, 1, 3, 6, &mut scratch);
+    let want = Some(Answer::Denied(511));
+    report.same("arrow 511", got.ok().map(compare_answer), want);
+    let want = [0, 1, 0, 0, 0, 0, 0, 0, 1, 1, 0, 0, 0, 0, 0, 0];
+    report.same("containment 1023", scratch, want);
     // A scratch of one byte less than 256 boxes need.
     let boxes = vec![0; 256];
     let picture = Picture {

@@ -256,12 +256,18 @@ impl Picture {
             .collect()
     }
 
-    /// The first unclear pair of the mode, by user, then file.
+    /// The first pair of the mode, by user, then file, with such an answer.
+    fn first(&self, mode: u16, such: impl Fn(&Answer) -> bool) -> Option<(usize, usize)> {
+        let place = self.answers[mode as usize].iter().position(such)?;
+        Some(self.pair(place))
+    }
+
     pub fn first_unclear(&self, mode: u16) -> Option<(usize, usize)> {
-        self.answers[mode as usize]
-            .iter()
-            .position(|a| matches!(a, Answer::Unclear(..)))
-            .map(|place| self.pair(place))
+        self.first(mode, |answer| matches!(answer, Answer::Unclear(..)))
+    }
+
+    pub fn first_granted(&self, mode: u16) -> Option<(usize, usize)> {
+        self.first(mode, |answer| matches!(answer, Answer::Granted(_)))
     }
 
     fn scratch(&self) -> Vec<u8> {
@@ -335,7 +341,7 @@ impl<'a> Lists<'a> {
     ///
     /// By rounds: an arrow is usable if every pair that it would answer wrongly is reached by an
     /// arrow found usable in an earlier round. The usable arrows, in the order of their rounds, are
-    /// an honest list; and the arrows of any honest list that reach something first are usable.
+    /// an honest list; and every arrow of any honest list is usable, thanks to those before it.
     pub fn first_missed(&self) -> Option<(usize, usize)> {
         let mut reached = vec![false; self.granted.len()];
         let mut left: Vec<usize> = (0..self.arrows.len()).collect();

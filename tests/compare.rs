@@ -38,6 +38,8 @@ struct Tally {
     unclear: u64,
     clear_pictures: u64,
     lists: u64,
+    /// Refusals 13 that name another pair than the mode's first granted one.
+    later_no_order: u64,
     listed_arrows: u64,
     every_list_tried: u64,
     kinds: Vec<(&'static str, u64)>,
@@ -63,8 +65,13 @@ impl Tally {
             self.calls, self.granted, self.denied, self.default, self.unclear, self.clear_pictures
         );
         println!(
-            "lists written {} with {} arrows, no order {}; every list tried {} times",
-            self.lists, self.listed_arrows, self.refusals[13], self.every_list_tried
+            "lists written {} with {} arrows, no order {} (not at the first granted pair {}); \
+             every list tried {} times",
+            self.lists,
+            self.listed_arrows,
+            self.refusals[13],
+            self.later_no_order,
+            self.every_list_tried
         );
         let refusals: Vec<String> = (1..=17)
             .map(|k| format!("{k}: {}", self.refusals[k]))
@@ -273,6 +280,11 @@ impl Trial<'_> {
             work.before(),
         );
         let call = format!("list of mode {mode}");
+        if let (Known::Sound(p), Err(r)) = (self.known, &want.result) {
+            let named = (r.places[1] as usize, r.places[2] as usize);
+            let later = r.number == 13 && p.first_granted(mode) != Some(named);
+            self.tally.later_no_order += later as u64;
+        }
         self.same(&call, got.map(|_| ()), want.result)?;
         scratch.ends_as(&format!("{call}: scratch"), &want.scratch)?;
         work.ends_as(&format!("{call}: work"), &want.work)?;
@@ -534,6 +546,10 @@ fn print_listing() -> bool {
 #[cfg(model)]
 fn self_test(most: u64) -> bool {
     let mut unnoticed = 0;
+    // A place beyond what is lent.
+    let mut buffer = bytes(&mut Random::new(1), 4);
+    buffer.all[GUARDS + 4] ^= 1;
+    unnoticed += buffer.guards_kept("guards").is_ok() as usize;
     std::panic::set_hook(Box::new(|_| {}));
     for &(way, says) in standin::WAYS {
         standin::be(way);

@@ -108,7 +108,7 @@ impl Draft {
 
 /// A few modes for one picture, low and high ones.
 fn some_modes(r: &mut Random) -> Vec<u16> {
-    let how_many = r.pick(&[1, 1, 2, 3, 8]);
+    let how_many = r.pick(&[1, 1, 1, 2, 2, 3, 8]);
     (0..how_many).map(|_| r.below(8) as u16).collect()
 }
 
@@ -144,16 +144,23 @@ fn aim(r: &mut Random, d: &mut Draft, count: usize, positive: usize) {
         return;
     }
     let modes = some_modes(r);
-    // Few different heads make arrows meet.
-    let heads = if r.percent(40) {
-        vec![r.pick(&files)]
-    } else {
-        files
+    // Few different heads and many groups among the tails make arrows meet.
+    let heads = match r.below(3) {
+        0 => vec![r.pick(&files)],
+        1 => vec![r.pick(&files), r.pick(&files)],
+        _ => files,
     };
+    let outer = d.rows.iter().map(|row| row[0]);
+    let groups: Vec<u16> = outer.filter(|&b| d.boxes[b as usize] == 0).collect();
     for _ in 0..count {
+        let tails = if groups.is_empty() || r.percent(50) {
+            &users
+        } else {
+            &groups
+        };
         let sign = r.percent(positive) as u16;
         d.arrows
-            .push([r.pick(&users), r.pick(&heads), r.pick(&modes), sign]);
+            .push([r.pick(tails), r.pick(&heads), r.pick(&modes), sign]);
     }
 }
 
@@ -161,7 +168,12 @@ fn aim(r: &mut Random, d: &mut Draft, count: usize, positive: usize) {
 fn plain(r: &mut Random, size: Size) -> Draft {
     let mut d = Draft::default();
     let (users, files, rows, arrows) = match size {
-        Size::Tiny => (r.below(6), r.below(5), r.below(9), r.below(7)),
+        Size::Tiny => (
+            r.pick(&[0, 1, 2, 2, 3, 3, 4, 4, 5]),
+            r.pick(&[0, 1, 1, 2, 2, 3, 3, 4]),
+            r.below(9),
+            r.below(7),
+        ),
         Size::Middle => (
             r.from_to(3, 16),
             r.from_to(3, 14),
@@ -173,7 +185,7 @@ fn plain(r: &mut Random, size: Size) -> Draft {
             (
                 users,
                 256 - users,
-                r.pick(&[200, 600, 1023]),
+                r.pick(&[0, 200, 600, 1023]),
                 r.pick(&[128, 400, 511]),
             )
         }
@@ -228,16 +240,15 @@ fn tie_loops(r: &mut Random, d: &mut Draft) {
     }
 }
 
-/// The ring of case J for k users and k files, in one mode: arrow 2i is positive and goes before
-/// arrow 2i + 1, which is negative and goes before arrow 2i + 2, all around. No arrow can be the
-/// first, so no honest list reaches anything.
-fn ring(d: &mut Draft, k: usize, mode: u16) {
-    let users: Vec<u16> = (0..k).map(|_| d.add_box(0)).collect();
-    let wide: Vec<u16> = (0..k).map(|_| d.add_box(0)).collect();
-    let close: Vec<u16> = (0..k).map(|_| d.add_box(0)).collect();
-    let files: Vec<u16> = (0..k).map(|_| d.add_box(1)).collect();
-    let inner: Vec<u16> = (0..k).map(|_| d.add_box(1)).collect();
-    let outer: Vec<u16> = (0..k).map(|_| d.add_box(1)).collect();
+/// The ring of case J for k users and k files, in one mode: arrow 2i goes before arrow 2i + 1,
+/// which has the other sign and goes before arrow 2i + 2, all around. No arrow can be the first,
+/// so no honest list reaches anything. `first` is the sign of arrow 0. If `turned`, files take
+/// the place of users and users that of files.
+fn ring(d: &mut Draft, k: usize, mode: u16, first: u16, turned: bool) {
+    let side = turned as u8;
+    let mut some = |side: u8| -> Vec<u16> { (0..k).map(|_| d.add_box(side)).collect() };
+    let (users, wide, close) = (some(side), some(side), some(side));
+    let (files, inner, outer) = (some(1 - side), some(1 - side), some(1 - side));
     for i in 0..k {
         let next = (i + 1) % k;
         d.rows.push([wide[i], users[i]]);
@@ -246,9 +257,33 @@ fn ring(d: &mut Draft, k: usize, mode: u16) {
         d.rows.push([inner[i], files[i]]);
         d.rows.push([outer[i], inner[i]]);
         d.rows.push([outer[i], files[next]]);
-        d.arrows.push([wide[i], inner[i], mode, 1]);
-        d.arrows.push([close[i], outer[i], mode, 0]);
+        for (mut ends, sign) in [
+            ([wide[i], inner[i]], first),
+            ([close[i], outer[i]], 1 - first),
+        ] {
+            if turned {
+                ends.reverse();
+            }
+            d.arrows.push([ends[0], ends[1], mode, sign]);
+        }
     }
+}
+
+/// Puts all boxes into one group and one folder and draws an arrow between these two.
+fn umbrella(r: &mut Random, d: &mut Draft, mode: u16) {
+    let mut ends = [0, 0];
+    for side in [0, 1] {
+        let members = d.of_side(side);
+        let around = d.add_box(side);
+        for b in members {
+            // A box inside another is in already.
+            if !d.rows.iter().any(|row| row[1] == b) {
+                d.rows.push([around, b]);
+            }
+        }
+        ends[side as usize] = around;
+    }
+    d.arrows.push([ends[0], ends[1], mode, r.below(2) as u16]);
 }
 
 /// Pairs of single boxes that are granted in the mode.
@@ -288,11 +323,14 @@ fn rings(r: &mut Random, size: Size) -> Draft {
             }
         }
     }
-    ring(&mut d, k, mode);
+    ring(&mut d, k, mode, r.pick(&[0, 1, 1]), r.percent(30));
     if r.percent(25) && !matches!(size, Size::Full) {
-        ring(&mut d, r.from_to(2, 3), mode);
+        ring(&mut d, r.from_to(2, 3), mode, 1, r.percent(30));
     }
-    match r.below(6) {
+    if r.percent(20) && d.boxes.len() <= 254 {
+        umbrella(r, &mut d, mode);
+    }
+    match r.below(7) {
         // Cut it.
         0 => {
             for _ in 0..r.from_to(1, 2) {
@@ -323,6 +361,11 @@ fn rings(r: &mut Random, size: Size) -> Draft {
             let sign = r.below(2) as u16;
             let (users, files) = (d.of_side(0), d.of_side(1));
             d.arrows.push([r.pick(&users), r.pick(&files), mode, sign]);
+        }
+        // Grant a pair beside it.
+        5 if d.boxes.len() <= 254 => {
+            let (user, file) = (d.add_box(0), d.add_box(1));
+            d.arrows.push([user, file, mode, 1]);
         }
         _ => {}
     }
@@ -388,33 +431,41 @@ fn staircase(r: &mut Random, size: Size) -> Draft {
     d
 }
 
-/// Many arrows around a few pairs, where each positive arrow but the last fails only at one
-/// negative arrow: the slow way through the answers.
+/// Many arrows that all reach the same pairs. Each positive arrow but the last fails only at the
+/// last negative one: the slow way through the answers.
 fn crowd(r: &mut Random, size: Size) -> Draft {
     let mut d = Draft::default();
-    let arrows = match size {
-        Size::Tiny => 6,
-        Size::Middle => 30,
-        Size::Full => 511,
+    let (arrows, users, files) = match size {
+        Size::Tiny => (r.from_to(3, 6), 1, r.from_to(1, 2)),
+        Size::Middle => (r.from_to(10, 40), r.from_to(1, 4), r.from_to(1, 4)),
+        Size::Full => (511, r.from_to(10, 30), r.from_to(10, 30)),
     };
-    let user = d.add_box(0);
-    let group = d.add_box(0);
-    let crossing = d.add_box(0);
-    let file = d.add_box(1);
-    let folder = d.add_box(1);
-    d.rows = vec![[group, user], [crossing, user], [folder, file]];
-    for k in 0..arrows {
-        let last = k + 1 == arrows;
-        let sign = (k % 2) as u16;
-        if sign == 1 && !last {
-            d.arrows.push([group, file, 0, 1]);
-        } else if sign == 1 {
-            d.arrows.push([user, file, 0, 1]);
-        } else {
-            d.arrows.push([group, folder, 0, 0]);
-        }
+    let [small, group, crossing] = [0, 0, 0].map(|side| d.add_box(side));
+    let [near, folder] = [1, 1].map(|side| d.add_box(side));
+    d.rows.push([group, small]);
+    d.rows.push([folder, near]);
+    for _ in 0..users {
+        let user = d.add_box(0);
+        d.rows.push([small, user]);
+        d.rows.push([crossing, user]);
     }
-    d.arrows.push([crossing, file, 0, 0]);
+    for _ in 0..files {
+        let file = d.add_box(1);
+        d.rows.push([near, file]);
+    }
+    for k in 1..arrows {
+        d.arrows.push(match k % 2 {
+            0 => [group, near, 0, 1],
+            _ => [group, folder, 0, 0],
+        });
+    }
+    // Crosses the group, so that only a deeper head helps against it.
+    d.arrows.push([crossing, near, 0, 0]);
+    if r.percent(60) {
+        let user = *d.of_side(0).last().unwrap();
+        let file = *d.of_side(1).last().unwrap();
+        d.arrows.push([user, file, 0, 1]);
+    }
     if r.percent(30) {
         d.mix(r);
     }
@@ -445,18 +496,19 @@ fn empty_groups(r: &mut Random, d: &mut Draft) {
     }
 }
 
-/// Fills the tables up to their limits, without a change of meaning.
+/// Fills the tables up to their limits: more single boxes, and the first containment and arrow
+/// over and over before the others, so that the last rows of full tables count.
 fn fill_up(r: &mut Random, d: &mut Draft) {
     while d.boxes.len() < 256 {
         d.add_box(r.below(2) as u8);
     }
-    while !d.rows.is_empty() && d.rows.len() < 1024 {
-        let row = r.pick(&d.rows);
-        d.rows.push(row);
+    if let Some(&first) = d.rows.first() {
+        let more = vec![first; 1024 - d.rows.len()];
+        d.rows.splice(0..0, more);
     }
-    while !d.arrows.is_empty() && d.arrows.len() < 512 {
-        let arrow = r.pick(&d.arrows);
-        d.arrows.push(arrow);
+    if let Some(&first) = d.arrows.first() {
+        let more = vec![first; 512 - d.arrows.len()];
+        d.arrows.splice(0..0, more);
     }
 }
 
@@ -494,10 +546,12 @@ fn spoil(r: &mut Random, t: &mut Tables) {
             t.rows[at] = no_box(r, n);
         }
         6 if rows > 0 => {
-            let (a, b) = (r.below(n) as u16, r.below(n) as u16);
-            let row = r.below(rows);
-            t.rows[2 * row] = a;
-            t.rows[2 * row + 1] = b;
+            // Boxes of both sides, if there are any.
+            let row = 2 * r.below(rows);
+            let outer = r.below(n);
+            let across = (0..n).find(|&b| t.boxes[b] != t.boxes[outer]);
+            t.rows[row] = outer as u16;
+            t.rows[row + 1] = across.unwrap_or(outer) as u16;
         }
         7 if arrows > 0 => {
             let arrow = 4 * r.below(arrows);

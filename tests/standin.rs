@@ -65,6 +65,20 @@ ways! {
     FiveBeforeFour: "4 and 5 row by row",
     SixSevenByRow: "6 and 7 row by row",
     ModeSevenBad: "mode 7 is refused",
+    SameBoxMissed: "an arrow doesn't reach its own atomic ends",
+    TailOnly: "only tails are compared",
+    DepthCompared: "depths are compared instead of containment",
+    LoopsHalfFilled: "containment is not followed beyond a box on a loop",
+    TwelveOtherModes: "12 in the list call looks at every mode",
+    TwelveByFile: "12 goes by file, then user",
+    ListFirstPairOnly: "an arrow may follow if its first new pair fits",
+    ListIgnoresReached: "an arrow is blocked by pairs reached before",
+    LongArrowNumbers: "arrow numbers are cut to a byte",
+    LongMatrix: "pairs beyond place 255 are not written",
+    LastArrowMissed: "the 512th arrow is missed",
+    LastRowMissed: "the 1,024th containment is missed",
+    LastBoxMissed: "the 256th box is refused",
+    NineAtExact: "a work buffer of the exact length is too short",
     ReadFnvOne: "the check multiplies before it mixes",
     ReadHeadFirst: "16 before 15",
     ReadKindsAnyOrder: "kinds may fall",
@@ -74,6 +88,9 @@ ways! {
     ReadNineBeforeTwo: "9 before 2",
     ReadBytesForNumbers: "9 counts containments in rows",
     ReadWritesEarly: "boxes are written before 9 is known",
+    ReadHighByte: "the high byte of a block's number is not checked",
+    ReadCountLow: "the high byte of a count is not read",
+    ReadLastBlock: "the 64th block is refused as a 65th would be",
     ReadTooLong: "a file of 65 blocks is read",
     ReadChecksBoxes: "the reader refuses box bytes above 1",
 }
@@ -134,7 +151,9 @@ impl Tables<'_> {
 
     fn of_mode(&self, mode: u16) -> Vec<usize> {
         let all = 0..self.arrows.len() / 4;
-        all.filter(|k| self.arrows[4 * k + 2] == mode).collect()
+        all.filter(|k| self.arrows[4 * k + 2] == mode)
+            .filter(|&k| !is(Wrong::LastArrowMissed) || k < 511)
+            .collect()
     }
 
     fn ragged(&self) -> Option<Reply> {
@@ -154,7 +173,8 @@ impl Tables<'_> {
         } else {
             (1, 1)
         };
-        if self.n() > 256 {
+        let most = if is(Wrong::LastBoxMissed) { 255 } else { 256 };
+        if self.n() > most {
             Some(refusal(2, 0, self.n(), 0))
         } else if rows > 1024 {
             Some(refusal(2, 1, rows * more_rows, 0))
@@ -239,7 +259,9 @@ impl Tables<'_> {
         scratch[..n * n].fill(0);
         for k in 0..self.rows.len() / 2 {
             let (outer, inner) = self.row(k);
-            scratch[outer * n + inner] = 1;
+            if !is(Wrong::LastRowMissed) || k < 1023 {
+                scratch[outer * n + inner] = 1;
+            }
         }
         if is(Wrong::ShallowClosure) {
             let drawn = scratch[..n * n].to_vec();
@@ -253,6 +275,9 @@ impl Tables<'_> {
             return;
         }
         for via in 0..n {
+            if is(Wrong::LoopsHalfFilled) && scratch[via * n + via] == 1 {
+                continue;
+            }
             for a in 0..n {
                 if scratch[a * n + via] == 1 {
                     for b in 0..n {
@@ -305,6 +330,9 @@ impl<'a> World<'a> {
 
     fn reaches(&self, k: usize, u: usize, f: usize) -> bool {
         let (tail, head) = (self.t.tail(k), self.t.head(k));
+        if is(Wrong::SameBoxMissed) {
+            return self.inside(u, tail) && self.inside(f, head);
+        }
         (tail == u || self.inside(u, tail)) && (head == f || self.inside(f, head))
     }
 
@@ -318,6 +346,14 @@ impl<'a> World<'a> {
         let heads = self.order(self.t.head(p), self.t.head(n));
         if is(Wrong::BothDeeper) {
             return tails < 0 && heads < 0;
+        }
+        if is(Wrong::TailOnly) {
+            return tails < 0;
+        }
+        if is(Wrong::DepthCompared) {
+            let depth = |b: usize| (0..self.t.n()).filter(|&o| self.inside(b, o)).count();
+            let sum = |k: usize| depth(self.t.tail(k)) + depth(self.t.head(k));
+            return sum(p) > sum(n);
         }
         if is(Wrong::LevelIsSame) {
             let same = self.t.tail(p) == self.t.tail(n) && self.t.head(p) == self.t.head(n);
@@ -394,14 +430,18 @@ impl<'a> World<'a> {
 
     fn unclear(&self, mode: u16) -> Option<(usize, usize)> {
         let of_mode = self.t.of_mode(mode);
+        let mut by_file = None;
         for &u in &self.users {
             for &f in &self.files {
                 if self.cell(&of_mode, u, f).0 == UNCLEAR {
-                    return Some((u, f));
+                    if !is(Wrong::TwelveByFile) {
+                        return Some((u, f));
+                    }
+                    by_file = by_file.min(Some((f, u))).or(Some((f, u)));
                 }
             }
         }
-        None
+        by_file.map(|(f, u)| (u, f))
     }
 }
 
@@ -533,6 +573,14 @@ fn matrix(
                 first_granted = false;
                 continue;
             }
+            if is(Wrong::LongMatrix) && place > 255 {
+                continue;
+            }
+            let arrow = if is(Wrong::LongArrowNumbers) {
+                arrow % 256
+            } else {
+                arrow
+            };
             (bytes[place], numbers[place]) = match kind {
                 GRANTED => (1, arrow as u16),
                 DENIED => (0, arrow as u16),
@@ -561,6 +609,9 @@ fn list(t: &Tables, mode: u16, scratch: &mut [u8], list: &mut [u16], work: &mut 
         (3, list.len(), places),
         (4, work.len(), pairs),
     ];
+    if is(Wrong::NineAtExact) && work.len() == pairs {
+        buffers[2].1 = 0;
+    }
     if is(Wrong::NineWorkFirst) {
         buffers.swap(1, 2);
     }
@@ -575,8 +626,12 @@ fn list(t: &Tables, mode: u16, scratch: &mut [u8], list: &mut [u16], work: &mut 
     if is(Wrong::WorkBeforeTwelve) {
         work[..pairs].fill(0);
     }
-    if let Some((u, f)) = world.unclear(mode) {
-        return refusal(12, mode as usize, u, f);
+    for other in 0..8 {
+        if other == mode || is(Wrong::TwelveOtherModes) {
+            if let Some((u, f)) = world.unclear(other) {
+                return refusal(12, mode as usize, u, f);
+            }
+        }
     }
     if is(Wrong::WorkCleanedBeyond) {
         work.fill(0);
@@ -603,8 +658,18 @@ fn list(t: &Tables, mode: u16, scratch: &mut [u8], list: &mut [u16], work: &mut 
         // The lowest arrow that may follow and reaches something new.
         let next = reached.iter().find(|(k, places)| {
             let other = !t.positive(*k) as u8;
-            places.iter().all(|&place| work[place] != other)
-                && places.iter().any(|&place| work[place] < 2)
+            let fits = if is(Wrong::ListFirstPairOnly) {
+                places
+                    .iter()
+                    .find(|&&place| work[place] < 2)
+                    .map(|&place| work[place])
+                    != Some(other)
+            } else if is(Wrong::ListIgnoresReached) {
+                places.iter().all(|&place| work[place] % 2 != other)
+            } else {
+                places.iter().all(|&place| work[place] != other)
+            };
+            fits && places.iter().any(|&place| work[place] < 2)
                 && (!is(Wrong::ListSinglePass) || *k >= from)
                 && (!is(Wrong::ListPositiveOnly) || t.positive(*k))
         });
@@ -679,7 +744,13 @@ fn check_of(bytes: &[u8]) -> u32 {
 }
 
 fn read(file: &[u8], boxes: &mut [u8], rows: &mut [u16], arrows: &mut [u16]) -> Reply {
-    let longest = if is(Wrong::ReadTooLong) { 65 } else { 64 };
+    let longest = if is(Wrong::ReadTooLong) {
+        65
+    } else if is(Wrong::ReadLastBlock) {
+        63
+    } else {
+        64
+    };
     if file.is_empty() || file.len() % 512 > 0 || file.len() / 512 > longest {
         return refusal(14, file.len(), 0, 0);
     }
@@ -693,10 +764,15 @@ fn read(file: &[u8], boxes: &mut [u8], rows: &mut [u16], arrows: &mut [u16]) -> 
         let stored = pair(at + 508) as u32 | (pair(at + 510) as u32) << 16;
         let damaged = stored != check_of(&file[at..at + 508]);
         let falls = file[at] < kind && !is(Wrong::ReadKindsAnyOrder);
-        let moved = pair(at + 2) as usize != k && !is(Wrong::ReadPlaceUnchecked);
+        let low_only = is(Wrong::ReadHighByte) && file[at + 2] as usize == k;
+        let moved = pair(at + 2) as usize != k && !low_only && !is(Wrong::ReadPlaceUnchecked);
         let kind_ok = file[at] >= 1 && file[at] <= 3;
         let rest = file[at + 1] | file[at + 6] | file[at + 7];
-        let count = pair(at + 4) as usize;
+        let count = if is(Wrong::ReadCountLow) {
+            file[at + 4] as usize
+        } else {
+            pair(at + 4) as usize
+        };
         let head =
             !kind_ok || falls || moved || rest != 0 || count > [0, 500, 125, 83][file[at] as usize];
         if is(Wrong::ReadHeadFirst) && head {
@@ -748,7 +824,12 @@ fn read(file: &[u8], boxes: &mut [u8], rows: &mut [u16], arrows: &mut [u16]) -> 
     let (mut b, mut r, mut w) = (0, 0, 0);
     for k in 0..file.len() / 512 {
         let at = 512 * k;
-        for record in 0..pair(at + 4) as usize {
+        let count = if is(Wrong::ReadCountLow) {
+            file[at + 4] as usize
+        } else {
+            pair(at + 4) as usize
+        };
+        for record in 0..count {
             let from = at + 8 + record * sizes[file[at] as usize];
             match file[at] {
                 1 => {
