@@ -426,10 +426,12 @@ fn run(start: u64, count: u64, loud: bool) -> bool {
     let begun = Instant::now();
     let mut tally = Tally::default();
     let mut failed = 0;
+    let mut done = 0;
     for seed in start..start.saturating_add(count) {
         if loud {
             println!("seed {seed}");
         }
+        done += 1;
         if let Err(why) = one_seed(seed, &mut tally) {
             println!("seed {seed}: {why}");
             failed += 1;
@@ -446,7 +448,7 @@ fn run(start: u64, count: u64, loud: bool) -> bool {
         println!("refusals never seen: {never:?}");
     }
     let seconds = begun.elapsed().as_secs_f64();
-    println!("compared {count} pictures from seed {start}, {failed} disagree, {seconds:.1} s");
+    println!("compared {done} pictures from seed {start}, {failed} disagree, {seconds:.1} s");
     failed == 0 && all_seen
 }
 
