@@ -1,0 +1,4 @@
+pub mod Fnv
+pub mod Blocks
+pub mod Files
+pub mod Reads
