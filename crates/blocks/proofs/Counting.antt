@@ -1,6 +1,6 @@
 -- How the row counts and the lengths of the tables grow block by block. Assumes nothing.
-use mathlib.Core.Path.{_≡_, refl, _∙_, subst}
-use mathlib.Core.Bool.{Bool, true, false, cond, or-true}
+use mathlib.Core.Path.{_≡_, refl, _∙_}
+use mathlib.Core.Bool.{Bool, true, false, cond, or-true, true≢false}
 use mathlib.Core.List.{List}
 use mathlib.Core.Option.{none, some}
 use Prim.Native.Nat.{ℕ, zero, suc, _+_, _*_, _/_, _<_, _≤_}
@@ -10,13 +10,12 @@ use borrow.Author.Tests.{eqb-true, ltb-false}
 use lib.Dec.{eqb, ltb}
 use lib.ListN.{length, length-append}
 use lib.Seq.{sets}
-use Rattle.tables.specs.Search.{orElse, given}
 use Rattle.tables.specs.Buffers.{written}
-use Rattle.tables.specs.Refusals.{badBlock}
 use Rattle.tables.specs.declared.Refusal.{Refusal}
-use Rattle.blocks.specs.Blocks.{headOf, capacity, byKind, boxRow, containmentRow, arrowRow, countOf, joined, boxesSaid, containmentsSaid, arrowsSaid, wrongCheck, wrongHead, wrongFiller, blockFault}
+use Rattle.blocks.specs.Blocks.{headOf, capacity, byKind, boxRow, containmentRow, arrowRow, countOf, joined, boxesSaid, containmentsSaid, arrowsSaid, wrongHead, blockFault}
 use Rattle.blocks.specs.Files.{blockAt, blockCount, kindBefore, blocksFault, boxesIn, containmentsIn, arrowsIn}
-use Rattle.blocks.specs.Reads.{countsIn, countsOf, countsWith, BlockFits, Fitting}
+use Rattle.blocks.specs.Reads.{countsIn, countsOf}
+use Rattle.blocks.specs.Steps.{countsWith, BlockFits, Fitting}
 use Rattle.blocks.specs.declared.Head.{Head}
 use Rattle.blocks.specs.declared.Counts.{Counts}
 use Rattle.blocks.proofs.Placing.{joined-length, joined-most, written-more}
@@ -77,7 +76,7 @@ unfolding wrongHead
 head-fits before place head e = go (ltb (capacity (head .kind)) (head .count)) refl
   where
     go : (t : Bool) → ltb (capacity (head .kind)) (head .count) ≡ t → head .count ≤ capacity (head .kind)
-    go true q = let z : true ≡ false = rw (q, or-true) at e in absurd (subst (λ (t : Bool). cond t Unit ⊥) z tt)
+    go true q = absurd (true≢false (rw (q, or-true) at e))
     go false q = ltb-false (capacity (head .kind)) (head .count) q
 
 pub count-fits : (kind : ℕ) (head : Head) → head .count ≤ capacity (head .kind) → countOf kind head ≤ capacity kind
@@ -91,10 +90,7 @@ count-fits kind head h = go (eqb (head .kind) kind) refl
 pub good-count : (before place : ℕ) (b : List ℕ) → blockFault before place b ≡ none → headOf b .count ≤ capacity (headOf b .kind)
 unfolding blockFault
 good-count before place b e =
-    head-fits before place (headOf b)
-    (given-none (wrongHead before place (headOf b)) (badBlock 16 place)
-    (none-left (given (wrongHead before place (headOf b)) (badBlock 16 place)) (given (wrongFiller (headOf b) b) (badBlock 17 place))
-    (none-right (given (wrongCheck b) (badBlock 15 place)) (orElse (given (wrongHead before place (headOf b)) (badBlock 16 place)) (given (wrongFiller (headOf b) b) (badBlock 17 place))) e)))
+    head-fits before place (headOf b) (given-none _ _ (none-left _ _ (none-right _ _ e)))
 
 -- the blocks in turn
 module _ (blocks : ℕ → List ℕ) where

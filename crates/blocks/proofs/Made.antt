@@ -1,26 +1,26 @@
 -- What a file made of blocks says: all that a packer has to show of its blocks. And a file is made of its blocks, so
 -- that they determine it. Assumes nothing.
-use mathlib.Core.Path.{_≡_, refl, _∙_, ap}
+use mathlib.Core.Path.{_≡_, refl, _∙_, sym, ap}
 use mathlib.Core.List.{List}
 use mathlib.Core.Logic.{⊎-elim}
 use mathlib.Core.Option.{Option, none}
 use Prim.Native.Nat.{ℕ, zero, suc, _+_, _*_, _/_, _%_, _<_, _≤_}
 use native.Mathlib.Omega.{arith}
 use native.Mathlib.Nat.{eq-or-lt-of-le, le-of-suc-le-suc}
-use borrow.Author.Tests.{eq-eqb, ne-eqb, le-ltb}
 use lib.ListN.{length, take, drop, length-drop}
 use lib.Seq.{take-add, take-length, take-all, drop-at, drop-append-le, take-append-le}
-use Rattle.tables.specs.Search.{given, first}
+use Rattle.tables.specs.Search.{first}
 use Rattle.tables.proofs.Verdicts.{past}
 use Rattle.blocks.specs.Blocks.{headOf, joined, boxesSaid, containmentsSaid, arrowsSaid}
 use Rattle.blocks.specs.Files.{blockAt, blockCount, kindBefore, blocksFault, lengthFault, fileFault, boxesIn, containmentsIn, arrowsIn, boxesOf, containmentsOf, arrowsOf}
 use Rattle.blocks.specs.Reads.{countsIn, countsOf, tablesFault, readFault}
+use Rattle.blocks.proofs.Searches.{none-left}
+use Rattle.blocks.proofs.Order.{length-whole, length-good}
 use Rattle.blocks.proofs.Placing.{joined-length}
 
--- a length that 14 passes
-pub length-good : (len : ℕ) → 0 < len → len % 512 ≡ 0 → len ≤ 32768 → lengthFault len ≡ none
-unfolding lengthFault given
-length-good len p e h = rw (ne-eqb len 0 (λ z. omega arith), eq-eqb (len % 512) 0 e, le-ltb 32768 len h)
+good-whole : (file : List ℕ) → fileFault file ≡ none → length file % 512 ≡ 0
+unfolding fileFault
+good-whole file e = length-whole (length file) (none-left _ _ e) .0
 
 -- lists and searches that agree at each number below n
 pub joined-same : (f g : ℕ → List ℕ) (n : ℕ) → ((k : ℕ) → k < n → f k ≡ g k) → joined f n ≡ joined g n
@@ -72,6 +72,13 @@ pub made-of-blocks : (file : List ℕ) → length file % 512 ≡ 0 → joined (b
 made-of-blocks file h =
     let e : 512 * (length file / 512) ≡ length file = omega arith in
     rw (blocks-taken, e, take-length)
+
+-- so good files with the same blocks are the same file, and say the same
+pub same-file : (a b : List ℕ) → fileFault a ≡ none → fileFault b ≡ none → blockCount a ≡ blockCount b
+    → ((k : ℕ) → k < blockCount a → blockAt a k ≡ blockAt b k) → a ≡ b
+same-file a b p q n same =
+    sym (made-of-blocks a (good-whole a p)) ∙ joined-same (blockAt a) (blockAt b) (blockCount a) same
+    ∙ rw n (made-of-blocks b (good-whole b q))
 
 -- a file made of n blocks of 512 bytes
 module _ (blocks : ℕ → List ℕ) (n : ℕ) (whole : (k : ℕ) → k < n → length (blocks k) ≡ 512) where

@@ -1,24 +1,24 @@
 -- The order of the refusals of reading, and what holds where none is found. Assumes nothing.
-use mathlib.Core.Path.{_≡_, refl, _∙_, subst}
-use mathlib.Core.Bool.{Bool, true, false, not, cond, or-true, _||_}
+use mathlib.Core.Path.{_≡_, refl, _∙_}
+use mathlib.Core.Bool.{not, _||_}
 use mathlib.Core.List.{List}
 use mathlib.Core.Option.{Option, none, some}
-use Prim.Native.Nat.{ℕ, _*_, _%_, _≤_}
+use Prim.Native.Nat.{ℕ, _%_, _<_, _≤_}
 use native.Mathlib.Omega.{arith}
-use borrow.Author.Tests.{ltb-false}
+use borrow.Author.Tests.{ltb-false, le-ltb, eqb-true, eq-eqb, ne-eqb, not-false}
 use lib.Dec.{eqb, ltb}
 use lib.ListN.{length}
-use Rattle.tables.specs.Search.{orElse}
+use Rattle.tables.specs.Search.{given}
 use Rattle.tables.specs.Buffers.{written}
-use Rattle.tables.specs.Refusals.{badLength, tooShort}
-use Rattle.tables.specs.Faults.{countFault, roomFault}
+use Rattle.tables.specs.Faults.{roomFault}
 use Rattle.tables.specs.declared.Refusal.{Refusal}
 use Rattle.tables.proofs.Verdicts.{past, stop}
 use Rattle.blocks.specs.Files.{blockAt, blockCount, lengthFault, blocksFault, fileFault, boxesOf, containmentsOf, arrowsOf}
-use Rattle.blocks.specs.Reads.{countsOf, tablesFault, readFault, answerOf, Fitting, ReadDone}
+use Rattle.blocks.specs.Reads.{countsOf, tablesFault, readFault, answerOf, ReadDone}
+use Rattle.blocks.specs.Steps.{Fitting}
 use Rattle.blocks.specs.declared.Counts.{Counts}
 use Rattle.blocks.specs.declared.Reading.the-variants.{Tables, Refused}
-use Rattle.blocks.proofs.Searches.{none-left, none-right, given-none}
+use Rattle.blocks.proofs.Searches.{none-left, none-right, given-none, or-false}
 
 -- what an answer says of the fault
 pub answer-tables : (o : Option Refusal) (c d : Counts) → answerOf o c ≡ Tables d → (o ≡ none) × (c ≡ d)
@@ -29,20 +29,21 @@ pub answer-refused : (o : Option Refusal) (c : Counts) (r : Refusal) → answerO
 answer-refused none c r e = let z : _≡_ {A = ℕ} 0 1 = cc in absurd (omega arith)
 answer-refused (some s) c r e = let i : s ≡ r = cc in rw i
 
--- a file that 14 passes
-pub short-enough : (len : ℕ) → lengthFault len ≡ none → len ≤ 32768
+-- a length that 14 passes
+pub length-whole : (len : ℕ) → lengthFault len ≡ none → (len % 512 ≡ 0) × (len ≤ 32768)
 unfolding lengthFault
-short-enough len e = go (ltb 32768 len) refl
-  where
-    go : (t : Bool) → ltb 32768 len ≡ t → len ≤ 32768
-    go true q =
-        let z : true ≡ false = rw (q, or-true) at (given-none (eqb len 0 || not (eqb (len % 512) 0) || ltb 32768 len) (badLength len) e) in
-        absurd (subst (λ (t : Bool). cond t Unit ⊥) z tt)
-    go false q = ltb-false 32768 len q
+length-whole len e =
+    let long = or-false (eqb len 0 || not (eqb (len % 512) 0)) (ltb 32768 len) (given-none _ _ e) in
+    let ragged = or-false (eqb len 0) (not (eqb (len % 512) 0)) (long .0) .1 in
+    (eqb-true (len % 512) 0 (not-false _ ragged), ltb-false 32768 len (long .1))
+
+pub length-good : (len : ℕ) → 0 < len → len % 512 ≡ 0 → len ≤ 32768 → lengthFault len ≡ none
+unfolding lengthFault given
+length-good len p e h = rw (ne-eqb len 0 (λ z. omega arith), eq-eqb (len % 512) 0 e, le-ltb 32768 len h)
 
 pub room-enough : (buffer have need : ℕ) → roomFault buffer have need ≡ none → need ≤ have
 unfolding roomFault
-room-enough buffer have need e = ltb-false have need (given-none (ltb have need) (tooShort buffer need) e)
+room-enough buffer have need e = ltb-false have need (given-none _ _ e)
 
 module _ (file : List ℕ) (boxes rows arrows : ℕ) where
   -- the checks in turn
@@ -64,20 +65,15 @@ module _ (file : List ℕ) (boxes rows arrows : ℕ) where
       pub fitting : tablesFault (countsOf file) boxes rows arrows ≡ none → Fitting file boxes rows arrows
       unfolding tablesFault
       fitting e =
-          let c = countsOf file in
-          let count = countFault (c .boxes) (c .containments) (c .arrows) in
-          let five = roomFault 5 boxes (c .boxes) in
-          let six = roomFault 6 rows (2 * c .containments) in
-          let seven = roomFault 7 arrows (4 * c .arrows) in
-          let room = none-right count (orElse five (orElse six seven)) e in
-          let rest = none-right five (orElse six seven) room in
-          let short = short-enough (length file) whole in
+          let room = none-right _ _ e in
+          let rest = none-right _ _ room in
+          let short = length-whole (length file) whole .1 in
           record {
             few = omega arith;
             good = good;
-            boxes-fit = room-enough 5 boxes (c .boxes) (none-left five (orElse six seven) room);
-            rows-fit = room-enough 6 rows (2 * c .containments) (none-left six seven rest);
-            arrows-fit = room-enough 7 arrows (4 * c .arrows) (none-right six seven rest);
+            boxes-fit = room-enough 5 boxes _ (none-left _ _ room);
+            rows-fit = room-enough 6 rows _ (none-left _ _ rest);
+            arrows-fit = room-enough 7 arrows _ (none-right _ _ rest);
           }
 
 -- a refusal leaves the tables as they were

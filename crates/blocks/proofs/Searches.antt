@@ -1,6 +1,6 @@
 -- A search from 0 up that finds nothing for a while; checks that find nothing. Assumes nothing.
 use mathlib.Core.Path.{_≡_, refl, _∙_, sym}
-use mathlib.Core.Bool.{Bool, true, false}
+use mathlib.Core.Bool.{Bool, true, false, _||_, true≢false}
 use mathlib.Core.Logic.{⊎-elim}
 use mathlib.Core.Option.{Option, none, some}
 use Prim.Native.Nat.{ℕ, zero, suc, _+_, _<_, _≤_}
@@ -8,10 +8,9 @@ use native.Mathlib.Omega.{arith}
 use native.Mathlib.Numerals.{add-one}
 use native.Mathlib.Nat.{eq-or-lt-of-le, le-of-suc-le-suc}
 use Rattle.tables.specs.Search.{orElse, given, first}
-use lib.Dec.{ltb}
 use borrow.Author.Tests.{ltb-false}
 use Rattle.tables.specs.Faults.{countFault}
-use Rattle.tables.specs.Refusals.{verdictOf, either, tooMany}
+use Rattle.tables.specs.Refusals.{verdictOf, either}
 use Rattle.tables.specs.declared.Refusal.{Refusal}
 use Rattle.tables.proofs.Verdicts.{past, stop}
 
@@ -30,6 +29,10 @@ pub given-none : {A : Type 0} (t : Bool) (x : A) → given t x ≡ none → t �
 unfolding given
 given-none true x e = let z : _≡_ {A = ℕ} 0 1 = cc in absurd (omega arith)
 given-none false x e = refl
+
+pub or-false : (a b : Bool) → (a || b) ≡ false → (a ≡ false) × (b ≡ false)
+or-false true b e = absurd (true≢false e)
+or-false false b e = (refl, e)
 
 -- three checks one after the other
 pub either-three : (a b c : Option Refusal) → either (either (verdictOf a) (verdictOf b)) (verdictOf c) ≡ verdictOf (orElse a (orElse b c))
@@ -71,7 +74,5 @@ module _ {A : Type 0} (g : ℕ → Option A) where
 pub count-limits : (boxes rows arrows : ℕ) → countFault boxes rows arrows ≡ none → (rows ≤ 1024) × (arrows ≤ 512)
 unfolding countFault
 count-limits boxes rows arrows e =
-    let many = none-right (given (ltb 256 boxes) (tooMany 0 boxes)) (orElse (given (ltb 1024 rows) (tooMany 1 rows)) (given (ltb 512 arrows) (tooMany 2 arrows))) e in (
-      ltb-false 1024 rows (given-none (ltb 1024 rows) (tooMany 1 rows) (none-left (given (ltb 1024 rows) (tooMany 1 rows)) (given (ltb 512 arrows) (tooMany 2 arrows)) many)),
-      ltb-false 512 arrows (given-none (ltb 512 arrows) (tooMany 2 arrows) (none-right (given (ltb 1024 rows) (tooMany 1 rows)) (given (ltb 512 arrows) (tooMany 2 arrows)) many)),
-    )
+    let many = none-right _ _ e in
+    (ltb-false 1024 rows (given-none _ _ (none-left _ _ many)), ltb-false 512 arrows (given-none _ _ (none-right _ _ many)))

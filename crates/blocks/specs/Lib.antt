@@ -2,3 +2,4 @@ pub mod Fnv
 pub mod Blocks
 pub mod Files
 pub mod Reads
+pub mod Steps

@@ -2,16 +2,14 @@
 use mathlib.Core.Path.{_≡_}
 use mathlib.Core.List.{List}
 use mathlib.Core.Option.{Option, none, some}
-use Prim.Native.Nat.{ℕ, _+_, _*_, _≤_}
+use Prim.Native.Nat.{ℕ, _*_}
 use lib.ListN.{length}
 use Rattle.tables.specs.Search.{orElse}
 use Rattle.tables.specs.Buffers.{written}
 use Rattle.tables.specs.Rows.{rowCount, arrowCount}
 use Rattle.tables.specs.Faults.{countFault, roomFault}
 use Rattle.tables.specs.declared.Refusal.{Refusal}
-use Rattle.blocks.specs.Blocks.{countOf}
-use Rattle.blocks.specs.Files.{blockAt, blockCount, blocksFault, fileFault, boxesIn, containmentsIn, arrowsIn, boxesOf, containmentsOf, arrowsOf}
-use Rattle.blocks.specs.declared.Head.{Head}
+use Rattle.blocks.specs.Files.{blockAt, blockCount, fileFault, boxesIn, containmentsIn, arrowsIn, boxesOf, containmentsOf, arrowsOf}
 use Rattle.blocks.specs.declared.Counts.{Counts}
 use Rattle.blocks.specs.declared.Reading.{Reading}
 use Rattle.blocks.specs.declared.Reading.the-variants.{Tables, Refused}
@@ -26,18 +24,6 @@ countsIn blocks n = record {
 
 abbrev pub countsOf : List ℕ → Counts
 countsOf file = countsIn (blockAt file) (blockCount file)
-
--- no rows
-abbrev pub noCounts : Counts
-noCounts = record { boxes = 0; containments = 0; arrows = 0 }
-
--- the row counts with one block more
-unfoldable pub countsWith : Counts → Head → Counts
-countsWith counts head = record {
-  boxes = counts .boxes + countOf 1 head;
-  containments = counts .containments + countOf 2 head;
-  arrows = counts .arrows + countOf 3 head;
-}
 
 -- 2, then 9, each for the lowest table or buffer: 5 boxes, 6 containments, 7 arrows (numbers to be read)
 unfoldable pub tablesFault : Counts → ℕ → ℕ → ℕ → Option Refusal
@@ -60,26 +46,6 @@ answerOf (some r) counts = Refused r
 abbrev pub endOf : Option Refusal → List ℕ → List ℕ → List ℕ
 endOf none new old = written new old
 endOf (some r) new old = old
-
--- a block's records are no more than a block holds, and each lent table has room for them after the rows so far
-pub record BlockFits (counts : Counts) (head : Head) (boxes rows arrows : ℕ) : Type 0 where
-  pub boxes-count : countOf 1 head ≤ 500
-  pub rows-count : countOf 2 head ≤ 125
-  pub arrows-count : countOf 3 head ≤ 83
-  pub boxes-few : counts .boxes ≤ 32000
-  pub rows-few : counts .containments ≤ 32000
-  pub arrows-few : counts .arrows ≤ 32000
-  pub boxes-room : counts .boxes + countOf 1 head ≤ boxes
-  pub rows-room : 2 * (counts .containments + countOf 2 head) ≤ rows
-  pub arrows-room : 4 * (counts .arrows + countOf 3 head) ≤ arrows
-
--- good blocks, and lent tables that are long enough for what the file says
-pub record Fitting (file : List ℕ) (boxes rows arrows : ℕ) : Type 0 where
-  pub few : blockCount file ≤ 64
-  pub good : blocksFault (blockAt file) (blockCount file) ≡ none
-  pub boxes-fit : countsOf file .boxes ≤ boxes
-  pub rows-fit : 2 * countsOf file .containments ≤ rows
-  pub arrows-fit : 4 * countsOf file .arrows ≤ arrows
 
 -- the answer, and what each table holds at the end
 pub record ReadDone (file boxes rows arrows boxesEnd rowsEnd arrowsEnd : List ℕ) (r : Reading) : Type 0 where

@@ -9,7 +9,8 @@ ghost use Rattle.tables.specs.Refusals.{verdictOf};
 ghost use Rattle.blocks.specs.Fnv.{fnvStart, fnvStep, fnvFold, fnv1a};
 ghost use Rattle.blocks.specs.Blocks.{number16, number32, headOf, byKind, capacity, recordsEnd, boxAt, containmentAt, arrowAt, boxRow, containmentRow, arrowRow, countOf, joined, boxesSaid, containmentsSaid, arrowsSaid, wrongHead, allZero, wrongFiller, blockFault};
 ghost use Rattle.blocks.specs.Files.{blockAt, blockCount, kindBefore, blocksFault, lengthFault, boxesOf, containmentsOf, arrowsOf};
-ghost use Rattle.blocks.specs.Reads.{countsOf, countsWith, noCounts, tablesFault, answerOf, BlockFits, Fitting, ReadDone};
+ghost use Rattle.blocks.specs.Reads.{countsOf, tablesFault, answerOf, ReadDone};
+ghost use Rattle.blocks.specs.Steps.{countsWith, noCounts, BlockFits, Fitting};
 use tables::Refusal;
 use tables::Verdict;
 
@@ -63,27 +64,10 @@ impl Check {
     }
 }
 
-// A file is made of blocks of so many bytes, and has at most so many bytes.
+// A block has so many bytes, and a file at most so many.
 const BLOCK_SIZE: usize = 512;
 
 const FILE_LIMIT: usize = 32768;
-
-// A record of each kind of block.
-pub struct BoxRecord {
-    pub side: u8,
-}
-
-pub struct ContainmentRecord {
-    pub outer: u16,
-    pub inner: u16,
-}
-
-pub struct ArrowRecord {
-    pub tail: u16,
-    pub head: u16,
-    pub mode: u8,
-    pub sign: u8,
-}
 
 fn wide8(x: u8) -> u16
     ensures { λ r. ⌜ r ≡ x ⌝ }
@@ -97,7 +81,7 @@ fn wide16(x: u16) -> u32
     x as u32
 }
 
-fn size_of(x: u16) -> usize
+fn wide(x: u16) -> usize
     ensures { λ r. ⌜ r ≡ x ⌝ }
 {
     x as usize
@@ -119,6 +103,11 @@ pub fn number_of(file: &[u8], block: usize, at: usize) -> u16
     wide8(byte_of(file, block, at)) + 256 * wide8(byte_of(file, block, at + 1))
 }
 
+// A record of a box block.
+pub struct BoxRecord {
+    pub side: u8,
+}
+
 impl BoxRecord {
     pub const KIND: u8 = 1;
 
@@ -138,6 +127,12 @@ impl BoxRecord {
     }
 }
 
+// A record of a containment block.
+pub struct ContainmentRecord {
+    pub outer: u16,
+    pub inner: u16,
+}
+
 impl ContainmentRecord {
     pub const KIND: u8 = 2;
 
@@ -152,10 +147,18 @@ impl ContainmentRecord {
         ensures { λ r. ⌜ r ≡ containmentAt (blockAt (now (file .entry)) block) j ⌝ }
     {
         Self {
-            outer: number_of(file, block, 8 + 4 * j),
-            inner: number_of(file, block, 10 + 4 * j),
+            outer: number_of(file, block, 8 + Self::SIZE * j),
+            inner: number_of(file, block, 10 + Self::SIZE * j),
         }
     }
+}
+
+// A record of an arrow block.
+pub struct ArrowRecord {
+    pub tail: u16,
+    pub head: u16,
+    pub mode: u8,
+    pub sign: u8,
 }
 
 impl ArrowRecord {
@@ -172,10 +175,10 @@ impl ArrowRecord {
         ensures { λ r. ⌜ r ≡ arrowAt (blockAt (now (file .entry)) block) j ⌝ }
     {
         Self {
-            tail: number_of(file, block, 8 + 6 * j),
-            head: number_of(file, block, 10 + 6 * j),
-            mode: byte_of(file, block, 12 + 6 * j),
-            sign: byte_of(file, block, 13 + 6 * j),
+            tail: number_of(file, block, 8 + Self::SIZE * j),
+            head: number_of(file, block, 10 + Self::SIZE * j),
+            mode: byte_of(file, block, 12 + Self::SIZE * j),
+            sign: byte_of(file, block, 13 + Self::SIZE * j),
         }
     }
 }
@@ -207,6 +210,7 @@ pub struct Head {
 }
 
 impl Head {
+    // The head of a block.
     pub fn of(file: &[u8], block: usize) -> Self
         requires { ⌜ block < blockCount (now file) ⌝ }
         ensures { λ r. ⌜ r ≡ headOf (blockAt (now (file .entry)) block) ⌝ }
@@ -226,7 +230,7 @@ impl Head {
         ensures { λ r. ⌜ r ≡ countOf kind self ⌝ }
     {
         if self.kind == kind {
-            return size_of(self.count);
+            return wide(self.count);
         }
         0
     }
@@ -241,7 +245,7 @@ impl Head {
             ContainmentRecord::SIZE,
             ArrowRecord::SIZE,
         );
-        8 + size * size_of(self.count)
+        8 + size * wide(self.count)
     }
 
     // Whether the head is wrong, by the kind of the block before and the block's place in its file.
@@ -260,8 +264,8 @@ impl Head {
             | (self.byte1 != 0)
             | (self.byte6 != 0)
             | (self.byte7 != 0)
-            | (size_of(self.number) != place)
-            | (capacity < size_of(self.count))
+            | (wide(self.number) != place)
+            | (capacity < wide(self.count))
     }
 }
 
@@ -284,15 +288,15 @@ pub fn stored_check(file: &[u8], block: usize) -> u32
     wide16(number_of(file, block, 508)) + 65536 * wide16(number_of(file, block, 510))
 }
 
+// Whether all bytes are zero. It looks at each, so that the compiler may take many at a time.
 fn all_zero(s: &[u8]) -> bool
     ensures { λ r. ⌜ r ≡ allZero (now (s .entry)) ⌝ }
 {
+    let mut any = 0u8;
     for i in 0..s.len() {
-        if s[i] != 0 {
-            return false;
-        }
+        any = any | s[i];
     }
-    true
+    any == 0
 }
 
 // Whether a byte from the records' end to byte 507 is not zero.

@@ -6,7 +6,7 @@ use borrow.Author.Needs.{needs}
 use Rattle.tables.proofs.Verdicts.{passed, refused}
 use Rattle.blocks.specs.Reads.{countsOf}
 use Rattle.blocks.specs.Files.{blockAt, blockCount, lengthFault, blocksFault}
-use Rattle.blocks.proofs.Order.{answer-tables, answer-refused, short-enough, by-length, by-blocks, by-tables, fitting, read-refused, read-done}
+use Rattle.blocks.proofs.Order.{answer-tables, answer-refused, length-whole, by-length, by-blocks, by-tables, fitting, read-refused, read-done}
 use Rattle.blocks.proofs.read.Statement.{statement}
 use Rattle.blocks.proofs.read.Tie as tie
 
@@ -33,7 +33,7 @@ enum-told : tie.Need-enum-told
 enum-told c = search needs
 
 check-blocks-requires : tie.Need-check-blocks-requires
-check-blocks-requires c κs = short-enough _ (whole c)
+check-blocks-requires c κs = length-whole _ (whole c) .1
 
 enum-known-blocks : tie.Need-enum-known-blocks
 enum-known-blocks c = search needs

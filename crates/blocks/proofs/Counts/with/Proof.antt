@@ -1,7 +1,7 @@
 -- Each count grows by the block's records of its kind, which are at most 65,535. Assumes nothing.
 use native.Mathlib.Omega.{arith}
 use borrow.Author.Needs.{needs}
-use Rattle.blocks.specs.Reads.{countsWith}
+use Rattle.blocks.specs.Steps.{countsWith}
 use Rattle.blocks.proofs.Heads.{count-most}
 use Rattle.blocks.proofs.Counts.with.Statement.{statement}
 use Rattle.blocks.proofs.Counts.with.Tie as tie

@@ -11,10 +11,10 @@ use Rattle.blocks.proofs.Head.records_end.Tie as tie
 by-kind-requires : tie.Need-by-kind-requires
 by-kind-requires c κs = search needs
 
-size-of-requires : tie.Need-size-of-requires
-size-of-requires c κs = search needs
+wide-requires : tie.Need-wide-requires
+wide-requires c κs = search needs
 
-product : (c : tie.After-size-of) → c .before .by-kind .result * c .size-of .result < 2 ^ 32
+product : (c : tie.After-wide) → c .before .by-kind .result * c .wide .result < 2 ^ 32
 product c = below 16 (rw (c .before .by-kind .ensures) (omega (arith, by-kind-most (c .before .before .args .self .kind) 1 4 6 6 (omega arith) (omega arith) (omega arith)))) (search needs)
 
 mul-result : tie.Need-mul-result
@@ -25,8 +25,8 @@ add-result c = let p = product c in omega arith
 
 returns : tie.Need-returns
 unfolding recordsEnd recordSize
-returns c = rw (c .size-of .ensures, c .before .by-kind .ensures)
+returns c = rw (c .wide .ensures, c .before .by-kind .ensures)
 
 pub records-end-spec : {M : Type 1} → statement M
 records-end-spec =
-    tie.close (tie.spec by-kind-requires size-of-requires mul-result add-result returns)
+    tie.close (tie.spec by-kind-requires wide-requires mul-result add-result returns)
