@@ -12,20 +12,19 @@ pub byte-at : (file : List ℕ) (k at : ℕ) → at < 512 → getD (blockAt file
 unfolding blockAt
 byte-at file k at h = rw (getD-take, getD-drop)
 
--- the bytes that the check covers
-pub covered-part : (file : List ℕ) (k : ℕ) → take 508 (blockAt file k) ≡ take 508 (drop (512 * k) file)
-unfolding blockAt
-covered-part file k = take-take 508 512 (drop (512 * k) file) (omega arith)
-
-pub drop-take : (m n : ℕ) (l : List ℕ) → drop m (take n l) ≡ take (n - m) (drop m l)
+drop-take : (m n : ℕ) (l : List ℕ) → drop m (take n l) ≡ take (n - m) (drop m l)
 drop-take zero n l = rw sub-zero
 drop-take (suc m) zero l = rw zero-sub
 drop-take (suc m) (suc n) [] = rw take-nil
 drop-take (suc m) (suc n) (x ∷ l) = rw suc-sub-suc (drop-take m n l)
 
--- and those of them from a byte on
-pub covered-from : (file : List ℕ) (k e : ℕ) → drop e (take 508 (blockAt file k)) ≡ take (508 - e) (drop (512 * k + e) file)
-covered-from file k e = rw (covered-part, drop-take, drop-drop)
+-- the bytes from e on of those that the check covers
+pub covered-from : (file : List ℕ) (k e from to : ℕ) → from ≡ 512 * k + e → to ≡ 512 * k + 508
+    → take (to - from) (drop from file) ≡ drop e (take 508 (blockAt file k))
+unfolding blockAt
+covered-from file k e from to p q =
+    let w : 512 * k + 508 - (512 * k + e) ≡ 508 - e = omega arith in
+    rw (p, q, w, take-take 508 512 (drop (512 * k) file) (omega arith), drop-take, drop-drop)
 
 pub covered-none : (file : List ℕ) (k e : ℕ) → 508 < e → drop e (take 508 (blockAt file k)) ≡ []
 covered-none file k e h = drop-of-length-le (take 508 (blockAt file k)) {i = e} (simp length-take (omega arith))

@@ -1,4 +1,4 @@
--- What the inner functions of reading promise each other. No promise of a function that others call rests on it alone.
+-- What the inner functions of reading ask of and promise each other; no promise of a pub function names it.
 -- Assumes nothing.
 use mathlib.Core.Path.{_≡_}
 use mathlib.Core.List.{List}

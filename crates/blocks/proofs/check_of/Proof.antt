@@ -1,10 +1,10 @@
 -- The part that is folded is the block's first 508 bytes. Assumes nothing.
-use mathlib.Core.Path.{_≡_}
-use Prim.Native.Nat.{_+_, _*_, _-_}
+use mathlib.Core.Path.{ap}
+use Prim.Native.Nat.{_+_, _*_}
 use native.Mathlib.Omega.{arith}
 use borrow.Author.Needs.{needs}
-use Rattle.blocks.specs.Fnv.{fnv1a}
-use Rattle.blocks.proofs.Parts.{covered-part}
+use Rattle.blocks.specs.Fnv.{fnvStart, fnvFold, fnv1a}
+use Rattle.blocks.proofs.Parts.{covered-from}
 use Rattle.blocks.proofs.check_of.Statement.{statement}
 use Rattle.blocks.proofs.check_of.Tie as tie
 
@@ -32,8 +32,8 @@ part-requires c κs = search needs
 returns : tie.Need-returns
 unfolding fnv1a
 returns c = let a = c .before .before .before .before .args in
-    let w : 512 * a .block + 508 - 512 * a .block ≡ 508 = omega arith in
-    rw (c .part .ensures, w, c .before .before .fresh .ensures, covered-part)
+    rw (c .part .ensures, c .before .before .fresh .ensures)
+    (ap (fnvFold fnvStart) (covered-from (a .file .now) (a .block) 0 (512 * a .block) (512 * a .block + 508) (omega arith) (omega arith)))
 
 pub check-of-spec : {M : Type 1} → statement M
 check-of-spec =

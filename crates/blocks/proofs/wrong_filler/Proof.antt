@@ -1,6 +1,8 @@
 -- The part that is looked at is the filler; records that end beyond byte 508 leave none. Assumes nothing.
-use mathlib.Core.Path.{_≡_}
-use Prim.Native.Nat.{_<_, _+_, _*_, _-_}
+use mathlib.Core.List.{List}
+use mathlib.Core.Bool.{not}
+use mathlib.Core.Path.{ap}
+use Prim.Native.Nat.{ℕ, _<_, _+_, _*_}
 use native.Mathlib.Omega.{arith}
 use borrow.Author.Needs.{needs}
 use Rattle.blocks.specs.Blocks.{wrongFiller, allZero}
@@ -44,9 +46,9 @@ all-zero-requires c κs = search needs
 returns-2 : tie.Need-returns-2
 unfolding wrongFiller
 returns-2 c = let a = c .before .before .before .before .before .args in
-    let e = c .before .before .before .records-end .result in
-    let w : 512 * a .block + 508 - (512 * a .block + e) ≡ 508 - e = omega arith in
-    rw (c .all-zero .ensures, ← c .before .before .before .records-end .ensures, covered-from, w)
+    let e = c .before .before .before .records-end in
+    rw (c .all-zero .ensures, ← e .ensures)
+    (ap (λ (filler : List ℕ). not (allZero filler)) (covered-from (a .file .now) (a .block) (e .result) (512 * a .block + e .result) (512 * a .block + 508) (omega arith) (omega arith)))
 
 pub wrong-filler-spec : {M : Type 1} → statement M
 wrong-filler-spec =
