@@ -2,9 +2,10 @@
 """Cases for the program block_cases, and what it should write.
 
 The reader here is written from document 01, "Block files" and "The disk", apart from the Rattle code.
-usage: tests/block_cases.py    (writes crates/block_cases/stdin and crates/block_cases/stdout)
+usage: tests/block_cases.py [--check]    writes crates/block_cases/stdin and stdout; --check only compares them
 """
 import pathlib
+import sys
 
 CAPACITY = {1: 500, 2: 125, 3: 83}
 SIZE = {1: 1, 2: 4, 3: 6}
@@ -243,8 +244,11 @@ case("lowest-buffer", B, (3, 3, 7))
 case("no-room-needed", block(1, 0, []), (0, 0, 0))
 
 here = pathlib.Path(__file__).resolve().parent.parent / "crates" / "block_cases"
-text = "\n".join(CASES) + "\n"
-assert len(text) < 65536
-(here / "stdin").write_text(text)
-(here / "stdout").write_text("\n".join(EXPECTED) + "\n")
-print(len(CASES), "cases,", len(text), "bytes")
+files = {"stdin": "\n".join(CASES) + "\n", "stdout": "\n".join(EXPECTED) + "\n"}
+assert len(files["stdin"]) < 65536
+for name, text in files.items():
+    if "--check" not in sys.argv[1:]:
+        (here / name).write_text(text)
+    elif (here / name).read_text() != text:
+        sys.exit(f"block_cases.py: {name} is not what it makes")
+print(len(CASES), "cases")
