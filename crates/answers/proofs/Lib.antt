@@ -3,3 +3,5 @@ pub mod AnswerLaws
 pub mod PairLaws
 mod Keep
 pub mod AmongLaws
+pub mod ReadyLaws
+pub mod CallLaws

@@ -31,7 +31,7 @@ atoms-of-requires-2 c κs = search needs
 
 -- src/lib.rt:373:5
 mul-result : tie.Need-mul-result
-mul-result c =     let start = c .before .before .before .before .before .before .before .before .before in
+mul-result c = let start = c .before .before .before .before .before .before .before .before .before in
     rw (c .before .before .before .before .atoms-of .ensures .0, c .before .atoms-of2 .ensures .0) (omega (arith, few-pairs (start .args .boxes .now) (start .args .rows .now) (start .pre .few-boxes)))
 
 -- src/lib.rt:366:1
