@@ -5,3 +5,5 @@ mod Keep
 pub mod AmongLaws
 pub mod ModeLaws
 pub mod GrantLaws
+pub mod ReadyLaws
+pub mod CallLaws
