@@ -274,12 +274,20 @@ fn put_tables(c: Counts, boxes: &[u8], rows: &[u16], arrows: &[u16], scratch: &m
     let nb = c.boxes;
     let nr = c.containments;
     let na = c.arrows;
-    if nb <= boxes.len() && nr <= rows.len() / 2 && na <= arrows.len() / 4 {
-        let er = 2 * nr;
-        let ea = 4 * na;
-        return put_picture(&boxes[..nb], &rows[..er], &arrows[..ea], scratch, out);
+    let most_rows = rows.len() / 2;
+    let most_arrows = arrows.len() / 4;
+    if boxes.len() < nb {
+        return 0;
     }
-    0
+    if most_rows < nr {
+        return 0;
+    }
+    if most_arrows < na {
+        return 0;
+    }
+    let er = 2 * nr;
+    let ea = 4 * na;
+    put_picture(&boxes[..nb], &rows[..er], &arrows[..ea], scratch, out)
 }
 
 fn main() {
