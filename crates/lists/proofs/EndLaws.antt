@@ -1,5 +1,5 @@
 -- How the call ends: at checks 1 to 9, at check 10, or with what follows it. Assumes nothing.
-use mathlib.Core.Path.{_≡_, refl, sym, ap, _∙_}
+use mathlib.Core.Path.{_≡_, refl, ap, _∙_}
 use mathlib.Core.List.{List}
 use mathlib.Core.Option.{Option, none, some}
 use Prim.Native.Nat.{ℕ, _*_, _≤_}
@@ -9,16 +9,15 @@ use Rattle.tables.specs.Atoms.{pairCount}
 use Rattle.tables.specs.Refusals.{verdictOf, either}
 use Rattle.tables.specs.Faults.{tableFault, modeFault, roomFault}
 use Rattle.tables.specs.declared.Refusal.{Refusal}
-use Rattle.tables.proofs.TableLaws.{both-none, room-passed}
-use Rattle.tables.proofs.Verdicts.{either-verdict, orElse-assoc}
 use Rattle.containment.specs.Contains.{loopFault}
 use Rattle.containment.specs.Scratch.{scratchFault, scratchAfter, filled}
-use Rattle.containment.proofs.ScratchLaws.{scratch-room}
-use Rattle.answers.specs.Among.{modeArrows}
 use Rattle.answers.specs.Calls.{unlessRefused}
 use Rattle.lists.specs.Calls.{listRoom, listEarly, listLate, Listing, Outcome}
 use Rattle.lists.specs.declared.Listed.{Listed}
 use Rattle.lists.specs.declared.Listed.the-variants.{Refused}
+use Rattle.tables.proofs.TableLaws.{both-none, room-passed}
+use Rattle.tables.proofs.Verdicts.{either-verdict, orElse-assoc}
+use Rattle.containment.proofs.ScratchLaws.{scratch-room}
 
 module _ (boxes rows arrows : List ℕ) (m : ℕ) (s out work : List ℕ) where
   -- checks 8 and 9

@@ -1,46 +1,39 @@
-use Rattle.lists.proofs.PlaceLaws.{place-there, user-read, file-read, user-there, file-there, few-rows}
-use Rattle.answers.proofs.ModeLaws.{answer-at}
-use Rattle.lists.specs.declared.Cell.{Cell}
-use lib.ListN.{length, getD}
-use Prim.Native.Nat.{ℕ, _/_, _%_, _<_}
-use mathlib.Core.Path.{_≡_, sym, ap, _∙_}
+-- `lists::answer_cell` meets its contract: the pair is read by its row and column. Assumes nothing.
+use mathlib.Core.Path.{_≡_, ap, _∙_}
+use Prim.Native.Nat.{_/_, _%_}
 use native.Mathlib.Omega.{arith}
 use borrow.Author.Needs.{needs}
+use lib.ListN.{length}
+use Rattle.lists.specs.declared.Cell.{Cell}
+use Rattle.lists.proofs.PlaceLaws.{place-there, user-read, file-read, user-there, file-there, few-rows}
+use Rattle.answers.proofs.ModeLaws.{answer-at}
 use Rattle.lists.proofs.answer_cell.Statement.{statement}
 use Rattle.lists.proofs.answer_cell.Tie as tie
-use Rattle.lists.proofs.answer_cell.Reads as reads
-use Rattle.lists.proofs.answer_cell.Lts as lts
-use Rattle.answers.proofs.answer_among.Reads as answer-among-reads
 
--- src/lib.rt:430:13
 mul-u : tie.Need-mul-u
 mul-u c = let s = c .before .before .before .before .before .before .before .before .before in
     let a = s .args in
     let row : a .at .row ≡ a .p / length (a .files .now) = ap (λ (x : Cell). x .row) (s .pre .1 .1) in
     omega (arith, few-rows (a .boxes .now) (a .rows .now) (a .users .now) (a .files .now) (a .pairs) (s .pre .0 .1) (a .p) (s .pre .1 .0))
 
--- src/lib.rt:430:13
 shared-slice-read-u : tie.Need-shared-slice-read-u
 shared-slice-read-u c = let s = c .before .before .before .before .before .before .before .before .before .before in
     let a = s .args in
     let row : a .at .row ≡ a .p / length (a .files .now) = ap (λ (x : Cell). x .row) (s .pre .1 .1) in
     omega (arith, place-there (a .boxes .now) (a .rows .now) (a .users .now) (a .files .now) (a .pairs) (s .pre .0 .1) (a .p) (s .pre .1 .0))
 
--- src/lib.rt:431:13
 mul-f : tie.Need-mul-f
 mul-f c = let s = c .before .before .before .before .before .before .before .before .before .before in
     let a = s .args in
     let col : a .at .col ≡ a .p % length (a .files .now) = ap (λ (x : Cell). x .col) (s .pre .1 .1) in
     omega (arith, place-there (a .boxes .now) (a .rows .now) (a .users .now) (a .files .now) (a .pairs) (s .pre .0 .1) (a .p) (s .pre .1 .0))
 
--- src/lib.rt:431:13
 shared-slice-read-f : tie.Need-shared-slice-read-f
 shared-slice-read-f c = let s = c .before .before .before .before .before .before .before .before .before .before .before in
     let a = s .args in
     let col : a .at .col ≡ a .p % length (a .files .now) = ap (λ (x : Cell). x .col) (s .pre .1 .1) in
     omega (arith, place-there (a .boxes .now) (a .rows .now) (a .users .now) (a .files .now) (a .pairs) (s .pre .0 .1) (a .p) (s .pre .1 .0))
 
--- src/lib.rt:432:5
 answer-among-requires : tie.Need-answer-among-requires
 answer-among-requires c κs = let s = c .before .before .before .before .before .before .before .before .before .before .before .before .before in
     let a = s .args in
@@ -50,15 +43,12 @@ answer-among-requires c κs = let s = c .before .before .before .before .before 
     let f = file-read (a .boxes .now) (a .rows .now) (a .users .now) (a .files .now) (a .pairs) (s .pre .0 .1) (a .p) (s .pre .1 .0) in
     (s .pre .0 .0, s .pre .0 .2 .within, s .pre .0 .3, rw (row, u) (user-there (a .boxes .now) (a .rows .now) (a .users .now) (a .files .now) (a .pairs) (s .pre .0 .1) (a .p) (s .pre .1 .0)), rw (col, f) (file-there (a .boxes .now) (a .rows .now) (a .users .now) (a .files .now) (a .pairs) (s .pre .0 .1) (a .p) (s .pre .1 .0)), s .pre .1 .2, s .pre .1 .3)
 
--- src/lib.rt:409:1
 same-length : tie.Need-same-length
 same-length c = search needs
 
--- src/lib.rt:409:1
 same-length-2 : tie.Need-same-length-2
 same-length-2 c = search needs
 
--- src/lib.rt:409:1
 returns : tie.Need-returns
 returns c = let s = c .before .before .before .before .before .before .before .before .before .before .before .before .before .before .before .before .before .before in
     let a = s .args in
