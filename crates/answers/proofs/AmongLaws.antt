@@ -26,6 +26,14 @@ use Rattle.answers.proofs.AnswerLaws.{overrides-asym, certifies-hits, c
 unfoldable pub reachesAt : List ℕ → List ℕ → ℕ → ℕ → ℕ → ℕ → Bool
 reachesAt rows arrows s u f k = reachesBy rows s u f (arrowAt arrows k)
 
+pub mode-most : (arrows : List ℕ) (m : ℕ) → length (modeArrows arrows m) ≤ arrowCount arrows
+unfolding modeArrows
+mode-most arrows m = select-most (hasMode arrows m) (arrowCount arrows)
+
+pub mode-numbers : (arrows : List ℕ) (m : ℕ) → Numbers arrows (modeArrows arrows m)
+unfolding modeArrows
+mode-numbers arrows m i h = select-found _ (arrowCount arrows) i h .0
+
 module _ (rows arrows : List ℕ) where
   -- the arrows that reach a pair, out of the mode's arrows
   pub reaching-keep : (m s u f : ℕ) → reaching rows arrows m s u f ≡ keep (reachesAt rows arrows s u f) (modeArrows arrows m)
@@ -35,14 +43,6 @@ module _ (rows arrows : List ℕ) where
 
   pub reaching-most : (m s u f : ℕ) → length (reaching rows arrows m s u f) ≤ length (modeArrows arrows m)
   reaching-most m s u f = rw (reaching-keep m s u f) (keep-most (reachesAt rows arrows s u f) (modeArrows arrows m))
-
-  pub mode-most : (m : ℕ) → length (modeArrows arrows m) ≤ arrowCount arrows
-  unfolding modeArrows
-  mode-most m = select-most (hasMode arrows m) (arrowCount arrows)
-
-  pub mode-numbers : (m : ℕ) → Numbers arrows (modeArrows arrows m)
-  unfolding modeArrows
-  mode-numbers m i h = select-found _ (arrowCount arrows) i h .0
 
   pub reaching-numbers : (m s u f : ℕ) → Numbers arrows (reaching rows arrows m s u f)
   unfolding reaching

@@ -3,5 +3,7 @@ pub mod AnswerLaws
 pub mod PairLaws
 mod Keep
 pub mod AmongLaws
+pub mod ReadyLaws
+pub mod CallLaws
 pub mod ModeLaws
 pub mod GrantLaws

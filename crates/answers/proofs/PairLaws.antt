@@ -1,7 +1,7 @@
 -- The pairs by their places, and the first at which a test holds, by user, then file. Assumes nothing.
-use mathlib.Core.Path.{_≡_, sym, ap, subst, _∙_}
+use mathlib.Core.Path.{_≡_, refl, sym, ap, subst, _∙_}
 use mathlib.Core.Logic.{_⊎_, ⊎-elim}
-use mathlib.Core.Bool.{Bool}
+use mathlib.Core.Bool.{Bool, true, false}
 use mathlib.Core.List.{List}
 use mathlib.Core.Option.{Option, none, some}
 use Prim.Native.Nat.{ℕ, _+_, _*_, _/_, _%_, _<_, _≤_}
@@ -12,11 +12,14 @@ use lib.ListN.{length, getD}
 use Rattle.tables.specs.Search.{given, first}
 use Rattle.tables.specs.Rows.{user, file}
 use Rattle.tables.specs.Atoms.{atom, atoms, pairCount}
+use Rattle.tables.specs.Refusals.{unclearPair}
 use Rattle.tables.specs.declared.Refusal.{Refusal}
-use Rattle.tables.proofs.SearchLaws.{first-none, first-some, given-some, given-none}
+use Rattle.tables.proofs.SearchLaws.{first-none, first-some, given-some, given-none, given-true, given-false}
 use Rattle.tables.proofs.AtomPlaces.{atoms-found, atoms-has, atoms-before, atoms-same, atoms-most}
 use Rattle.containment.proofs.Index.{in-table, at-div, at-mod, place, row-step}
-use Rattle.answers.specs.Pairs.{userAt, fileAt, firstPair}
+use Rattle.answers.specs.Among.{Ready}
+use Rattle.answers.specs.Pairs.{userAt, fileAt, firstPair, answerAt, unclearFault}
+use Rattle.answers.specs.Meaning.{isUnclear}
 
 -- a place of a table of m rows of n: its row and its column
 pub place-in : (m n p : ℕ) → p < m * n → (p / n < m) × (p % n < n)
@@ -68,6 +71,13 @@ module _ (boxes rows : List ℕ) where
     pub place-there : p < pairCount boxes rows → (p / length fs < length us) × (p % length fs < length fs)
     unfolding pairCount
     place-there h = rw (eu, ef) (place-in _ _ p h)
+
+    pub pairs-are : length us * length fs ≡ pairCount boxes rows
+    unfolding pairCount
+    pairs-are = rw (eu, ef)
+
+    pub pairs-fit : length boxes ≤ 256 → length us * length fs ≤ 65536
+    pairs-fit h = rw (eu, ef) (few-pairs h)
 
     pub user-read : getD us (p / length fs) 0 ≡ userAt boxes rows p
     unfolding userAt
@@ -127,3 +137,26 @@ module _ (boxes rows : List ℕ) where
                 (rw (q .2, q .3) h);
           },
         )
+
+-- the loop that looks for the first unclear pair of a mode
+module _ (boxes rows arrows : List ℕ) (m : ℕ) where
+  unfoldable pub unclearAt : ℕ → Option Refusal
+  unclearAt p = given (isUnclear (answerAt boxes rows arrows m p)) (unclearPair m (userAt boxes rows p) (fileAt boxes rows p))
+
+  pub unclear-none : (p : ℕ) → isUnclear (answerAt boxes rows arrows m p) ≡ false → unclearAt p ≡ none
+  unfolding unclearAt
+  unclear-none p e = given-false _ _ e
+
+  pub unclear-some : (p : ℕ) → isUnclear (answerAt boxes rows arrows m p) ≡ true
+      → unclearAt p ≡ some (unclearPair m (userAt boxes rows p) (fileAt boxes rows p))
+  unfolding unclearAt
+  unclear-some p e = given-true _ _ e
+
+  pub unclear-is : unclearFault boxes rows arrows m ≡ first unclearAt (pairCount boxes rows)
+  unfolding unclearFault firstPair answerAt unclearAt
+  unclear-is = refl
+
+-- the walk over all pairs keeps what it was given
+pub still-ready : {boxes rows scratch arrows : List ℕ} {m : ℕ} {own users files : List ℕ} {ps ns ps′ ns′ : ℕ}
+    → Ready boxes rows scratch arrows m own users files ps ns → ps′ ≡ ps → ns′ ≡ ns → Ready boxes rows scratch arrows m own users files ps′ ns′
+still-ready r e i = rw (e, i) r

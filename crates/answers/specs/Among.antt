@@ -1,13 +1,16 @@
 -- How the code goes about an answer: the mode's arrows, those of them that reach the pair, and tests over such lists of arrow
 -- numbers. Assumes nothing.
+use mathlib.Core.Path.{_≡_}
 use mathlib.Core.Bool.{Bool, _&&_}
 use mathlib.Core.List.{List}
-use Prim.Native.Nat.{ℕ, _<_}
+use Prim.Native.Nat.{ℕ, _<_, _≤_}
 use lib.Dec.{T, eqb}
 use lib.ListN.{length, getD}
 use Rattle.tables.specs.Search.{every, select}
-use Rattle.tables.specs.Rows.{arrowCount, arrowAt}
+use Rattle.tables.specs.Rows.{user, file, arrowCount, arrowAt}
+use Rattle.tables.specs.Atoms.{atoms}
 use Rattle.tables.specs.declared.Arrow.{Arrow}
+use Rattle.containment.specs.Scratch.{Says}
 use Rattle.answers.specs.Meaning.{reaches, overrides, hits}
 
 -- the numbers of the arrows of mode m, rising
@@ -50,3 +53,15 @@ NoneBefore rows arrows ps ns r = (k : ℕ) → k < r → T (wins rows arrows ps 
 pub record FirstAt (p : ℕ → Bool) (n r : ℕ) : Type 0 where
   pub none-before : (k : ℕ) → k < r → T (p k) → ⊥
   pub holds : r < n → T (p r)
+
+-- what a walk over all pairs of a mode is given: a filled scratch, sound arrows, the mode's arrows, the atomic boxes, and two
+-- buffers of so many places for the arrows that reach a pair
+pub record Ready (boxes rows scratch arrows : List ℕ) (mode : ℕ) (own users files : List ℕ) (positives negatives : ℕ) : Type 0 where
+  pub says : Says (length boxes) rows scratch
+  pub within : Within (length boxes) arrows
+  pub own-are : own ≡ modeArrows arrows mode
+  pub users-are : users ≡ atoms boxes rows user
+  pub files-are : files ≡ atoms boxes rows file
+  pub few-boxes : length boxes ≤ 256
+  pub positive-room : length own ≤ positives
+  pub negative-room : length own ≤ negatives

@@ -15,7 +15,7 @@ use Rattle.tables.specs.declared.Refusal.{Refusal}
 use Rattle.containment.specs.Contains.{contains, around, loopFault}
 use Rattle.containment.specs.Scratch.{scratchFault, earlyFault, pictureFault}
 use Rattle.answers.specs.Meaning.{reaches, nests, level, overrides, settle, hits, certifies, answer, byteOf, numberOf, isUnclear}
-use Rattle.answers.specs.Pairs.{userAt, fileAt, firstPair, answerAt, matrixBytes, matrixNumbers, unclearFault, anyUnclear}
+use Rattle.answers.specs.Pairs.{userAt, fileAt, firstPair, answerAt, byteAt, numberAt, matrixBytes, matrixNumbers, unclearFault, anyUnclear}
 use Rattle.answers.specs.Calls.{askedFault, replyOf, entryEarly, entryFault, judgeFault}
 use Rattle.answers.specs.declared.Entry.the-variants.{Granted, Denied, Default, Unclear}
 use Rattle.answers.specs.declared.Reply.{Reply}
@@ -196,5 +196,5 @@ table =
     ∷ []
 
 pub table-right : map compute table ≡ table
-unfolding compute table picture-A picture-B picture-C picture-D picture-E picture-F picture-G picture-H picture-I picture-J orElse given first lowest every select build written sideOf onSide outer atom atoms pairCount raggedFault countFault byteFault namesNoBox acrossSides wrongEnds wrongMode rowFault tableFault modeFault roomFault contains around loopFault scratchFault earlyFault pictureFault reaches nests level overrides settle hits certifies answer byteOf numberOf isUnclear userAt fileAt firstPair answerAt matrixBytes matrixNumbers unclearFault anyUnclear askedFault replyOf entryEarly entryFault judgeFault
+unfolding compute table picture-A picture-B picture-C picture-D picture-E picture-F picture-G picture-H picture-I picture-J orElse given first lowest every select build written sideOf onSide outer atom atoms pairCount raggedFault countFault byteFault namesNoBox acrossSides wrongEnds wrongMode rowFault tableFault modeFault roomFault contains around loopFault scratchFault earlyFault pictureFault reaches nests level overrides settle hits certifies answer byteOf numberOf isUnclear userAt fileAt firstPair answerAt byteAt numberAt matrixBytes matrixNumbers unclearFault anyUnclear askedFault replyOf entryEarly entryFault judgeFault
 table-right = refl

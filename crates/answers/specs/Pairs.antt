@@ -31,11 +31,17 @@ module _ (boxes rows arrows : List ℕ) where
   answerAt m p = answer rows arrows m (userAt boxes rows p) (fileAt boxes rows p)
 
   -- the matrix of mode m: a byte and a number for each pair
+  unfoldable pub byteAt : ℕ → ℕ → ℕ
+  byteAt m p = byteOf (answerAt m p)
+
+  unfoldable pub numberAt : ℕ → ℕ → ℕ
+  numberAt m p = numberOf (answerAt m p)
+
   unfoldable pub matrixBytes : ℕ → List ℕ
-  matrixBytes m = build (λ p. byteOf (answerAt m p)) (pairCount boxes rows)
+  matrixBytes m = build (byteAt m) (pairCount boxes rows)
 
   unfoldable pub matrixNumbers : ℕ → List ℕ
-  matrixNumbers m = build (λ p. numberOf (answerAt m p)) (pairCount boxes rows)
+  matrixNumbers m = build (numberAt m) (pairCount boxes rows)
 
   -- 12: the mode has an unclear pair; the first, by user, then file
   unfoldable pub unclearFault : ℕ → Option Refusal

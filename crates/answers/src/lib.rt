@@ -1,25 +1,33 @@
 // The answers: one entry, the judge, the matrix of a mode.
 ghost use mathlib.Core.Path.{_≡_};
+ghost use mathlib.Core.Bool.{_&&_};
 ghost use mathlib.Core.List.{List};
-ghost use Prim.Native.Nat.{ℕ, _<_, _≤_};
+ghost use Prim.Native.Nat.{ℕ, _%_, _<_, _≤_};
 ghost use lib.Dec.{T};
 ghost use lib.ListN.{length, getD};
 ghost use Rattle.tables.specs.Rows.{user, file, arrowAt, arrowCount};
-ghost use Rattle.tables.specs.Atoms.{atoms, pairCount};
+ghost use Rattle.tables.specs.Atoms.{atom, atoms, pairCount};
 ghost use Rattle.tables.specs.Faults.{SoundRows, SoundArrows};
 ghost use Rattle.tables.specs.Refusals.{verdictOf};
 ghost use Rattle.tables.specs.Buffers.{written, zeros};
 ghost use Rattle.containment.specs.Contains.{around};
-ghost use Rattle.containment.specs.Scratch.{Says};
+ghost use Rattle.containment.specs.Scratch.{Says, scratchAfter, earlyFault};
 ghost use Rattle.answers.specs.Meaning.{positive, negative, reaches, nests, overrides, answer, byteOf, numberOf, isUnclear, grantingOf};
-ghost use Rattle.answers.specs.Pairs.{answerAt, matrixBytes, matrixNumbers, unclearFault, anyUnclear};
-ghost use Rattle.answers.specs.Among.{modeArrows, reachesBy, reaching, overridesAll, Within, Numbers, FirstAt, wins, NoneBefore};
+ghost use Rattle.answers.specs.Pairs.{userAt, fileAt, answerAt, matrixBytes, matrixNumbers, unclearFault, anyUnclear};
+ghost use Rattle.answers.specs.Calls.{askedFault, replyOf, entryEarly, entryFault, judgeFault, matrixEarly, matrixFault, bytesAfter, numbersAfter};
+ghost use Rattle.answers.specs.Among.{modeArrows, reachesBy, reaching, overridesAll, Within, Numbers, FirstAt, wins, NoneBefore, Ready};
+use containment::check_scratch;
+use containment::contain;
 use containment::does_contain;
+use containment::prepare;
 use tables::Arrow;
 use tables::BoxRow;
 use tables::Refusal;
 use tables::Verdict;
 use tables::atoms_of;
+use tables::check_mode;
+use tables::check_room;
+use tables::is_atom;
 use tables::narrow;
 use tables::wide;
 
@@ -373,6 +381,24 @@ pub fn pair_count(boxes: &[u8], rows: &[u16]) -> usize
     users * files
 }
 
+// A pair.
+pub struct Pair {
+    pub user: u16,
+    pub file: u16,
+}
+
+// The pair at place p, by the lists of the atomic boxes.
+pub fn pair_at(boxes: &[u8], rows: &[u16], users: &[u16], files: &[u16], p: usize) -> Pair
+    requires { ⌜ (now users ≡ atoms (now boxes) (now rows) user) × (now files ≡ atoms (now boxes) (now rows) file) × (p < pairCount (now boxes) (now rows)) ⌝ }
+    ensures { λ r. ⌜ (r .user ≡ userAt (now (boxes .entry)) (now (rows .entry)) p) × (r .file ≡ fileAt (now (boxes .entry)) (now (rows .entry)) p) ⌝ }
+{
+    let columns = files.len();
+    Pair {
+        user: users[p / columns],
+        file: files[p % columns],
+    }
+}
+
 // The answer for the pair at place p.
 fn answer_at(
     boxes: &[u8],
@@ -387,11 +413,260 @@ fn answer_at(
     ps: &mut [u16],
     ns: &mut [u16],
 ) -> Entry
-    requires { ⌜ Says (length (now boxes)) (now rows) (now scratch) × Within (length (now boxes)) (now arrows) × (now own ≡ modeArrows (now arrows) mode) × (now users ≡ atoms (now boxes) (now rows) user) × (now files ≡ atoms (now boxes) (now rows) file) × (p < pairCount (now boxes) (now rows)) × (length (now own) ≤ length (now ps)) × (length (now own) ≤ length (now ns)) ⌝ }
+    requires { ⌜ Ready (now boxes) (now rows) (now scratch) (now arrows) mode (now own) (now users) (now files) (length (now ps)) (length (now ns)) × (p < pairCount (now boxes) (now rows)) ⌝ }
     ensures { λ r. ⌜ r ≡ answerAt (now (boxes .entry)) (now (rows .entry)) (now (arrows .entry)) mode p ⌝ }
 {
-    let columns = files.len();
-    let u = users[p / columns];
-    let f = files[p % columns];
-    answer_among(boxes.len(), rows, scratch, arrows, mode, own, u, f, ps, ns)
+    let pair = pair_at(boxes, rows, users, files, p);
+    answer_among(
+        boxes.len(),
+        rows,
+        scratch,
+        arrows,
+        mode,
+        own,
+        pair.user,
+        pair.file,
+        ps,
+        ns,
+    )
+}
+
+// Check 12 for a mode, by the mode's arrows and the atomic boxes.
+fn first_unclear(
+    boxes: &[u8],
+    rows: &[u16],
+    scratch: &[u8],
+    arrows: &[u16],
+    mode: u16,
+    own: &[u16],
+    users: &[u16],
+    files: &[u16],
+    ps: &mut [u16],
+    ns: &mut [u16],
+) -> Verdict
+    requires { ⌜ Ready (now boxes) (now rows) (now scratch) (now arrows) mode (now own) (now users) (now files) (length (now ps)) (length (now ns)) ⌝ }
+    ensures { λ r. ⌜ r ≡ verdictOf (unclearFault (now (boxes .entry)) (now (rows .entry)) (now (arrows .entry)) mode) ⌝ }
+{
+    for p in 0..users.len() * files.len() {
+        let e = answer_at(
+            boxes,
+            rows,
+            scratch,
+            arrows,
+            mode,
+            own,
+            users,
+            files,
+            p,
+            ps,
+            ns,
+        );
+        if is_unclear(e) {
+            let pair = pair_at(boxes, rows, users, files, p);
+            return Verdict::refused_if(true, 12, wide(mode), wide(pair.user), wide(pair.file));
+        }
+    }
+    Verdict::Passed
+}
+
+// Check 12 for a mode: the first unclear pair, by user, then file.
+pub fn check_clear(boxes: &[u8], rows: &[u16], scratch: &[u8], arrows: &[u16], mode: u16) -> Verdict
+    requires { ⌜ SoundRows (now boxes) (now rows) × SoundArrows (now boxes) (now arrows) × Says (length (now boxes)) (now rows) (now scratch) ⌝ }
+    ensures { λ r. ⌜ r ≡ verdictOf (unclearFault (now (boxes .entry)) (now (rows .entry)) (now (arrows .entry)) mode) ⌝ }
+{
+    let mut users = no_boxes();
+    let mut files = no_boxes();
+    let mut own = no_numbers();
+    let mut ps = no_numbers();
+    let mut ns = no_numbers();
+    let u = atoms_of(boxes, rows, BoxRow::USER, &mut users);
+    let f = atoms_of(boxes, rows, BoxRow::FILE, &mut files);
+    let m = mode_arrows(arrows, mode, &mut own);
+    first_unclear(
+        boxes,
+        rows,
+        scratch,
+        arrows,
+        mode,
+        &own[..m],
+        &users[..u],
+        &files[..f],
+        &mut ps,
+        &mut ns,
+    )
+}
+
+// Check 12 for all modes. Each arrow is of one mode, so this costs about pairs × arrows in all.
+fn check_modes(boxes: &[u8], rows: &[u16], scratch: &[u8], arrows: &[u16]) -> Verdict
+    requires { ⌜ SoundRows (now boxes) (now rows) × SoundArrows (now boxes) (now arrows) × Says (length (now boxes)) (now rows) (now scratch) ⌝ }
+    ensures { λ r. ⌜ r ≡ verdictOf (anyUnclear (now (boxes .entry)) (now (rows .entry)) (now (arrows .entry))) ⌝ }
+{
+    for m in 0..8 {
+        let v = check_clear(boxes, rows, scratch, arrows, m);
+        if let Verdict::Refused(r) = v {
+            return Verdict::Refused(r);
+        }
+    }
+    Verdict::Passed
+}
+
+// The judge: passed if no pair is unclear in any mode, else the first unclear pair. Checks 1 to 7, 9, 10, 12.
+pub fn judge(boxes: &[u8], rows: &[u16], arrows: &[u16], scratch: &mut [u8]) -> Verdict
+    ensures { λ r. ⌜ (r ≡ verdictOf (judgeFault (now (boxes .entry)) (now (rows .entry)) (now (arrows .entry)) (now (scratch .entry)))) × (now (scratch .exit) ≡ scratchAfter (earlyFault (now (boxes .entry)) (now (rows .entry)) (now (arrows .entry)) (now (scratch .entry))) (now (boxes .entry)) (now (rows .entry)) (now (scratch .entry))) ⌝ }
+{
+    let picture = prepare(boxes, rows, arrows, scratch);
+    if let Verdict::Refused(r) = picture {
+        return Verdict::Refused(r);
+    }
+    check_modes(boxes, rows, scratch, arrows)
+}
+
+// Whether u is an atomic user and f an atomic file.
+pub fn is_pair(boxes: &[u8], rows: &[u16], u: u16, f: u16) -> bool
+    requires { ⌜ length (now rows) % 2 ≡ 0 ⌝ }
+    ensures { λ r. ⌜ r ≡ (atom (now (boxes .entry)) (now (rows .entry)) user u && atom (now (boxes .entry)) (now (rows .entry)) file f) ⌝ }
+{
+    is_atom(boxes, rows, BoxRow::USER, wide(u)) && is_atom(boxes, rows, BoxRow::FILE, wide(f))
+}
+
+// Check 11.
+fn check_asked(boxes: &[u8], rows: &[u16], u: u16, f: u16) -> Verdict
+    requires { ⌜ length (now rows) % 2 ≡ 0 ⌝ }
+    ensures { λ r. ⌜ r ≡ verdictOf (askedFault (now (boxes .entry)) (now (rows .entry)) u f) ⌝ }
+{
+    let fault = !is_pair(boxes, rows, u, f);
+    Verdict::refused_if(fault, 11, wide(u), wide(f), 0)
+}
+
+// One entry. Checks 1 to 11.
+pub fn one_entry(
+    boxes: &[u8],
+    rows: &[u16],
+    arrows: &[u16],
+    scratch: &mut [u8],
+    u: u16,
+    f: u16,
+    mode: u16,
+) -> Reply
+    ensures { λ r. ⌜ (r ≡ replyOf (entryFault (now (boxes .entry)) (now (rows .entry)) (now (arrows .entry)) (now (scratch .entry)) mode u f) (answer (now (rows .entry)) (now (arrows .entry)) mode u f)) × (now (scratch .exit) ≡ scratchAfter (entryEarly (now (boxes .entry)) (now (rows .entry)) (now (arrows .entry)) (now (scratch .entry)) mode) (now (boxes .entry)) (now (rows .entry)) (now (scratch .entry))) ⌝ }
+{
+    let tables = tables::check(boxes, rows, arrows);
+    if let Verdict::Refused(r) = tables {
+        return Reply::Refused(r);
+    }
+    let early = check_mode(mode).or_else(check_scratch(boxes, scratch));
+    if let Verdict::Refused(r) = early {
+        return Reply::Refused(r);
+    }
+    let late = contain(boxes, rows, scratch).or_else(check_asked(boxes, rows, u, f));
+    if let Verdict::Refused(r) = late {
+        return Reply::Refused(r);
+    }
+    Reply::Answered(answer_pair(boxes.len(), rows, scratch, arrows, mode, u, f))
+}
+
+// Writes the byte and the number of each pair, by the mode's arrows and the atomic boxes.
+fn fill_pairs(
+    boxes: &[u8],
+    rows: &[u16],
+    scratch: &[u8],
+    arrows: &[u16],
+    mode: u16,
+    own: &[u16],
+    users: &[u16],
+    files: &[u16],
+    ps: &mut [u16],
+    ns: &mut [u16],
+    bytes: &mut [u8],
+    numbers: &mut [u16],
+)
+    requires { ⌜ Ready (now boxes) (now rows) (now scratch) (now arrows) mode (now own) (now users) (now files) (length (now ps)) (length (now ns)) × (pairCount (now boxes) (now rows) ≤ length (now bytes)) × (pairCount (now boxes) (now rows) ≤ length (now numbers)) ⌝ }
+    ensures { λ _. ⌜ (now (bytes .exit) ≡ written (matrixBytes (now (boxes .entry)) (now (rows .entry)) (now (arrows .entry)) mode) (now (bytes .entry))) × (now (numbers .exit) ≡ written (matrixNumbers (now (boxes .entry)) (now (rows .entry)) (now (arrows .entry)) mode) (now (numbers .entry))) ⌝ }
+{
+    for p in 0..users.len() * files.len() {
+        let e = answer_at(
+            boxes,
+            rows,
+            scratch,
+            arrows,
+            mode,
+            own,
+            users,
+            files,
+            p,
+            ps,
+            ns,
+        );
+        bytes[p] = byte_of(e);
+        numbers[p] = number_of(e);
+    }
+}
+
+// Writes the matrix of a mode.
+pub fn fill_matrix(
+    boxes: &[u8],
+    rows: &[u16],
+    scratch: &[u8],
+    arrows: &[u16],
+    mode: u16,
+    bytes: &mut [u8],
+    numbers: &mut [u16],
+)
+    requires { ⌜ SoundRows (now boxes) (now rows) × SoundArrows (now boxes) (now arrows) × Says (length (now boxes)) (now rows) (now scratch) × (pairCount (now boxes) (now rows) ≤ length (now bytes)) × (pairCount (now boxes) (now rows) ≤ length (now numbers)) ⌝ }
+    ensures { λ _. ⌜ (now (bytes .exit) ≡ written (matrixBytes (now (boxes .entry)) (now (rows .entry)) (now (arrows .entry)) mode) (now (bytes .entry))) × (now (numbers .exit) ≡ written (matrixNumbers (now (boxes .entry)) (now (rows .entry)) (now (arrows .entry)) mode) (now (numbers .entry))) ⌝ }
+{
+    let mut users = no_boxes();
+    let mut files = no_boxes();
+    let mut own = no_numbers();
+    let mut ps = no_numbers();
+    let mut ns = no_numbers();
+    let u = atoms_of(boxes, rows, BoxRow::USER, &mut users);
+    let f = atoms_of(boxes, rows, BoxRow::FILE, &mut files);
+    let m = mode_arrows(arrows, mode, &mut own);
+    fill_pairs(
+        boxes,
+        rows,
+        scratch,
+        arrows,
+        mode,
+        &own[..m],
+        &users[..u],
+        &files[..f],
+        &mut ps,
+        &mut ns,
+        bytes,
+        numbers,
+    );
+}
+
+// The matrix of a mode: a byte (0 denied, 1 granted, 2 unclear) and a number (the arrow, or 65,535) for each pair. Checks 1 to 10.
+pub fn matrix(
+    boxes: &[u8],
+    rows: &[u16],
+    arrows: &[u16],
+    scratch: &mut [u8],
+    mode: u16,
+    bytes: &mut [u8],
+    numbers: &mut [u16],
+) -> Verdict
+    ensures { λ r. ⌜ (r ≡ verdictOf (matrixFault (now (boxes .entry)) (now (rows .entry)) (now (arrows .entry)) (now (scratch .entry)) mode (now (bytes .entry)) (now (numbers .entry)))) × (now (scratch .exit) ≡ scratchAfter (matrixEarly (now (boxes .entry)) (now (rows .entry)) (now (arrows .entry)) (now (scratch .entry)) mode (now (bytes .entry)) (now (numbers .entry))) (now (boxes .entry)) (now (rows .entry)) (now (scratch .entry))) × (now (bytes .exit) ≡ bytesAfter (now (boxes .entry)) (now (rows .entry)) (now (arrows .entry)) (now (scratch .entry)) mode (now (bytes .entry)) (now (numbers .entry))) × (now (numbers .exit) ≡ numbersAfter (now (boxes .entry)) (now (rows .entry)) (now (arrows .entry)) (now (scratch .entry)) mode (now (bytes .entry)) (now (numbers .entry))) ⌝ }
+{
+    let tables = tables::check(boxes, rows, arrows);
+    if let Verdict::Refused(r) = tables {
+        return Verdict::Refused(r);
+    }
+    let pairs = pair_count(boxes, rows);
+    let early = check_mode(mode)
+        .or_else(check_scratch(boxes, scratch))
+        .or_else(check_room(1, bytes.len(), pairs))
+        .or_else(check_room(2, numbers.len(), pairs));
+    if let Verdict::Refused(r) = early {
+        return Verdict::Refused(r);
+    }
+    let loops = contain(boxes, rows, scratch);
+    if let Verdict::Refused(r) = loops {
+        return Verdict::Refused(r);
+    }
+    fill_matrix(boxes, rows, scratch, arrows, mode, bytes, numbers);
+    Verdict::Passed
 }

@@ -1,11 +1,9 @@
 -- Where the byte of a pair stands in a table of m rows of n places. Assumes nothing.
 use mathlib.Core.Path.{_≡_, sym, ap, _∙_}
-use mathlib.Core.Logic.{_⊎_, inl, inr}
 use Prim.Native.Nat.{ℕ, _+_, _*_, _/_, _%_, _<_, _≤_}
 use native.Mathlib.Nat.{suc-mul, mul-le-mul-right, mul-add-div-right, mul-add-mod-self-right, div-eq-of-lt, mod-eq-of-lt, add-zero, div-add-mod, mul-comm}
 use native.Mathlib.Numerals.{add-one}
 use native.Mathlib.Omega.{arith}
-use native.Mathlib.Decide.{decLt}
 
 -- a row of n places ends before a later one begins
 pub row-step : (n a c : ℕ) → a < c → a * n + n ≤ c * n
@@ -32,11 +30,3 @@ place n p = rw (mul-comm (p / n) n) (div-add-mod p n)
 
 pub next-row : (n i : ℕ) → (i + 1) * n ≡ i * n + n
 next-row n i = rw (add-one, suc-mul)
-
--- a row does not begin before another one, or begins past its end
-pub rows-apart : (n i k : ℕ) → (i * n ≤ k * n) ⊎ (k * n + n ≤ i * n)
-rows-apart n i k = go (decLt k i)
-  where
-    go : Dec (k < i) → (i * n ≤ k * n) ⊎ (k * n + n ≤ i * n)
-    go (yes l) = inr (row-step n k i l)
-    go (no l) = inl (mul-le-mul-right n (omega arith))

@@ -4,3 +4,4 @@ pub mod ScratchLaws
 pub mod Index
 mod Rounds
 mod StepLaws
+pub mod PictureLaws

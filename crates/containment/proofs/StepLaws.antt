@@ -1,12 +1,11 @@
 -- What one turn of each loop that fills the scratch does to its bytes. Assumes nothing.
-use mathlib.Core.Path.{_≡_, refl, sym, ap, _∙_}
+use mathlib.Core.Path.{_≡_, refl, sym, _∙_}
 use mathlib.Core.Logic.{_⊎_, inl, inr, ⊎-elim, _≢_}
 use mathlib.Core.Bool.{Bool, true, false, _&&_, _||_, and-false, or-false}
 use mathlib.Core.List.{List, [], _∷_}
 use Prim.Native.Nat.{ℕ, suc, _+_, _*_, _-_, _<_, _≤_}
-use native.Mathlib.Nat.{mul-le-mul-right}
 use native.Mathlib.Numerals.{add-one}
-use native.Mathlib.Decide.{ℕ-discrete, decLt}
+use native.Mathlib.Decide.{ℕ-discrete}
 use native.Mathlib.Omega.{arith}
 use borrow.Author.Tests.{eq-eqb, ne-eqb}
 use borrow.Author.Count.{below-more}
@@ -15,12 +14,12 @@ use lib.Dec.{eqb}
 use lib.ListN.{length, getD, set, drop, length-set}
 use lib.Seq.{getD-set-same, getD-set-other}
 use Rattle.tables.specs.Search.{bit}
-use Rattle.tables.specs.Buffers.{written, zeros}
+use Rattle.tables.specs.Buffers.{build, written, zeros}
 use Rattle.tables.specs.Rows.{rowCount, rowAt}
 use Rattle.containment.specs.Contains.{Row, here, later}
-use Rattle.containment.specs.Steps.{direct, through, rounds, Cells, SameFrom, Joined}
+use Rattle.containment.specs.Steps.{direct, through, rounds, Cells, SameFrom, Joined, rowFrom}
 use Rattle.tables.proofs.RowLaws.{rows-from}
-use Rattle.tables.proofs.BufferLaws.{written-length, written-at, written-rest, zeros-length, zeros-at}
+use Rattle.tables.proofs.BufferLaws.{written-length, written-at, written-rest, zeros-length, zeros-at, build-length, build-at}
 use Rattle.containment.proofs.Index.{row-step, in-table, same-row, same-col, next-row}
 
 pub same-trans : {m : ℕ} {s t u : List ℕ} → SameFrom m s t → SameFrom m t u → SameFrom m s u
@@ -73,21 +72,17 @@ mark-turn n k rows s pos h room o i eo ei ho hi cells =
 
 -- ---- join_row
 
-module _ (src dst n j : ℕ) (s t : List ℕ) (h : Joined src dst j s t) (apart : (dst ≤ src) ⊎ (src + n ≤ dst)) (l : j < n) (room : dst + n ≤ length s) where
-  pub join-more : (v : ℕ) → v ≡ bitOr (getD t (dst + j) 0) (getD t (src + j) 0) → Joined src dst (j + 1) s (set t (dst + j) v)
-  join-more v e = record { len = length-set t (dst + j) v ∙ h .len; hit = hits; miss = misses }
-    where
-      -- the two bytes that are read are as they were
-      read : v ≡ bitOr (getD s (dst + j) 0) (getD s (src + j) 0)
-      read = e ∙ rw (h .miss (src + j) (⊎-elim (λ e. inr (omega arith)) (λ e. inl (omega arith)) apart), h .miss (dst + j) (inr (omega arith)))
+pub join-more : (row : List ℕ) (dst j : ℕ) (s t : List ℕ) → Joined row dst j s t → dst + j < length s
+    → (v : ℕ) → v ≡ bitOr (getD t (dst + j) 0) (getD row j 0) → Joined row dst (j + 1) s (set t (dst + j) v)
+join-more row dst j s t h room v e = record { len = length-set t (dst + j) v ∙ h .len; hit = hits; miss = misses }
+  where
+    hits : (i : ℕ) → i < j + 1 → getD (set t (dst + j) v) (dst + i) 0 ≡ bitOr (getD s (dst + i) 0) (getD row i 0)
+    hits = below-more (λ (i : ℕ). getD (set t (dst + j) v) (dst + i) 0 ≡ bitOr (getD s (dst + i) 0) (getD row i 0)) j
+        (λ i q. getD-set-other t (dst + j) (dst + i) v 0 (omega arith) ∙ h .hit i q)
+        (getD-set-same t (dst + j) v 0 (omega (arith, h .len)) ∙ e ∙ rw (h .miss (dst + j) (inr (omega arith))))
 
-      hits : (i : ℕ) → i < j + 1 → getD (set t (dst + j) v) (dst + i) 0 ≡ bitOr (getD s (dst + i) 0) (getD s (src + i) 0)
-      hits = below-more (λ (i : ℕ). getD (set t (dst + j) v) (dst + i) 0 ≡ bitOr (getD s (dst + i) 0) (getD s (src + i) 0)) j
-          (λ i q. getD-set-other t (dst + j) (dst + i) v 0 (omega arith) ∙ h .hit i q)
-          (getD-set-same t (dst + j) v 0 (omega (arith, h .len)) ∙ read)
-
-      misses : (p : ℕ) → (p < dst) ⊎ (dst + (j + 1) ≤ p) → getD (set t (dst + j) v) p 0 ≡ getD s p 0
-      misses p q = getD-set-other t (dst + j) p v 0 (⊎-elim (λ a. omega arith) (λ a. omega arith) q) ∙ h .miss p (⊎-elim (λ a. inl a) (λ a. inr (omega arith)) q)
+    misses : (p : ℕ) → (p < dst) ⊎ (dst + (j + 1) ≤ p) → getD (set t (dst + j) v) p 0 ≡ getD s p 0
+    misses p q = getD-set-other t (dst + j) p v 0 (⊎-elim (λ a. omega arith) (λ a. omega arith) q) ∙ h .miss p (⊎-elim (λ a. inl a) (λ a. inr (omega arith)) q)
 
 -- ---- round: the rows below i have their ways through k
 
@@ -111,32 +106,19 @@ unfolding bit
 bit-some true e = refl
 bit-some false e = absurd (e refl)
 
-absorb : (p q : Bool) → (p || (q && p)) ≡ p
-absorb true q = refl
-absorb false q = and-false q
-
-module _ (n k i : ℕ) (s t : List ℕ) (kn : k < n) (l : i < n) (same : SameFrom (i * n) s t) (done : RowsDone n k i s t) where
+module _ (n k i : ℕ) (row s t : List ℕ) (kn : k < n) (l : i < n) (copy : (b : ℕ) → b < n → getD row b 0 ≡ getD s (k * n + b) 0)
+    (same : SameFrom (i * n) s t) (done : RowsDone n k i s t) where
   -- row i and those after it are as they were
-  old : (f : ℕ → ℕ → Bool) → Cells n f s → (a b : ℕ) → i ≤ a → a < n → b < n → getD t (a * n + b) 0 ≡ bit (f a b)
-  old f h a b ia la lb = same .rest (a * n + b) (omega (arith, mul-le-mul-right n ia)) ∙ h a b la lb
+  old : (f : ℕ → ℕ → Bool) → Cells n f s → (b : ℕ) → b < n → getD t (i * n + b) 0 ≡ bit (f i b)
+  old f h b lb = same .rest (i * n + b) (omega arith) ∙ h i b l lb
 
-  -- and so is row k
-  row-k : (f : ℕ → ℕ → Bool) → Cells n f s → (b : ℕ) → b < n → getD t (k * n + b) 0 ≡ bit (f k b)
-  unfolding through
-  row-k f h b lb = go (decLt k i)
-    where
-      go : Dec (k < i) → getD t (k * n + b) 0 ≡ bit (f k b)
-      go (yes q) = done f h k b q lb ∙ ap bit (absorb (f k b) (f k k))
-      go (no q) = old f h k b (omega arith) kn lb
-
-  pub round-yes : (getD t (i * n + k) 0 ≡ 0 → ⊥) → (u : List ℕ) → Joined (k * n) (i * n) n t u → SameFrom ((i + 1) * n) s u × RowsDone n k (i + 1) s u
+  pub round-yes : (getD t (i * n + k) 0 ≡ 0 → ⊥) → (u : List ℕ) → Joined row (i * n) n t u → SameFrom ((i + 1) * n) s u × RowsDone n k (i + 1) s u
   unfolding through
   round-yes e u o = (
     record { len = o .len ∙ same .len; rest = λ p q. o .miss p (inr (omega (arith, next-row n i))) ∙ same .rest p (omega (arith, next-row n i)) },
     λ f h a b la lb. below-more (λ (a : ℕ). (b : ℕ) → b < n → getD u (a * n + b) 0 ≡ bit (through f k a b)) i
         (λ a la b lb. o .miss (a * n + b) (inl (omega (arith, row-step n a i la))) ∙ done f h a b la lb)
-        (λ b lb. o .hit b lb
-        ∙ rw (old f h i b (omega arith) l lb, row-k f h b lb, bit-some (f i k) (λ z. e (old f h i k (omega arith) l kn ∙ z))) (or-bits (f i b) (f k b)))
+        (λ b lb. o .hit b lb ∙ rw (old f h b lb, copy b lb ∙ h k b kn lb, bit-some (f i k) (λ z. e (old f h k kn ∙ z))) (or-bits (f i b) (f k b)))
         a la b lb,
   )
 
@@ -146,11 +128,17 @@ module _ (n k i : ℕ) (s t : List ℕ) (kn : k < n) (l : i < n) (same : SameFro
     record { len = same .len; rest = λ p q. same .rest p (omega (arith, next-row n i)) },
     λ f h a b la lb. below-more (λ (a : ℕ). (b : ℕ) → b < n → getD t (a * n + b) 0 ≡ bit (through f k a b)) i
         (λ a la b lb. done f h a b la lb)
-        (λ b lb. old f h i b (omega arith) l lb ∙ rw (bit-zero (f i k) (sym (old f h i k (omega arith) l kn) ∙ e), or-false))
+        (λ b lb. old f h b lb ∙ rw (bit-zero (f i k) (sym (old f h k kn) ∙ e), or-false))
         a la b lb,
   )
 
 -- ---- close
+
+-- the copy of row k
+pub copied : (n k : ℕ) (s row : List ℕ) → (b : ℕ) → b < n → getD (written (rowFrom s (k * n) n) row) b 0 ≡ getD s (k * n + b) 0
+unfolding rowFrom
+copied n k s row b lb =
+    written-at (build (λ j. getD s (k * n + j) 0) n) row b (rw build-length lb) ∙ build-at (λ j. getD s (k * n + j) 0) n b lb
 
 pub rounds-none : (n : ℕ) (f : ℕ → ℕ → Bool) (s : List ℕ) → Cells n f s → Cells n (rounds f 0) s
 unfolding rounds

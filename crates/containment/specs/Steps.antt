@@ -8,6 +8,7 @@ use lib.Bits.{bitOr}
 use lib.Dec.{eqb}
 use lib.ListN.{length, getD}
 use Rattle.tables.specs.Search.{bit}
+use Rattle.tables.specs.Buffers.{build}
 
 -- a row of the table has outer box a and inner box b
 unfoldable pub direct : List ℕ → ℕ → ℕ → Bool
@@ -33,8 +34,12 @@ pub record SameFrom (m : ℕ) (s t : List ℕ) : Type 0 where
   pub len : length t ≡ length s
   pub rest : (p : ℕ) → m ≤ p → getD t p 0 ≡ getD s p 0
 
--- t is s with the n bytes from dst on joined by those from src on
-pub record Joined (src dst n : ℕ) (s t : List ℕ) : Type 0 where
+-- t is s with the n bytes from dst on joined by those of a row
+pub record Joined (row : List ℕ) (dst n : ℕ) (s t : List ℕ) : Type 0 where
   pub len : length t ≡ length s
-  pub hit : (j : ℕ) → j < n → getD t (dst + j) 0 ≡ bitOr (getD s (dst + j) 0) (getD s (src + j) 0)
+  pub hit : (j : ℕ) → j < n → getD t (dst + j) 0 ≡ bitOr (getD s (dst + j) 0) (getD row j 0)
   pub miss : (p : ℕ) → (p < dst) ⊎ (dst + n ≤ p) → getD t p 0 ≡ getD s p 0
+
+-- n bytes from a place on
+unfoldable pub rowFrom : List ℕ → ℕ → ℕ → List ℕ
+rowFrom s at n = build (λ j. getD s (at + j) 0) n

@@ -1,17 +1,16 @@
 // Which box contains which, as bytes that the caller lends: n × n of them for n boxes.
 ghost use mathlib.Core.Path.{_≡_};
-ghost use mathlib.Core.Logic.{_⊎_};
 ghost use mathlib.Core.Bool.{Bool};
 ghost use mathlib.Core.List.{[]};
 ghost use Prim.Native.Nat.{ℕ, _+_, _*_, _%_, _<_, _≤_};
-ghost use lib.ListN.{length};
+ghost use lib.ListN.{length, getD};
 ghost use Rattle.tables.specs.Buffers.{written, zeros};
 ghost use Rattle.tables.specs.Refusals.{verdictOf};
 ghost use Rattle.tables.specs.Rows.{rowAt, rowCount};
 ghost use Rattle.tables.specs.Faults.{SoundRows};
 ghost use Rattle.containment.specs.Contains.{contains, loopFault};
 ghost use Rattle.containment.specs.Scratch.{filled, Says, scratchFault, scratchAfter, earlyFault, pictureFault};
-ghost use Rattle.containment.specs.Steps.{direct, through, rounds, Cells, SameFrom, Joined};
+ghost use Rattle.containment.specs.Steps.{direct, through, rounds, Cells, SameFrom, Joined, rowFrom};
 use tables::Containment;
 use tables::Verdict;
 
@@ -52,39 +51,57 @@ fn mark(rows: &[u16], s: &mut [u8], n: usize)
     }
 }
 
-// Joins the n bytes from dst on with those from src on. The loop has no branch, so that the compiler can take many bytes at a time.
-fn join_row(s: &mut [u8], src: usize, dst: usize, n: usize)
-    requires { ⌜ (src + n ≤ length (now s)) × (dst + n ≤ length (now s)) ⌝ }
-    requires { ⌜ (dst ≤ src) ⊎ (src + n ≤ dst) ⌝ }
-    ensures { λ _. ⌜ Joined src dst n (now (s .entry)) (now (s .exit)) ⌝ }
+// Copies n bytes from a place on.
+fn copy_row(s: &[u8], at: usize, n: usize, row: &mut [u8])
+    requires { ⌜ (at + n ≤ length (now s)) × (n ≤ length (now row)) ⌝ }
+    ensures { λ _. ⌜ now (row .exit) ≡ written (rowFrom (now (s .entry)) at n) (now (row .entry)) ⌝ }
 {
     for j in 0..n {
-        s[dst + j] = s[dst + j] | s[src + j];
+        row[j] = s[at + j];
     }
 }
 
-// Adds the ways through box k. Boxes that do not contain k are skipped.
-fn round(s: &mut [u8], n: usize, k: usize)
-    requires { ⌜ (k < n) × (n * n ≤ length (now s)) ⌝ }
+// Joins the n bytes from dst on with those of a row. The loop has no branch and the row is a copy, so that the compiler can take
+// many bytes at a time.
+fn join_row(s: &mut [u8], row: &[u8], dst: usize, n: usize)
+    requires { ⌜ (dst + n ≤ length (now s)) × (n ≤ length (now row)) ⌝ }
+    ensures { λ _. ⌜ Joined (now (row .entry)) dst n (now (s .entry)) (now (s .exit)) ⌝ }
+{
+    for j in 0..n {
+        s[dst + j] = s[dst + j] | row[j];
+    }
+}
+
+// Adds the ways through box k, whose bytes the row has. Boxes that do not contain k are skipped.
+fn round(s: &mut [u8], row: &[u8], n: usize, k: usize)
+    requires { ⌜ (k < n) × (n * n ≤ length (now s)) × (n ≤ length (now row)) ⌝ }
+    requires { ⌜ ((b : ℕ) → b < n → getD (now row) b 0 ≡ getD (now s) (k * n + b) 0) ⌝ }
     ensures { λ _. ⌜ ((f : ℕ → ℕ → Bool) → Cells n f (now (s .entry)) → Cells n (through f k) (now (s .exit))) ⌝ }
     ensures { λ _. ⌜ SameFrom (n * n) (now (s .entry)) (now (s .exit)) ⌝ }
 {
     for i in 0..n {
         if s[i * n + k] != 0 {
-            join_row(s, k * n, i * n, n);
+            join_row(s, row, i * n, n);
         }
     }
 }
 
 // Adds the ways through each box in turn.
-fn close(s: &mut [u8], n: usize)
-    requires { ⌜ n * n ≤ length (now s) ⌝ }
+fn close(s: &mut [u8], n: usize, row: &mut [u8])
+    requires { ⌜ (n * n ≤ length (now s)) × (n ≤ length (now row)) ⌝ }
     ensures { λ _. ⌜ ((f : ℕ → ℕ → Bool) → Cells n f (now (s .entry)) → Cells n (rounds f n) (now (s .exit))) ⌝ }
     ensures { λ _. ⌜ SameFrom (n * n) (now (s .entry)) (now (s .exit)) ⌝ }
 {
     for k in 0..n {
-        round(s, n, k);
+        copy_row(s, k * n, n, row);
+        round(s, row, n, k);
     }
+}
+
+fn no_row() -> [u8; 256]
+    ensures { λ r. ⌜ r ≡ zeros 256 ⌝ }
+{
+    [0u8; 256]
 }
 
 // Fills the scratch by Warshall's rounds: n² steps, and n more for each pair of boxes of which one contains the other.
@@ -96,7 +113,8 @@ fn fill(boxes: &[u8], rows: &[u16], scratch: &mut [u8])
     let n = boxes.len();
     clear(scratch, n * n);
     mark(rows, scratch, n);
-    close(scratch, n);
+    let mut row = no_row();
+    close(scratch, n, &mut row);
 }
 
 // Check 10, by a filled scratch.

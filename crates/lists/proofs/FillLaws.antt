@@ -20,7 +20,7 @@ use Rattle.lists.specs.Steps.{Clear, workOf}
 use Rattle.tables.proofs.Tests.{not-false}
 use Rattle.tables.proofs.SearchLaws.{Searched, search-none, search-more, search-here, first-none, given-none}
 use Rattle.tables.proofs.BufferLaws.{written-none, written-build, written-length, build-length}
-use Rattle.answers.proofs.ModeLaws.{unclear-first}
+use Rattle.answers.proofs.PairLaws.{unclearAt, unclear-is}
 
 module _ (boxes rows arrows : List ℕ) (m : ℕ) where
   abbrev unclear : ℕ → Bool
@@ -57,15 +57,17 @@ module _ (boxes rows arrows : List ℕ) (m : ℕ) where
 
     pub filling-unclear : (bytes : List ℕ) (p : ℕ) (e : Entry) → p < pairCount boxes rows → e ≡ answerAt boxes rows arrows m p → isUnclear e ≡ true
         → Filling bytes p → unclearFault boxes rows arrows m ≡ some (place p)
+    unfolding unclearAt
     filling-unclear bytes p e h i u f =
-        unclear-first boxes rows arrows m ∙ search-here unclear place (pairCount boxes rows) p (f .clear) (rw i at u) h
+        unclear-is boxes rows arrows m ∙ search-here unclear place (pairCount boxes rows) p (f .clear) (rw i at u) h
 
     pub filling-done : (bytes : List ℕ) (p : ℕ) → p ≡ pairCount boxes rows → Filling bytes p
         → (Passed ≡ verdictOf (unclearFault boxes rows arrows m)) × (bytes ≡ written (workOf boxes rows arrows m []) old)
-    unfolding workOf
-    filling-done bytes p e f = (rw (unclear-first boxes rows arrows m, ← e, f .clear), rw e at (f .filled))
+    unfolding workOf unclearAt
+    filling-done bytes p e f = (rw (unclear-is boxes rows arrows m, ← e, f .clear), rw e at (f .filled))
 
   -- where check 12 passes, no pair is unclear
   pub all-clear : unclearFault boxes rows arrows m ≡ none → Clear boxes rows arrows m
+  unfolding unclearAt
   all-clear e p h =
-      not-false (unclear p) (given-none (unclear p) (place p) (first-none _ (pairCount boxes rows) (sym (unclear-first boxes rows arrows m) ∙ e) p h))
+      not-false (unclear p) (given-none (unclear p) (place p) (first-none _ (pairCount boxes rows) (sym (unclear-is boxes rows arrows m) ∙ e) p h))

@@ -4,14 +4,14 @@ use mathlib.Core.List.{List}
 use Prim.Native.Nat.{ℕ, _*_}
 use native.Mathlib.Omega.{arith}
 use lib.ListN.{take}
-use Rattle.tables.specs.Rows.{user, file, arrowAt}
+use Rattle.tables.specs.Rows.{user, file}
 use Rattle.tables.specs.Atoms.{atoms}
 use Rattle.tables.specs.Faults.{SoundRows, SoundArrows}
 use Rattle.answers.specs.Among.{modeArrows}
 use Rattle.lists.specs.Steps.{Placed, Drawn}
-use Rattle.tables.proofs.AtomPlaces.{onSide-there}
 use Rattle.tables.proofs.AtomSides.{pairs-product}
 use Rattle.tables.proofs.PartLaws.{Wrote, part-is}
+use Rattle.answers.proofs.ReadyLaws.{sound-within}
 use Rattle.answers.proofs.AmongLaws.{mode-most, mode-numbers}
 
 module _ (boxes rows arrows : List ℕ) where
@@ -27,11 +27,8 @@ module _ (boxes rows arrows : List ℕ) where
 
   pub drawn-is : SoundArrows boxes arrows → (m : ℕ) → Drawn boxes arrows (modeArrows arrows m)
   drawn-is s m = record {
-    few = omega (arith, mode-most rows arrows m, s .few-arrows);
-    within = record {
-      tail-in = λ k l. onSide-there boxes rows user (arrowAt arrows k .tail) (s .tail-user k l);
-      head-in = λ k l. onSide-there boxes rows file (arrowAt arrows k .head) (s .head-file k l);
-    };
+    few = omega (arith, mode-most arrows m, s .few-arrows);
+    within = sound-within boxes arrows s;
     signs = s .sign-most;
-    numbers = mode-numbers rows arrows m;
+    numbers = mode-numbers arrows m;
   }

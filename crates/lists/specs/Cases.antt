@@ -16,7 +16,7 @@ use Rattle.containment.specs.Contains.{contains, around, loopFault}
 use Rattle.containment.specs.Scratch.{scratchFault, earlyFault, pictureFault}
 use Rattle.answers.specs.Meaning.{reaches, nests, level, overrides, settle, hits, certifies, answer, byteOf, numberOf, isGranted, isUnclear}
 use Rattle.answers.specs.Among.{hasMode, modeArrows}
-use Rattle.answers.specs.Pairs.{userAt, fileAt, firstPair, answerAt, matrixBytes, matrixNumbers, unclearFault, anyUnclear}
+use Rattle.answers.specs.Pairs.{userAt, fileAt, firstPair, answerAt, byteAt, numberAt, matrixBytes, matrixNumbers, unclearFault, anyUnclear}
 use Rattle.answers.specs.Calls.{askedFault, entryEarly, entryFault, judgeFault, matrixEarly, matrixFault, replyOf}
 use Rattle.answers.specs.Cases.{Case, compute, picture-A, picture-B, picture-C, picture-D, picture-E, picture-F, picture-G, picture-H, picture-I, picture-J}
 use Rattle.lists.specs.Order.{anyOf, allOf, firstOf, passes, distinct, gives, ofMode, meets, reached, granted, right, honest, coversAll, qualifies}
@@ -76,5 +76,5 @@ table =
     ∷ [])
 
 pub table-right : map computeList table ≡ table
-unfolding computeList extend table answers.table compute picture-A picture-B picture-C picture-D picture-E picture-F picture-G picture-H picture-I picture-J orElse given first lowest every select build written sideOf onSide outer atom atoms pairCount raggedFault countFault byteFault namesNoBox acrossSides wrongEnds wrongMode rowFault tableFault modeFault roomFault contains around loopFault reaches nests level overrides settle hits certifies answer byteOf numberOf isGranted isUnclear userAt fileAt firstPair answerAt matrixBytes matrixNumbers unclearFault anyUnclear scratchFault earlyFault pictureFault askedFault entryEarly entryFault judgeFault matrixEarly matrixFault replyOf hasMode modeArrows anyOf allOf firstOf passes distinct gives ofMode meets reached granted right honest coversAll qualifies new fits addable grow greedy leftBy orderFault listEarly listLate
+unfolding computeList extend table answers.table compute picture-A picture-B picture-C picture-D picture-E picture-F picture-G picture-H picture-I picture-J orElse given first lowest every select build written sideOf onSide outer atom atoms pairCount raggedFault countFault byteFault namesNoBox acrossSides wrongEnds wrongMode rowFault tableFault modeFault roomFault contains around loopFault reaches nests level overrides settle hits certifies answer byteOf numberOf isGranted isUnclear userAt fileAt firstPair answerAt byteAt numberAt matrixBytes matrixNumbers unclearFault anyUnclear scratchFault earlyFault pictureFault askedFault entryEarly entryFault judgeFault matrixEarly matrixFault replyOf hasMode modeArrows anyOf allOf firstOf passes distinct gives ofMode meets reached granted right honest coversAll qualifies new fits addable grow greedy leftBy orderFault listEarly listLate
 table-right = refl

@@ -1,12 +1,12 @@
 -- The part of a buffer that was written, as a caller lends it on. Assumes nothing.
 use mathlib.Core.Path.{_≡_, sym, ap, _∙_}
 use mathlib.Core.List.{List}
-use Prim.Native.Nat.{ℕ, _≤_}
+use Prim.Native.Nat.{ℕ, _+_, _<_, _≤_}
 use native.Mathlib.Omega.{arith}
-use lib.ListN.{length, take, drop}
+use lib.ListN.{length, take, drop, set}
 use lib.Seq.{take-append-seam}
-use Rattle.tables.specs.Buffers.{written}
-use Rattle.tables.proofs.BufferLaws.{written-length}
+use Rattle.tables.specs.Buffers.{build, written}
+use Rattle.tables.proofs.BufferLaws.{written-length, build-length, written-build}
 
 -- so many places hold the new values
 abbrev pub Wrote : List ℕ → List ℕ → ℕ → List ℕ → Type 0
@@ -25,3 +25,11 @@ module _ (new old : List ℕ) (count : ℕ) (out : List ℕ) (w : Wrote new old 
 
   pub part-within : length new ≤ length old → count ≤ length out
   part-within h = let l = wrote-length h in omega (arith, w .0)
+
+-- a loop that writes g 0, g 1, .. over the old places
+module _ (g : ℕ → ℕ) (old : List ℕ) (p : ℕ) (out : List ℕ) (w : out ≡ written (build g p) old) where
+  pub built-length : p ≤ length old → length out ≡ length old
+  built-length h = ap length w ∙ written-length (build g p) old (rw build-length h)
+
+  pub built-more : (v : ℕ) → p < length old → v ≡ g p → set out p v ≡ written (build g (p + 1)) old
+  built-more v h e = rw (w, e) (written-build g p old h)

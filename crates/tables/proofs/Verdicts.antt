@@ -1,5 +1,5 @@
 -- Faults found one after the other, and the verdict on them. Assumes nothing.
-use mathlib.Core.Path.{_≡_, refl}
+use mathlib.Core.Path.{_≡_, refl, sym, ap}
 use mathlib.Core.Option.{Option, none, some}
 use Prim.Native.Nat.{ℕ}
 use native.Mathlib.Omega.{arith}
@@ -22,6 +22,15 @@ pub refused : (a : Option Refusal) (r : Refusal) → verdictOf a ≡ Refused r �
 refused none r e = let z : _≡_ {A = ℕ} 0 1 = cc in absurd (omega arith)
 refused (some s) r e = let i : s ≡ r = cc in rw i
 
+-- a check that finds nothing, and one that finds a fault, before others
+pub past : {A : Type 0} (a b : Option A) → a ≡ none → orElse a b ≡ b
+unfolding orElse
+past a b e = rw e
+
+pub stop : {A : Type 0} (a b : Option A) {r : A} → a ≡ some r → orElse a b ≡ some r
+unfolding orElse
+stop a b e = rw e
+
 pub orElse-assoc : {A : Type 0} (a b c : Option A) → orElse (orElse a b) c ≡ orElse a (orElse b c)
 unfolding orElse
 orElse-assoc none b c = refl
@@ -29,9 +38,7 @@ orElse-assoc (some x) b c = refl
 
 -- a stage of checks that refuses, and one that passes
 pub refuses : (a b : Option Refusal) (r : Refusal) → verdictOf a ≡ Refused r → Refused r ≡ verdictOf (orElse a b)
-unfolding orElse
-refuses a b r e = rw (refused a r e)
+refuses a b r e = sym (ap verdictOf (stop a b (refused a r e)))
 
 pub passes : (a b : Option Refusal) → verdictOf a ≡ Passed → verdictOf b ≡ verdictOf (orElse a b)
-unfolding orElse
-passes a b e = rw (passed a e)
+passes a b e = sym (ap verdictOf (past a b (passed a e)))

@@ -16,7 +16,7 @@ use Rattle.answers.proofs.mode_arrows.Reads as mode-arrows-reads
 use Rattle.answers.proofs.no_numbers.Reads as no-numbers-reads
 
 few : (c : tie.Start) → length (modeArrows (c .args .arrows .now) (c .args .mode)) ≤ 512
-few c = omega (arith, mode-most (c .args .rows .now) (c .args .arrows .now) (c .args .mode), c .pre .2)
+few c = omega (arith, mode-most (c .args .arrows .now) (c .args .mode), c .pre .2)
 
 -- src/lib.rt:330:19
 no-numbers-requires : tie.Need-no-numbers-requires

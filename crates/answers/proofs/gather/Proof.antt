@@ -27,7 +27,7 @@ loop-holds c = let a = c .before .before .before .before .before .args in
     (search needs, kept-none (reachesAt (a .rows .now) (a .arrows .now) (a .sign) (a .u) (a .f)) (a .own .now) (a .out .now))
 
 numbered : (c : tie.Start Inv-loop μ-loop) → Numbers (c .args .arrows .now) (c .args .own .now)
-numbered c = rw (c .pre .2) (mode-numbers (c .args .rows .now) (c .args .arrows .now) (c .args .mode))
+numbered c = rw (c .pre .2) (mode-numbers (c .args .arrows .now) (c .args .mode))
 
 -- src/lib.rt:134:17
 mul-k : tie.Need-mul-k Inv-loop μ-loop

@@ -1,9 +1,11 @@
 -- `containment::fill` meets its contract: after n rounds a way is a chain of rows. Assumes nothing.
-use mathlib.Core.Path.{_∙_, ap}
+use mathlib.Core.Path.{_≡_, _∙_, ap}
+use native.Mathlib.Omega.{arith}
 use borrow.Author.Needs.{needs}
 use lib.ListN.{length}
 use Rattle.tables.specs.Search.{bit}
 use Rattle.containment.specs.Steps.{direct}
+use Rattle.tables.proofs.BufferLaws.{zeros-length}
 use Rattle.containment.proofs.ScratchLaws.{is-filled}
 use Rattle.containment.proofs.Rounds.{rounds-all}
 use Rattle.containment.proofs.StepLaws.{cleared, cleared-rest, same-trans, row-below}
@@ -22,15 +24,24 @@ mark-requires c κs = let cl = c .before .before .before in
     let sound = start .pre .0 in
     (sound .whole, (λ k h. (sound .outer-there k h, sound .inner-there k h), (search needs, rw (cl .clear .ensures) (cleared (length (start .args .boxes .now)) (start .args .scratch .now) (start .pre .1)))))
 
+no-row-requires : tie.Need-no-row-requires
+no-row-requires c κs = search needs
+
+slice-aggregate-close : tie.Need-slice-aggregate-close
+slice-aggregate-close c = search needs
+
 close-requires : tie.Need-close-requires
-close-requires c κs = search needs
+close-requires c κs = let start = c .before .before .before .before .before .before .before .before .before .before .before .before .before .before in
+    let len : length (c .before .before .no-row .result) ≡ 256 = ap length (c .before .before .no-row .ensures) ∙ zeros-length 256 in
+    let few = start .pre .0 .few-boxes in
+    (search needs, omega arith)
 
 same-length : tie.Need-same-length
 same-length c = search needs
 
 returns : tie.Need-returns
-returns c = let cd = c .before .before in
-    let mk = cd .before .before .before .before in
+returns c = let cd = c .before .before .before in
+    let mk = cd .before .before .before .before .before .before in
     let cl = mk .before .before .before .before in
     let start = cl .before .before .before .before .before in
     let n = length (start .args .boxes .now) in
@@ -44,4 +55,13 @@ returns c = let cd = c .before .before in
 
 pub fill-spec : {M : Type 1} → statement M
 fill-spec =
-    tie.close (tie.spec mul-clear clear-requires mark-requires close-requires same-length returns)
+    tie.close
+    (tie.spec
+    mul-clear
+    clear-requires
+    mark-requires
+    no-row-requires
+    slice-aggregate-close
+    close-requires
+    same-length
+    returns)

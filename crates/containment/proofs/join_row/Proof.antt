@@ -9,10 +9,10 @@ use Rattle.containment.proofs.join_row.Statement.{statement}
 use Rattle.containment.proofs.join_row.Tie as tie
 
 abbrev Inv-loop : tie.InvT-loop
-Inv-loop s₀ src dst n j₀ s j = (j ≤ n) × Joined src dst j s₀ s
+Inv-loop s₀ row dst n j₀ s j = (j ≤ n) × Joined row dst j s₀ s
 
 abbrev μ-loop : tie.MeasureT-loop
-μ-loop s₀ src dst n j₀ s j = n - j
+μ-loop s₀ row dst n j₀ s j = n - j
 
 loop-holds : tie.Need-loop-holds Inv-loop μ-loop
 loop-holds c = search needs
@@ -23,14 +23,11 @@ add-s c = search needs
 slice-read-s : tie.Need-slice-read-s Inv-loop μ-loop
 slice-read-s c = search needs
 
+shared-slice-read-s : tie.Need-shared-slice-read-s Inv-loop μ-loop
+shared-slice-read-s c = search needs
+
 add-s-2 : tie.Need-add-s-2 Inv-loop μ-loop
 add-s-2 c = search needs
-
-slice-read-s-2 : tie.Need-slice-read-s-2 Inv-loop μ-loop
-slice-read-s-2 c = search needs
-
-add-s-3 : tie.Need-add-s-3 Inv-loop μ-loop
-add-s-3 c = search needs
 
 slice-write-s : tie.Need-slice-write-s Inv-loop μ-loop
 slice-write-s c = search needs
@@ -44,7 +41,7 @@ loop-less c = search needs
 loop-again : tie.Need-loop-again Inv-loop μ-loop
 loop-again c = let at = c .before .before .before in
     let a = at .before .args in
-    (search needs, join-more (a .src) (a .dst) (a .n) (at .loop .j) (a .s .now) (at .loop .s) (at .loop .inv .1) (at .before .pre .1) (omega arith) (omega arith) _ refl)
+    (search needs, join-more (a .row .now) (a .dst) (at .loop .j) (a .s .now) (at .loop .s) (at .loop .inv .1) (omega arith) _ refl)
 
 same-length : tie.Need-same-length Inv-loop μ-loop
 same-length c = search needs
@@ -63,9 +60,8 @@ join-row-spec =
     loop-holds
     add-s
     slice-read-s
+    shared-slice-read-s
     add-s-2
-    slice-read-s-2
-    add-s-3
     slice-write-s
     add-j
     loop-less

@@ -6,24 +6,24 @@ use native.Mathlib.Omega.{arith}
 use borrow.Author.Needs.{needs}
 use lib.ListN.{length}
 use Rattle.containment.specs.Steps.{SameFrom}
-use Rattle.containment.proofs.Index.{in-table, row-step, rows-apart}
+use Rattle.containment.proofs.Index.{in-table, row-step}
 use Rattle.containment.proofs.StepLaws.{RowsDone, round-yes, round-no}
 use Rattle.containment.proofs.round.Statement.{statement}
 use Rattle.containment.proofs.round.Tie as tie
 
 abbrev Inv-loop : tie.InvT-loop
-Inv-loop s₀ n k i₀ s i = (i ≤ n) × SameFrom (i * n) s₀ s × RowsDone n k i s₀ s
+Inv-loop s₀ row n k i₀ s i = (i ≤ n) × SameFrom (i * n) s₀ s × RowsDone n k i s₀ s
 
 abbrev μ-loop : tie.MeasureT-loop
-μ-loop s₀ n k i₀ s i = n - i
+μ-loop s₀ row n k i₀ s i = n - i
 
 loop-holds : tie.Need-loop-holds Inv-loop μ-loop
 loop-holds c = search needs
 
 -- the byte of boxes i and k is there
-byte : (c : tie.In-loop Inv-loop μ-loop) → let a = c .before .before .before .args in c .before .loop .i * a .n + a .k < length (c .before .loop .s)
+byte : (c : tie.In-loop Inv-loop μ-loop) → let a = c .before .before .before .before .args in c .before .loop .i * a .n + a .k < length (c .before .loop .s)
 byte c =
-    let a = c .before .before .before .args in
+    let a = c .before .before .before .before .args in
     omega (arith, in-table (a .n) (a .n) (c .before .loop .i) (a .k) (omega arith) (omega arith))
 
 mul-if1 : tie.Need-mul-if1 Inv-loop μ-loop
@@ -36,19 +36,14 @@ slice-read-if1 : tie.Need-slice-read-if1 Inv-loop μ-loop
 slice-read-if1 c = byte (c .before)
 
 mul-join-row : tie.Need-mul-join-row Inv-loop μ-loop
-mul-join-row c = let a = c .before .before .before .before .before .before .args in
-    omega (arith, in-table (a .n) (a .n) (a .k) (a .k) (omega arith) (omega arith))
-
-mul-join-row-2 : tie.Need-mul-join-row-2 Inv-loop μ-loop
-mul-join-row-2 c = omega (arith, byte (c .before .before .before))
+mul-join-row c = omega (arith, byte (c .before .before .before))
 
 join-row-requires : tie.Need-join-row-requires Inv-loop μ-loop
 join-row-requires c κs = let at = c .before .before .before .before in
-    let a = at .before .before .args in
-    let k-row = row-step (a .n) (a .k) (a .n) (omega arith) in
-    let i-row = row-step (a .n) (at .loop .i) (a .n) (omega arith) in
+    let a = at .before .before .before .args in
     let len = at .loop .inv .1 .len in
-    ((omega arith, omega arith), rows-apart (a .n) (at .loop .i) (a .k))
+    let i-row = row-step (a .n) (at .loop .i) (a .n) (omega arith) in
+    (omega arith, omega arith)
 
 add-i : tie.Need-add-i Inv-loop μ-loop
 add-i c = search needs
@@ -58,13 +53,14 @@ loop-less c = search needs
 
 loop-again : tie.Need-loop-again Inv-loop μ-loop
 loop-again c = let at = c .before .before .before in
-    let a = at .before .before .args in
+    let start = at .before .before .before in
+    let a = start .args in
     let kn : a .k < a .n = omega arith in
     let l : at .loop .i < a .n = omega arith in
     let next : SameFrom ((at .loop .i + 1) * a .n) (a .s .now) (c .if1 .s) × RowsDone (a .n) (a .k) (at .loop .i + 1) (a .s .now) (c .if1 .s) =
     ⊎-elim
-    (λ w. rw (w .5) (round-yes (a .n) (a .k) (at .loop .i) (a .s .now) (at .loop .s) kn l (at .loop .inv .1) (at .loop .inv .2) (w .0 .taken) (w .2 .last .0) (w .2 .ensures)))
-    (λ w. rw (w .1) (round-no (a .n) (a .k) (at .loop .i) (a .s .now) (at .loop .s) kn l (at .loop .inv .1) (at .loop .inv .2) (w .0 .left)))
+    (λ w. rw (w .5) (round-yes (a .n) (a .k) (at .loop .i) (a .row .now) (a .s .now) (at .loop .s) kn l (start .pre .1) (at .loop .inv .1) (at .loop .inv .2) (w .0 .taken) (w .2 .last .0) (w .2 .ensures)))
+    (λ w. rw (w .1) (round-no (a .n) (a .k) (at .loop .i) (a .row .now) (a .s .now) (at .loop .s) kn l (start .pre .1) (at .loop .inv .1) (at .loop .inv .2) (w .0 .left)))
     (c .if1 .came) in
     (search needs, next .0, next .1)
 
@@ -73,7 +69,7 @@ same-length c = search needs
 
 returns : tie.Need-returns Inv-loop μ-loop
 returns c = let at = c .before in
-    let e : at .loop .i ≡ at .before .before .args .n = omega arith in
+    let e : at .loop .i ≡ at .before .before .before .args .n = omega arith in
     (λ f h a b la lb. at .loop .inv .2 f h a b (omega arith) lb, rw e at (at .loop .inv .1))
 
 pub round-spec : {M : Type 1} → statement M
@@ -87,7 +83,6 @@ round-spec =
     add-if1
     slice-read-if1
     mul-join-row
-    mul-join-row-2
     join-row-requires
     add-i
     loop-less

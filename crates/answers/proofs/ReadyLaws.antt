@@ -1,0 +1,54 @@
+-- What a walk over all pairs of a mode is given, once the lists have been written. Assumes nothing.
+use mathlib.Core.Path.{_≡_, sym, ap, _∙_}
+use mathlib.Core.List.{List}
+use Prim.Native.Nat.{ℕ, _≤_}
+use native.Mathlib.Omega.{arith}
+use lib.ListN.{length}
+use Rattle.tables.specs.Buffers.{zeros}
+use Rattle.tables.specs.Rows.{user, file, arrowCount}
+use Rattle.tables.specs.Atoms.{atoms}
+use Rattle.tables.specs.Faults.{SoundRows, SoundArrows}
+use Rattle.tables.proofs.BufferLaws.{zeros-length}
+use Rattle.tables.proofs.AtomPlaces.{onSide-there, atoms-most}
+use Rattle.tables.proofs.PartLaws.{Wrote, part-within}
+use Rattle.containment.specs.Scratch.{Says}
+use Rattle.answers.specs.Among.{modeArrows, Within, Ready}
+use Rattle.answers.proofs.AmongLaws.{mode-most}
+
+pub sound-within : (boxes arrows : List ℕ) → SoundArrows boxes arrows → Within (length boxes) arrows
+sound-within boxes arrows s = record {
+  tail-in = λ k l. onSide-there boxes arrows user _ (s .tail-user k l);
+  head-in = λ k l. onSide-there boxes arrows file _ (s .head-file k l);
+}
+
+-- local arrays that begin with zeros: a list of boxes, and one of the mode's arrows, has room there
+pub room : {l : List ℕ} (n : ℕ) → l ≡ zeros n → n ≤ length l
+room n e = let len = ap length e ∙ zeros-length n in omega arith
+
+pub boxes-within : (boxes rows : List ℕ) (s : ℕ) (old : List ℕ) (count : ℕ) (out : List ℕ)
+    → SoundRows boxes rows → old ≡ zeros 256 → Wrote (atoms boxes rows s) old count out → count ≤ length out
+boxes-within boxes rows s old count out sound e w =
+    part-within (atoms boxes rows s) old count out w (omega (arith, room 256 e, atoms-most boxes rows s, sound .few-boxes))
+
+pub mode-within : (arrows : List ℕ) (m : ℕ) (old : List ℕ) (count : ℕ) (out : List ℕ)
+    → arrowCount arrows ≤ 512 → old ≡ zeros 512 → Wrote (modeArrows arrows m) old count out → count ≤ length out
+mode-within arrows m old count out few e w =
+    part-within (modeArrows arrows m) old count out w (omega (arith, room 512 e, mode-most arrows m))
+
+-- the three lists, and two buffers of 512 places or more
+pub ready : {boxes rows scratch arrows : List ℕ} {m : ℕ} {own users files : List ℕ}
+    → SoundRows boxes rows → SoundArrows boxes arrows → Says (length boxes) rows scratch
+    → own ≡ modeArrows arrows m → users ≡ atoms boxes rows user → files ≡ atoms boxes rows file
+    → (ps ns : ℕ) → 512 ≤ ps → 512 ≤ ns → Ready boxes rows scratch arrows m own users files ps ns
+ready {boxes} {rows} {scratch} {arrows} {m} rs ar says o u f ps ns lp ln =
+    let few = ap length o in
+    record {
+      says = says;
+      within = sound-within boxes arrows ar;
+      own-are = o;
+      users-are = u;
+      files-are = f;
+      few-boxes = rs .few-boxes;
+      positive-room = omega (arith, mode-most arrows m, ar .few-arrows);
+      negative-room = omega (arith, mode-most arrows m, ar .few-arrows);
+    }

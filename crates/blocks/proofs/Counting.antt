@@ -1,0 +1,183 @@
+-- How the row counts and the lengths of the tables grow block by block. Assumes nothing.
+use mathlib.Core.Path.{_≡_, refl, _∙_}
+use mathlib.Core.Bool.{Bool, true, false, cond, or-true, true≢false}
+use mathlib.Core.List.{List}
+use mathlib.Core.Option.{none, some}
+use Prim.Native.Nat.{ℕ, zero, suc, _+_, _*_, _/_, _<_, _≤_}
+use native.Mathlib.Omega.{arith}
+use native.Mathlib.Numerals.{add-one}
+use borrow.Author.Tests.{eqb-true, ltb-false}
+use lib.Dec.{eqb, ltb}
+use lib.ListN.{length, length-append}
+use lib.Seq.{sets}
+use Rattle.tables.specs.Buffers.{written}
+use Rattle.tables.specs.declared.Refusal.{Refusal}
+use Rattle.blocks.specs.Blocks.{headOf, capacity, byKind, boxRow, containmentRow, arrowRow, countOf, joined, boxesSaid, containmentsSaid, arrowsSaid, wrongHead, blockFault}
+use Rattle.blocks.specs.Files.{blockAt, blockCount, kindBefore, blocksFault, boxesIn, containmentsIn, arrowsIn}
+use Rattle.blocks.specs.Reads.{countsIn, countsOf}
+use Rattle.blocks.specs.Steps.{countsWith, BlockFits, Fitting}
+use Rattle.blocks.specs.declared.Head.{Head}
+use Rattle.blocks.specs.declared.Counts.{Counts}
+use Rattle.blocks.proofs.Placing.{joined-length, joined-most, written-more}
+use Rattle.blocks.proofs.Searches.{none-left, none-right, given-none, none-before, none-at, first-more, found-at}
+
+-- a turn of the loop that writes the blocks, for each table
+pub table-more : (f : ℕ → List ℕ) (old : List ℕ) (k n i : ℕ) → k < n → length (joined f n) ≤ length old → i ≡ length (joined f k)
+    → sets (written (joined f k) old) i (f k) ≡ written (joined f (k + 1)) old
+unfolding joined
+table-more f old k n i h l e =
+    let m : length (joined f (k + 1)) ≤ length (joined f n) = joined-most f (k + 1) n (omega arith) in
+    let r : length (joined f k) + length (f k) ≤ length (joined f n) = simp (add-one, length-append) at m in
+    rw (e, add-one) (written-more (joined f k) (f k) old (omega arith))
+
+-- how long what a block says of each table is
+boxes-said : (b : List ℕ) → length (boxesSaid b) ≡ countOf 1 (headOf b)
+unfolding boxesSaid boxRow
+boxes-said b = let e = joined-length (boxRow b) 1 (countOf 1 (headOf b)) (λ k h. refl) in omega arith
+
+rows-said : (b : List ℕ) → length (containmentsSaid b) ≡ 2 * countOf 2 (headOf b)
+unfolding containmentsSaid containmentRow
+rows-said b = joined-length (containmentRow b) 2 (countOf 2 (headOf b)) (λ k h. refl)
+
+arrows-said : (b : List ℕ) → length (arrowsSaid b) ≡ 4 * countOf 3 (headOf b)
+unfolding arrowsSaid arrowRow
+arrows-said b = joined-length (arrowRow b) 4 (countOf 3 (headOf b)) (λ k h. refl)
+
+half-more : (l c : ℕ) → (l + 2 * c) / 2 ≡ l / 2 + c
+half-more l c = omega arith
+
+quarter-more : (l c : ℕ) → (l + 4 * c) / 4 ≡ l / 4 + c
+quarter-more l c = omega arith
+
+module _ (blocks : ℕ → List ℕ) where
+  -- the row counts with one block more
+  pub counts-more : (n : ℕ) → countsIn blocks (n + 1) ≡ countsWith (countsIn blocks n) (headOf (blocks n))
+  unfolding countsIn countsWith boxesIn containmentsIn arrowsIn joined
+  counts-more n = simp (add-one, length-append, boxes-said, rows-said, arrows-said, half-more, quarter-more)
+
+  -- the lengths of the tables by their row counts
+  pub rows-length : (n : ℕ) → length (containmentsIn blocks n) ≡ 2 * countsIn blocks n .containments
+  unfolding countsIn containmentsIn joined
+  rows-length zero = refl
+  rows-length (suc n) =
+      let e = rows-length n in
+      simp (length-append, rows-said) (omega arith)
+
+  pub arrows-length : (n : ℕ) → length (arrowsIn blocks n) ≡ 4 * countsIn blocks n .arrows
+  unfolding countsIn arrowsIn joined
+  arrows-length zero = refl
+  arrows-length (suc n) =
+      let e = arrows-length n in
+      simp (length-append, arrows-said) (omega arith)
+
+-- a good block's count
+pub head-fits : (before place : ℕ) (head : Head) → wrongHead before place head ≡ false → head .count ≤ capacity (head .kind)
+unfolding wrongHead
+head-fits before place head e = go (ltb (capacity (head .kind)) (head .count)) refl
+  where
+    go : (t : Bool) → ltb (capacity (head .kind)) (head .count) ≡ t → head .count ≤ capacity (head .kind)
+    go true q = absurd (true≢false (rw (q, or-true) at e))
+    go false q = ltb-false (capacity (head .kind)) (head .count) q
+
+pub count-fits : (kind : ℕ) (head : Head) → head .count ≤ capacity (head .kind) → countOf kind head ≤ capacity kind
+unfolding countOf
+count-fits kind head h = go (eqb (head .kind) kind) refl
+  where
+    go : (t : Bool) → eqb (head .kind) kind ≡ t → cond t (head .count) 0 ≤ capacity kind
+    go true q = rw (eqb-true (head .kind) kind q) at h
+    go false q = omega arith
+
+pub good-count : (before place : ℕ) (b : List ℕ) → blockFault before place b ≡ none → headOf b .count ≤ capacity (headOf b .kind)
+unfolding blockFault
+good-count before place b e =
+    head-fits before place (headOf b) (given-none _ _ (none-left _ _ (none-right _ _ e)))
+
+-- the blocks in turn
+module _ (blocks : ℕ → List ℕ) where
+  pub blocks-more : (k : ℕ) → blocksFault blocks k ≡ none → blockFault (kindBefore blocks k) k (blocks k) ≡ none → blocksFault blocks (k + 1) ≡ none
+  unfolding blocksFault
+  blocks-more k e f = first-more _ k e ∙ f
+
+  pub blocks-found : (k n : ℕ) {r : Refusal} → k < n → blocksFault blocks k ≡ none → blockFault (kindBefore blocks k) k (blocks k) ≡ some r → blocksFault blocks n ≡ some r
+  unfolding blocksFault
+  blocks-found k n h e f = found-at _ k n h e f
+
+  pub blocks-before : (k n : ℕ) → k ≤ n → blocksFault blocks n ≡ none → blocksFault blocks k ≡ none
+  unfolding blocksFault
+  blocks-before k n h e = none-before _ k n h e
+
+  pub block-good : (k n : ℕ) → k < n → blocksFault blocks n ≡ none → blockFault (kindBefore blocks k) k (blocks k) ≡ none
+  unfolding blocksFault
+  block-good k n h e = none-at _ k n h e
+
+-- what a good block has of each table
+pub record Holds (head : Head) : Type 0 where
+  pub boxes-count : countOf 1 head ≤ 500
+  pub rows-count : countOf 2 head ≤ 125
+  pub arrows-count : countOf 3 head ≤ 83
+
+pub good-holds : (blocks : ℕ → List ℕ) (k n : ℕ) → k < n → blocksFault blocks n ≡ none → Holds (headOf (blocks k))
+unfolding capacity byKind
+good-holds blocks k n h e =
+    let g : headOf (blocks k) .count ≤ capacity (headOf (blocks k) .kind) = good-count (kindBefore blocks k) k (blocks k) (block-good blocks k n h e) in
+    record {
+      boxes-count = count-fits 1 (headOf (blocks k)) g;
+      rows-count = count-fits 2 (headOf (blocks k)) g;
+      arrows-count = count-fits 3 (headOf (blocks k)) g;
+    }
+
+-- good blocks have few rows
+pub record Few (n : ℕ) (counts : Counts) : Type 0 where
+  pub boxes-few : counts .boxes ≤ 500 * n
+  pub rows-few : counts .containments ≤ 500 * n
+  pub arrows-few : counts .arrows ≤ 500 * n
+
+few-more : (n : ℕ) (counts : Counts) (head : Head) → Few n counts → Holds head → Few (n + 1) (countsWith counts head)
+unfolding countsWith
+few-more n counts head f g = record { boxes-few = omega arith; rows-few = omega arith; arrows-few = omega arith }
+
+few-none : (blocks : ℕ → List ℕ) → Few 0 (countsIn blocks 0)
+unfolding countsIn boxesIn containmentsIn arrowsIn joined
+few-none blocks = record { boxes-few = omega arith; rows-few = omega arith; arrows-few = omega arith }
+
+pub few-counts : (blocks : ℕ → List ℕ) (n : ℕ) → blocksFault blocks n ≡ none → Few n (countsIn blocks n)
+few-counts blocks zero e = few-none blocks
+few-counts blocks (suc n) e =
+    let f : Few n (countsIn blocks n) = few-counts blocks n (blocks-before blocks n (suc n) (omega arith) e) in
+    rw (← add-one n, counts-more blocks n)
+    (few-more n (countsIn blocks n) (headOf (blocks n)) f (good-holds blocks n (suc n) (omega arith) e))
+
+-- fewer blocks have no more rows
+pub record NoMore (few many : Counts) : Type 0 where
+  pub boxes-most : few .boxes ≤ many .boxes
+  pub rows-most : few .containments ≤ many .containments
+  pub arrows-most : few .arrows ≤ many .arrows
+
+counts-most : (blocks : ℕ → List ℕ) (k n : ℕ) → k ≤ n → NoMore (countsIn blocks k) (countsIn blocks n)
+unfolding countsIn boxesIn containmentsIn arrowsIn
+counts-most blocks k n h =
+    let b = joined-most (λ i. boxesSaid (blocks i)) k n h in
+    let r = joined-most (λ i. containmentsSaid (blocks i)) k n h in
+    let a = joined-most (λ i. arrowsSaid (blocks i)) k n h in
+    record { boxes-most = b; rows-most = omega arith; arrows-most = omega arith }
+
+-- what a turn of the loop that writes the blocks needs
+pub block-fits : (file : List ℕ) (k boxes rows arrows : ℕ) → Fitting file boxes rows arrows → k < blockCount file
+    → BlockFits (countsIn (blockAt file) k) (headOf (blockAt file k)) boxes rows arrows
+unfolding countsWith
+block-fits file k boxes rows arrows f h =
+    let m : NoMore (countsWith (countsIn (blockAt file) k) (headOf (blockAt file k))) (countsOf file)
+    = rw (counts-more (blockAt file) k) at (counts-most (blockAt file) (k + 1) (blockCount file) (omega arith)) in
+    let g : Holds (headOf (blockAt file k)) = good-holds (blockAt file) k (blockCount file) h (f .good) in
+    let l : Few k (countsIn (blockAt file) k) = few-counts (blockAt file) k (blocks-before (blockAt file) k (blockCount file) (omega arith) (f .good)) in
+    record {
+      boxes-count = g .boxes-count;
+      rows-count = g .rows-count;
+      arrows-count = g .arrows-count;
+      boxes-few = omega arith;
+      rows-few = omega arith;
+      arrows-few = omega arith;
+      boxes-room = omega arith;
+      rows-room = omega arith;
+      arrows-room = omega arith;
+    }

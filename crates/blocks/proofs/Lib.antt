@@ -1,0 +1,9 @@
+-- Laws for the proofs of this crate and of the crates above it.
+pub mod Product
+pub mod Parts
+pub mod Placing
+pub mod Heads
+pub mod Searches
+pub mod Counting
+pub mod Order
+pub mod Made

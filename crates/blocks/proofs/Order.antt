@@ -1,0 +1,99 @@
+-- The order of the refusals of reading, and what holds where none is found. Assumes nothing.
+use mathlib.Core.Path.{_≡_, refl, _∙_}
+use mathlib.Core.Bool.{not, _||_}
+use mathlib.Core.List.{List}
+use mathlib.Core.Option.{Option, none, some}
+use Prim.Native.Nat.{ℕ, _%_, _<_, _≤_}
+use native.Mathlib.Omega.{arith}
+use borrow.Author.Tests.{ltb-false, le-ltb, eqb-true, eq-eqb, ne-eqb, not-false}
+use lib.Dec.{eqb, ltb}
+use lib.ListN.{length}
+use Rattle.tables.specs.Search.{given}
+use Rattle.tables.specs.Buffers.{written}
+use Rattle.tables.specs.Faults.{roomFault}
+use Rattle.tables.specs.declared.Refusal.{Refusal}
+use Rattle.tables.proofs.Verdicts.{past, stop}
+use Rattle.blocks.specs.Files.{blockAt, blockCount, lengthFault, blocksFault, fileFault, boxesOf, containmentsOf, arrowsOf}
+use Rattle.blocks.specs.Reads.{countsOf, tablesFault, readFault, answerOf, ReadDone}
+use Rattle.blocks.specs.Steps.{Fitting}
+use Rattle.blocks.specs.declared.Counts.{Counts}
+use Rattle.blocks.specs.declared.Reading.the-variants.{Tables, Refused}
+use Rattle.blocks.proofs.Searches.{none-left, none-right, given-none, or-false}
+
+-- what an answer says of the fault
+pub answer-tables : (o : Option Refusal) (c d : Counts) → answerOf o c ≡ Tables d → (o ≡ none) × (c ≡ d)
+answer-tables none c d e = let i : c ≡ d = cc in (refl, i)
+answer-tables (some r) c d e = let z : _≡_ {A = ℕ} 0 1 = cc in absurd (omega arith)
+
+pub answer-refused : (o : Option Refusal) (c : Counts) (r : Refusal) → answerOf o c ≡ Refused r → o ≡ some r
+answer-refused none c r e = let z : _≡_ {A = ℕ} 0 1 = cc in absurd (omega arith)
+answer-refused (some s) c r e = let i : s ≡ r = cc in rw i
+
+-- a length that 14 passes
+pub length-whole : (len : ℕ) → lengthFault len ≡ none → (len % 512 ≡ 0) × (len ≤ 32768)
+unfolding lengthFault
+length-whole len e =
+    let long = or-false (eqb len 0 || not (eqb (len % 512) 0)) (ltb 32768 len) (given-none _ _ e) in
+    let ragged = or-false (eqb len 0) (not (eqb (len % 512) 0)) (long .0) .1 in
+    (eqb-true (len % 512) 0 (not-false _ ragged), ltb-false 32768 len (long .1))
+
+pub length-good : (len : ℕ) → 0 < len → len % 512 ≡ 0 → len ≤ 32768 → lengthFault len ≡ none
+unfolding lengthFault given
+length-good len p e h = rw (ne-eqb len 0 (λ z. omega arith), eq-eqb (len % 512) 0 e, le-ltb 32768 len h)
+
+pub room-enough : (buffer have need : ℕ) → roomFault buffer have need ≡ none → need ≤ have
+unfolding roomFault
+room-enough buffer have need e = ltb-false have need (given-none _ _ e)
+
+module _ (file : List ℕ) (boxes rows arrows : ℕ) where
+  -- the checks in turn
+  pub by-length : {r : Refusal} → lengthFault (length file) ≡ some r → readFault file boxes rows arrows ≡ some r
+  unfolding readFault fileFault
+  by-length e = stop _ _ (stop _ _ e)
+
+  module _ (whole : lengthFault (length file) ≡ none) where
+    pub by-blocks : {r : Refusal} → blocksFault (blockAt file) (blockCount file) ≡ some r → readFault file boxes rows arrows ≡ some r
+    unfolding readFault fileFault
+    by-blocks e = stop _ _ (past _ _ whole ∙ e)
+
+    module _ (good : blocksFault (blockAt file) (blockCount file) ≡ none) where
+      pub by-tables : readFault file boxes rows arrows ≡ tablesFault (countsOf file) boxes rows arrows
+      unfolding readFault fileFault
+      by-tables = past _ _ (past _ _ whole ∙ good)
+
+      -- no fault at all
+      pub fitting : tablesFault (countsOf file) boxes rows arrows ≡ none → Fitting file boxes rows arrows
+      unfolding tablesFault
+      fitting e =
+          let room = none-right _ _ e in
+          let rest = none-right _ _ room in
+          let short = length-whole (length file) whole .1 in
+          record {
+            few = omega arith;
+            good = good;
+            boxes-fit = room-enough 5 boxes _ (none-left _ _ room);
+            rows-fit = room-enough 6 rows _ (none-left _ _ rest);
+            arrows-fit = room-enough 7 arrows _ (none-right _ _ rest);
+          }
+
+-- a refusal leaves the tables as they were
+pub read-refused : (file boxes rows arrows : List ℕ) {r : Refusal} → readFault file (length boxes) (length rows) (length arrows) ≡ some r
+    → ReadDone file boxes rows arrows boxes rows arrows (Refused r)
+read-refused file boxes rows arrows e = record {
+  answer = rw e;
+  boxes-end = rw e;
+  rows-end = rw e;
+  arrows-end = rw e;
+}
+
+-- else the row counts are answered
+pub read-done : (file boxes rows arrows boxesEnd rowsEnd arrowsEnd : List ℕ) (counts : Counts)
+    → readFault file (length boxes) (length rows) (length arrows) ≡ none → countsOf file ≡ counts
+    → boxesEnd ≡ written (boxesOf file) boxes → rowsEnd ≡ written (containmentsOf file) rows → arrowsEnd ≡ written (arrowsOf file) arrows
+    → ReadDone file boxes rows arrows boxesEnd rowsEnd arrowsEnd (Tables counts)
+read-done file boxes rows arrows boxesEnd rowsEnd arrowsEnd counts e c p q r = record {
+  answer = rw (e, c);
+  boxes-end = rw e p;
+  rows-end = rw e q;
+  arrows-end = rw e r;
+}

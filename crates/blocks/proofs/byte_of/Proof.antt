@@ -1,0 +1,21 @@
+-- A byte of a block is the byte of its file at 512 times the block and the place. Assumes nothing.
+use mathlib.Core.Path.{sym}
+use borrow.Author.Needs.{needs}
+use Rattle.blocks.proofs.Parts.{byte-at}
+use Rattle.blocks.proofs.byte_of.Statement.{statement}
+use Rattle.blocks.proofs.byte_of.Tie as tie
+
+mul-result : tie.Need-mul-result
+mul-result c = search needs
+
+add-result : tie.Need-add-result
+add-result c = search needs
+
+shared-slice-read-result : tie.Need-shared-slice-read-result
+shared-slice-read-result c = search needs
+
+returns : tie.Need-returns
+returns c = sym (byte-at (c .before .args .file .now) (c .before .args .block) (c .before .args .at) (search needs))
+
+pub byte-of-spec : {M : Type 1} → statement M
+byte-of-spec = tie.close (tie.spec mul-result add-result shared-slice-read-result returns)

@@ -1,0 +1,55 @@
+-- Document 01, "Block files": what a file says, and what is wrong with it. Assumes nothing.
+use mathlib.Core.Bool.{not, _||_}
+use mathlib.Core.List.{List}
+use mathlib.Core.Option.{Option}
+use Prim.Native.Nat.{ℕ, zero, suc, _*_, _/_, _%_}
+use lib.Dec.{eqb, ltb}
+use lib.ListN.{length, take, drop}
+use Rattle.tables.specs.Search.{orElse, given, first}
+use Rattle.tables.specs.Refusals.{badLength}
+use Rattle.tables.specs.declared.Refusal.{Refusal}
+use Rattle.blocks.specs.Blocks.{headOf, joined, boxesSaid, containmentsSaid, arrowsSaid, blockFault}
+
+-- a file's blocks of 512 bytes
+abbrev pub blockCount : List ℕ → ℕ
+blockCount file = length file / 512
+
+unfoldable pub blockAt : List ℕ → ℕ → List ℕ
+blockAt file k = take 512 (drop (512 * k) file)
+
+-- the kind of the block before block k, 0 where there is none
+unfoldable pub kindBefore : (ℕ → List ℕ) → ℕ → ℕ
+kindBefore blocks zero = 0
+kindBefore blocks (suc k) = headOf (blocks k) .kind
+
+-- for each of n blocks in turn 15, 16, 17
+unfoldable pub blocksFault : (ℕ → List ℕ) → ℕ → Option Refusal
+blocksFault blocks n = first (λ k. blockFault (kindBefore blocks k) k (blocks k)) n
+
+-- 14: file length 0, not a multiple of 512, or above 32,768
+unfoldable pub lengthFault : ℕ → Option Refusal
+lengthFault len = given (eqb len 0 || not (eqb (len % 512) 0) || ltb 32768 len) (badLength len)
+
+-- 14, then the blocks
+unfoldable pub fileFault : List ℕ → Option Refusal
+fileFault file = orElse (lengthFault (length file)) (blocksFault (blockAt file) (blockCount file))
+
+-- what n blocks say of each table
+unfoldable pub boxesIn : (ℕ → List ℕ) → ℕ → List ℕ
+boxesIn blocks n = joined (λ k. boxesSaid (blocks k)) n
+
+unfoldable pub containmentsIn : (ℕ → List ℕ) → ℕ → List ℕ
+containmentsIn blocks n = joined (λ k. containmentsSaid (blocks k)) n
+
+unfoldable pub arrowsIn : (ℕ → List ℕ) → ℕ → List ℕ
+arrowsIn blocks n = joined (λ k. arrowsSaid (blocks k)) n
+
+-- what a file says: its three tables
+abbrev pub boxesOf : List ℕ → List ℕ
+boxesOf file = boxesIn (blockAt file) (blockCount file)
+
+abbrev pub containmentsOf : List ℕ → List ℕ
+containmentsOf file = containmentsIn (blockAt file) (blockCount file)
+
+abbrev pub arrowsOf : List ℕ → List ℕ
+arrowsOf file = arrowsIn (blockAt file) (blockCount file)

@@ -1,0 +1,5 @@
+pub mod Fnv
+pub mod Blocks
+pub mod Files
+pub mod Reads
+pub mod Steps

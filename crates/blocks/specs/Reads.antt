@@ -1,0 +1,55 @@
+-- What reading a file into three lent tables answers, and what it leaves in them. Assumes nothing.
+use mathlib.Core.Path.{_≡_}
+use mathlib.Core.List.{List}
+use mathlib.Core.Option.{Option, none, some}
+use Prim.Native.Nat.{ℕ, _*_}
+use lib.ListN.{length}
+use Rattle.tables.specs.Search.{orElse}
+use Rattle.tables.specs.Buffers.{written}
+use Rattle.tables.specs.Rows.{rowCount, arrowCount}
+use Rattle.tables.specs.Faults.{countFault, roomFault}
+use Rattle.tables.specs.declared.Refusal.{Refusal}
+use Rattle.blocks.specs.Files.{blockAt, blockCount, fileFault, boxesIn, containmentsIn, arrowsIn, boxesOf, containmentsOf, arrowsOf}
+use Rattle.blocks.specs.declared.Counts.{Counts}
+use Rattle.blocks.specs.declared.Reading.{Reading}
+use Rattle.blocks.specs.declared.Reading.the-variants.{Tables, Refused}
+
+-- the row counts of what n blocks say
+unfoldable pub countsIn : (ℕ → List ℕ) → ℕ → Counts
+countsIn blocks n = record {
+  boxes = length (boxesIn blocks n);
+  containments = rowCount (containmentsIn blocks n);
+  arrows = arrowCount (arrowsIn blocks n);
+}
+
+abbrev pub countsOf : List ℕ → Counts
+countsOf file = countsIn (blockAt file) (blockCount file)
+
+-- 2, then 9, each for the lowest table or buffer: 5 boxes, 6 containments, 7 arrows (numbers to be read)
+unfoldable pub tablesFault : Counts → ℕ → ℕ → ℕ → Option Refusal
+tablesFault counts boxes rows arrows =
+    orElse (countFault (counts .boxes) (counts .containments) (counts .arrows))
+    (orElse (roomFault 5 boxes (counts .boxes))
+    (orElse (roomFault 6 rows (2 * counts .containments))
+    (roomFault 7 arrows (4 * counts .arrows))))
+
+-- 14, then for each block in turn 15, 16, 17, then 2, then 9
+unfoldable pub readFault : List ℕ → ℕ → ℕ → ℕ → Option Refusal
+readFault file boxes rows arrows = orElse (fileFault file) (tablesFault (countsOf file) boxes rows arrows)
+
+-- the three row counts, or the refusal
+abbrev pub answerOf : Option Refusal → Counts → Reading
+answerOf none counts = Tables counts
+answerOf (some r) counts = Refused r
+
+-- a refusal leaves every place untouched; else the places beyond what is read stay
+abbrev pub endOf : Option Refusal → List ℕ → List ℕ → List ℕ
+endOf none new old = written new old
+endOf (some r) new old = old
+
+-- the answer, and what each table holds at the end
+pub record ReadDone (file boxes rows arrows boxesEnd rowsEnd arrowsEnd : List ℕ) (r : Reading) : Type 0 where
+  pub answer : r ≡ answerOf (readFault file (length boxes) (length rows) (length arrows)) (countsOf file)
+  pub boxes-end : boxesEnd ≡ endOf (readFault file (length boxes) (length rows) (length arrows)) (boxesOf file) boxes
+  pub rows-end : rowsEnd ≡ endOf (readFault file (length boxes) (length rows) (length arrows)) (containmentsOf file) rows
+  pub arrows-end : arrowsEnd ≡ endOf (readFault file (length boxes) (length rows) (length arrows)) (arrowsOf file) arrows

@@ -1,0 +1,36 @@
+-- What holds of a picture that passes checks 1 to 7, 9 for the scratch, and 10. Assumes nothing.
+use mathlib.Core.Path.{_≡_}
+use mathlib.Core.List.{List}
+use mathlib.Core.Option.{Option, none}
+use Rattle.tables.specs.declared.Refusal.{Refusal}
+use Prim.Native.Nat.{ℕ}
+use lib.ListN.{length}
+use Rattle.tables.specs.Faults.{tableFault, SoundRows, SoundArrows}
+use Rattle.tables.proofs.TableLaws.{both-none, sound-rows, sound-arrows}
+use Rattle.containment.specs.Contains.{loopFault}
+use Rattle.containment.specs.Scratch.{filled, Says, scratchFault, scratchAfter, earlyFault, pictureFault}
+use Rattle.containment.proofs.ScratchLaws.{filled-says, scratch-room}
+
+pub record Prepared (boxes rows arrows s : List ℕ) : Type 0 where
+  pub rows-sound : SoundRows boxes rows
+  pub arrows-sound : SoundArrows boxes arrows
+  pub says : Says (length boxes) rows (filled (length boxes) rows s)
+
+pub prepared : (boxes rows arrows s : List ℕ) → tableFault boxes rows arrows ≡ none → scratchFault (length boxes) s ≡ none → Prepared boxes rows arrows s
+prepared boxes rows arrows s t r = record {
+  rows-sound = sound-rows boxes rows arrows t;
+  arrows-sound = sound-arrows boxes rows arrows t;
+  says = filled-says (length boxes) rows s (scratch-room (length boxes) s r);
+}
+
+-- the scratch is filled where checks 1 to 9 found nothing
+pub scratch-filled : (boxes rows s : List ℕ) {fault : Option Refusal} → fault ≡ none → scratchAfter fault boxes rows s ≡ filled (length boxes) rows s
+unfolding scratchAfter
+scratch-filled boxes rows s e = rw e
+
+pub picture-prepared : (boxes rows arrows s : List ℕ) → pictureFault boxes rows arrows s ≡ none → Prepared boxes rows arrows s × (earlyFault boxes rows arrows s ≡ none)
+unfolding pictureFault earlyFault
+picture-prepared boxes rows arrows s e =
+    let early = both-none (earlyFault boxes rows arrows s) (loopFault boxes rows) e .0 in
+    let two = both-none (tableFault boxes rows arrows) (scratchFault (length boxes) s) early in
+    (prepared boxes rows arrows s (two .0) (two .1), early)

@@ -1,0 +1,585 @@
+//! The lettered pictures A to J, the three traps, the limits and some orders of refusals, with
+//! expectations written by hand from document 01. Each is put to the library through the wrapper
+//! and to the model.
+
+use super::checker::{self, Answer, Known, Lists, Tables};
+use super::compare_answer;
+use super::rights::{self, Counts, Picture};
+
+/// Number and three numbers of a refusal.
+type Refused = (u32, [u64; 3]);
+
+struct Case {
+    name: &'static str,
+    boxes: &'static [u8],
+    rows: &'static [u16],
+    arrows: &'static [u16],
+    judge: Option<Refused>,
+    /// Bytes and numbers of mode 0; none where the matrix is refused as the judge is.
+    matrix: Option<(&'static [u8], &'static [u16])>,
+    entries: &'static [(u16, u16, Answer)],
+    list: List,
+}
+
+enum List {
+    Refused(Refused),
+    /// All lists without repeats that will do.
+    OneOf(&'static [&'static [u16]]),
+}
+
+const NONE: u16 = 65_535;
+
+const CASES: &[Case] = &[
+    Case {
+        name: "A: no boxes",
+        boxes: &[],
+        rows: &[],
+        arrows: &[],
+        judge: None,
+        matrix: Some((&[], &[])),
+        entries: &[],
+        list: List::OneOf(&[&[]]),
+    },
+    Case {
+        name: "B: a person against the group; trap 1 would make it unclear",
+        boxes: &[0, 0, 0, 1],
+        rows: &[2, 0, 2, 1],
+        arrows: &[0, 3, 0, 1, 2, 3, 0, 0],
+        judge: None,
+        matrix: Some((&[1, 0], &[0, 1])),
+        entries: &[(0, 3, Answer::Granted(0)), (1, 3, Answer::Denied(1))],
+        list: List::OneOf(&[&[0], &[0, 1]]),
+    },
+    Case {
+        name: "C: both signs between two boxes",
+        boxes: &[0, 1],
+        rows: &[],
+        arrows: &[0, 1, 0, 1, 0, 1, 0, 0],
+        judge: Some((12, [0, 0, 1])),
+        matrix: Some((&[2], &[NONE])),
+        entries: &[(0, 1, Answer::Unclear(0, 1))],
+        list: List::Refused((12, [0, 0, 1])),
+    },
+    Case {
+        name: "D: crossing groups",
+        boxes: &[0, 0, 0, 1],
+        rows: &[1, 0, 2, 0],
+        arrows: &[1, 3, 0, 1, 2, 3, 0, 0],
+        judge: Some((12, [0, 0, 3])),
+        matrix: Some((&[2], &[NONE])),
+        entries: &[(0, 3, Answer::Unclear(0, 1))],
+        list: List::Refused((12, [0, 0, 3])),
+    },
+    Case {
+        name: "E: D, settled by a single arrow",
+        boxes: &[0, 0, 0, 1],
+        rows: &[1, 0, 2, 0],
+        arrows: &[1, 3, 0, 1, 2, 3, 0, 0, 0, 3, 0, 1],
+        judge: None,
+        matrix: Some((&[1], &[2])),
+        entries: &[(0, 3, Answer::Granted(2))],
+        list: List::OneOf(&[
+            &[0],
+            &[0, 1],
+            &[0, 2],
+            &[0, 1, 2],
+            &[0, 2, 1],
+            &[2],
+            &[2, 0],
+            &[2, 1],
+            &[2, 0, 1],
+            &[2, 1, 0],
+        ]),
+    },
+    Case {
+        name: "F: deeper by one end each",
+        boxes: &[0, 0, 1, 1],
+        rows: &[1, 0, 3, 2],
+        arrows: &[1, 2, 0, 1, 0, 3, 0, 0],
+        judge: Some((12, [0, 0, 2])),
+        matrix: Some((&[2], &[NONE])),
+        entries: &[(0, 2, Answer::Unclear(0, 1))],
+        list: List::Refused((12, [0, 0, 2])),
+    },
+    Case {
+        name: "G: no arrow",
+        boxes: &[0, 1],
+        rows: &[],
+        arrows: &[],
+        judge: None,
+        matrix: Some((&[0], &[NONE])),
+        entries: &[(0, 1, Answer::Default)],
+        list: List::OneOf(&[&[]]),
+    },
+    Case {
+        name: "H: a box inside itself",
+        boxes: &[0],
+        rows: &[0, 0],
+        arrows: &[],
+        judge: Some((10, [0, 0, 0])),
+        matrix: None,
+        entries: &[],
+        list: List::Refused((10, [0, 0, 0])),
+    },
+    Case {
+        name: "I: the lowest certificate, not the deepest",
+        boxes: &[0, 0, 1],
+        rows: &[1, 0],
+        arrows: &[1, 2, 0, 1, 0, 2, 0, 1],
+        judge: None,
+        matrix: Some((&[1], &[0])),
+        entries: &[(0, 2, Answer::Granted(0))],
+        list: List::OneOf(&[&[0], &[1], &[0, 1], &[1, 0]]),
+    },
+    Case {
+        name: "J: the ring; trap 3 would write a list",
+        boxes: &[0, 0, 0, 0, 0, 0, 1, 1, 1, 1, 1, 1],
+        rows: &[
+            2, 0, 2, 5, 3, 0, 4, 3, 4, 1, 5, 1, 8, 7, 9, 8, 9, 6, 10, 6, 11, 10, 11, 7,
+        ],
+        arrows: &[2, 8, 0, 1, 3, 9, 0, 0, 4, 10, 0, 1, 5, 11, 0, 0],
+        judge: None,
+        matrix: Some((&[0, 1, 1, 0], &[1, 0, 2, 3])),
+        entries: &[
+            (0, 6, Answer::Denied(1)),
+            (0, 7, Answer::Granted(0)),
+            (1, 6, Answer::Granted(2)),
+            (1, 7, Answer::Denied(3)),
+        ],
+        list: List::Refused((13, [0, 0, 7])),
+    },
+    Case {
+        // Arrow 0 wins by its tail, arrow 1 by its head, neither by both.
+        name: "trap 2: no certificate made of two arrows",
+        boxes: &[0, 0, 0, 1, 1, 1],
+        rows: &[1, 0, 2, 1, 4, 3, 5, 4],
+        arrows: &[0, 5, 0, 1, 2, 3, 0, 1, 1, 4, 0, 0],
+        judge: Some((12, [0, 0, 3])),
+        matrix: Some((&[2], &[NONE])),
+        entries: &[(0, 3, Answer::Unclear(0, 2))],
+        list: List::Refused((12, [0, 0, 3])),
+    },
+    Case {
+        name: "a conflict in mode 7 only",
+        boxes: &[0, 1],
+        rows: &[],
+        arrows: &[0, 1, 7, 1, 0, 1, 7, 0],
+        judge: Some((12, [7, 0, 1])),
+        matrix: Some((&[0], &[NONE])),
+        entries: &[(0, 1, Answer::Default)],
+        list: List::OneOf(&[&[]]),
+    },
+    Case {
+        name: "two granted pairs that need two arrows",
+        boxes: &[0, 0, 1],
+        rows: &[],
+        arrows: &[0, 2, 0, 1, 1, 2, 0, 1],
+        judge: None,
+        matrix: Some((&[1, 1], &[0, 1])),
+        entries: &[(0, 2, Answer::Granted(0)), (1, 2, Answer::Granted(1))],
+        list: List::OneOf(&[&[0, 1], &[1, 0]]),
+    },
+    Case {
+        name: "unclear shows the positive arrow first, also the higher one",
+        boxes: &[0, 1],
+        rows: &[],
+        arrows: &[0, 1, 0, 0, 0, 1, 0, 1],
+        judge: Some((12, [0, 0, 1])),
+        matrix: Some((&[2], &[NONE])),
+        entries: &[(0, 1, Answer::Unclear(1, 0))],
+        list: List::Refused((12, [0, 0, 1])),
+    },
+    Case {
+        name: "an empty group is a user, a repeated row changes nothing",
+        boxes: &[0, 0, 0, 1],
+        rows: &[1, 0, 1, 0],
+        arrows: &[2, 3, 0, 1],
+        judge: None,
+        matrix: Some((&[0, 1], &[NONE, 0])),
+        entries: &[(0, 3, Answer::Default), (2, 3, Answer::Granted(0))],
+        list: List::OneOf(&[&[0]]),
+    },
+    Case {
+        name: "the lowest box on a loop, not below it",
+        boxes: &[0, 0],
+        rows: &[0, 1, 1, 1],
+        arrows: &[],
+        judge: Some((10, [1, 0, 0])),
+        matrix: None,
+        entries: &[],
+        list: List::Refused((10, [1, 0, 0])),
+    },
+];
+
+/// Tables that checks 1 to 7 refuse, and how.
+const REFUSED: &[(&str, &[u8], &[u16], &[u16], Refused)] = &[
+    (
+        "ragged containments",
+        &[0],
+        &[0, 0, 0],
+        &[0],
+        (1, [1, 3, 0]),
+    ),
+    ("ragged arrows", &[0], &[], &[0, 0], (1, [2, 2, 0])),
+    ("box byte", &[1, 2, 3], &[9, 9], &[], (3, [1, 0, 0])),
+    (
+        "4 in row 1 before 5 in row 0",
+        &[0, 1],
+        &[0, 1, 0, 2],
+        &[],
+        (4, [1, 0, 0]),
+    ),
+    ("across sides", &[0, 1], &[0, 0, 1, 0], &[], (5, [1, 0, 0])),
+    (
+        "6 in row 1 before 7 in row 0",
+        &[0, 1],
+        &[],
+        &[0, 1, 8, 0, 1, 0, 0, 0],
+        (6, [1, 0, 0]),
+    ),
+    (
+        "tail beyond the boxes",
+        &[0, 1],
+        &[],
+        &[2, 1, 0, 0],
+        (6, [0, 0, 0]),
+    ),
+    (
+        "mode 8",
+        &[0, 1],
+        &[],
+        &[0, 1, 7, 1, 0, 1, 8, 1],
+        (7, [1, 0, 0]),
+    ),
+    ("sign 2", &[0, 1], &[], &[0, 1, 7, 2], (7, [0, 0, 0])),
+];
+
+/// Published values of FNV-1a with 32 bits.
+const FNV: &[(&[u8], u32)] = &[
+    (b"", 0x811c_9dc5),
+    (b"a", 0xe40c_292c),
+    (b"b", 0xe70c_2de5),
+    (b"foobar", 0xbf9c_f968),
+];
+
+/// The block file of case B: what stands in it that isn't zero, block by block.
+const FILE_B: [&[(usize, u8)]; 3] = [
+    &[
+        (0, 1),
+        (4, 4),
+        (11, 1),
+        (508, 0xd3),
+        (509, 0x74),
+        (510, 0x47),
+        (511, 0x2a),
+    ],
+    &[
+        (0, 2),
+        (2, 1),
+        (4, 2),
+        (8, 2),
+        (12, 2),
+        (14, 1),
+        (508, 0x05),
+        (509, 0x17),
+        (510, 0x4f),
+        (511, 0xf5),
+    ],
+    &[
+        (0, 3),
+        (2, 2),
+        (4, 2),
+        (10, 3),
+        (13, 1),
+        (14, 2),
+        (16, 3),
+        (508, 0x73),
+        (509, 0x74),
+        (510, 0xdc),
+        (511, 0xc5),
+    ],
+];
+
+const LISTING_B: &str = "boxes 4 containments 2 arrows 2\n\
+    0 0 3 pos 0\n\
+    0 1 3 neg 1\n\
+    accepted\n";
+
+pub fn file_b() -> Vec<u8> {
+    let mut file = vec![0; 3 * 512];
+    for (block, bytes) in FILE_B.iter().enumerate() {
+        for &(at, byte) in bytes.iter() {
+            file[512 * block + at] = byte;
+        }
+    }
+    file
+}
+
+/// Counts what was checked and keeps what went wrong.
+#[derive(Default)]
+pub struct Report {
+    pub passed: usize,
+    pub failed: Vec<String>,
+}
+
+impl Report {
+    fn same<T: PartialEq + std::fmt::Debug>(&mut self, what: &str, got: T, want: T) {
+        if got == want {
+            self.passed += 1;
+        } else {
+            self.failed
+                .push(format!("{what}: got {got:?}, want {want:?}"));
+        }
+    }
+}
+
+fn numbers<T>(result: &Result<T, rights::Refusal>) -> Option<Refused> {
+    result.as_ref().err().map(|refusal| refusal.numbers())
+}
+
+fn model_numbers<T>(result: &Result<T, checker::Refusal>) -> Option<Refused> {
+    result.as_ref().err().map(|r| (r.number, r.places))
+}
+
+fn one_case(case: &Case, report: &mut Report) {
+    let Case { boxes, rows, .. } = *case;
+    let tables = Tables {
+        boxes: boxes.to_vec(),
+        rows: rows.to_vec(),
+        arrows: case.arrows.to_vec(),
+    };
+    let known = Known::new(&tables);
+    let picture = Picture {
+        boxes,
+        containments: rows,
+        arrows: case.arrows,
+    };
+    let needed = boxes.len() * boxes.len();
+    let mut scratch = vec![9; needed];
+
+    let what = format!("{}: judge", case.name);
+    let got = rights::judge(picture, &mut scratch);
+    report.same(&what, numbers(&got), case.judge);
+    let model = checker::judge(&known, &vec![9; needed]);
+    report.same(&what, model_numbers(&model.result), case.judge);
+
+    for &(user, file, want) in case.entries {
+        let what = format!("{}: entry {user}, {file}", case.name);
+        let got = rights::entry(picture, user, file, 0, &mut scratch);
+        report.same(&what, got.ok().map(compare_answer), Some(want));
+        let model = checker::entry(&known, user, file, 0, &vec![9; needed]);
+        report.same(&what, model.result.ok(), Some(want));
+    }
+
+    let what = format!("{}: matrix", case.name);
+    let pairs = case.matrix.map_or(0, |(bytes, _)| bytes.len());
+    let (mut bytes, mut arrows) = (vec![9; pairs], vec![9; pairs]);
+    let got = rights::matrix(picture, 0, &mut scratch, &mut bytes, &mut arrows);
+    let model = checker::matrix(
+        &known,
+        0,
+        &vec![9; needed],
+        &vec![9; pairs],
+        &vec![9; pairs],
+    );
+    match case.matrix {
+        Some((want_bytes, want_arrows)) => {
+            report.same(&what, numbers(&got), None);
+            report.same(&what, (&bytes[..], &arrows[..]), (want_bytes, want_arrows));
+            let got = (&model.bytes[..], &model.numbers[..]);
+            report.same(&what, got, (want_bytes, want_arrows));
+        }
+        None => {
+            report.same(&what, numbers(&got), case.judge);
+            report.same(&what, model_numbers(&model.result), case.judge);
+        }
+    }
+
+    let what = format!("{}: list", case.name);
+    let places = case.arrows.chunks(4).filter(|row| row[2] == 0).count();
+    let (mut list, mut work) = (vec![9; places], vec![9; pairs]);
+    let got = rights::list(picture, 0, &mut scratch, &mut list, &mut work);
+    let model = checker::list(
+        &known,
+        0,
+        &vec![9; needed],
+        &vec![9; places],
+        &vec![9; pairs],
+    );
+    match case.list {
+        List::Refused(want) => {
+            report.same(&what, numbers(&got), Some(want));
+            report.same(&what, model_numbers(&model.result), Some(want));
+        }
+        List::OneOf(lists) => {
+            report.same(&what, numbers(&got), None);
+            let count = got.map_or(0, |count| count as usize).min(places);
+            report.same(&what, lists.contains(&&list[..count]), true);
+            report.same(&what, work, vec![0; pairs]);
+            report.same(&what, model_numbers(&model.result), None);
+            // The model takes exactly the lists that stand in the table.
+            let Ok(p) = known.sound() else { return };
+            let mut tried: Vec<Vec<u16>> = vec![Vec::new()];
+            while let Some(list) = tried.pop() {
+                let will_do = Lists::new(p, 0).will_do(&list).is_ok();
+                report.same(&what, will_do, lists.contains(&&list[..]));
+                for k in p.of_mode(0) {
+                    if !list.contains(&(k as u16)) {
+                        tried.push([&list[..], &[k as u16]].concat());
+                    }
+                }
+            }
+        }
+    }
+}
+
+/// Limits of tables and files.
+fn limits(report: &mut Report) {
+    for (n, want) in [(256, None), (257, Some((2, [0, 257, 0])))] {
+        let boxes = vec![1; n];
+        let picture = Picture {
+            boxes: &boxes,
+            containments: &[],
+            arrows: &[],
+        };
+        let got = rights::judge(picture, &mut vec![9; 65_536]);
+        report.same("limit of boxes", numbers(&got), want);
+    }
+    for (count, want) in [(1024, None), (1025, Some((2, [1, 1025, 0])))] {
+        let picture = Picture {
+            boxes: &[0, 0],
+            containments: &[0, 1].repeat(count),
+            arrows: &[],
+        };
+        let got = rights::judge(picture, &mut [9; 4]);
+        report.same("limit of containments", numbers(&got), want);
+    }
+    for (count, want) in [(512, None), (513, Some((2, [2, 513, 0])))] {
+        let picture = Picture {
+            boxes: &[0, 1],
+            containments: &[],
+            arrows: &[0, 1, 7, 1].repeat(count),
+        };
+        let got = rights::judge(picture, &mut [9; 4]);
+        report.same("limit of arrows", numbers(&got), want);
+    }
+    // The last row of a full table counts.
+    let picture = Picture {
+        boxes: &[0, 0, 0, 1],
+        containments: &[[0, 1].repeat(1023), vec![2, 0]].concat(),
+        arrows: &[[1, 3, 7, 1].repeat(511), vec![2, 3, 6, 0]].concat(),
+    };
+    let mut scratch = [9; 16];
+    let got = rights::entry(picture, 1, 3, 6, &mut scratch);
+    let want = Some(Answer::Denied(511));
+    report.same("arrow 511", got.ok().map(compare_answer), want);
+    let want = [0, 1, 0, 0, 0, 0, 0, 0, 1, 1, 0, 0, 0, 0, 0, 0];
+    report.same("containment 1023", scratch, want);
+    // A scratch of one byte less than 256 boxes need.
+    let boxes = vec![0; 256];
+    let picture = Picture {
+        boxes: &boxes,
+        containments: &[],
+        arrows: &[],
+    };
+    let got = rights::judge(picture, &mut vec![9; 65_535]);
+    report.same("short scratch", numbers(&got), Some((9, [0, 65_536, 0])));
+}
+
+fn refused(report: &mut Report) {
+    for &(what, boxes, rows, arrows, want) in REFUSED {
+        let picture = Picture {
+            boxes,
+            containments: rows,
+            arrows,
+        };
+        // A mode that isn't there and no scratch: both come later.
+        let got = rights::matrix(picture, 8, &mut [], &mut [], &mut []);
+        report.same(what, numbers(&got), Some(want));
+        let known = Known::new(&Tables {
+            boxes: boxes.to_vec(),
+            rows: rows.to_vec(),
+            arrows: arrows.to_vec(),
+        });
+        report.same(what, model_numbers(&known.sound()), Some(want));
+    }
+    // 8 before 9 before 10 before 11.
+    let loop_h = Picture {
+        boxes: &[0],
+        containments: &[0, 0],
+        arrows: &[],
+    };
+    let got = rights::entry(loop_h, 5, 6, 8, &mut []);
+    report.same("8 first", numbers(&got), Some((8, [8, 0, 0])));
+    let got = rights::entry(loop_h, 5, 6, 7, &mut []);
+    report.same("9 next", numbers(&got), Some((9, [0, 1, 0])));
+    let mut scratch = [9, 9];
+    let got = rights::entry(loop_h, 5, 6, 7, &mut scratch);
+    report.same("10 next", numbers(&got), Some((10, [0, 0, 0])));
+    report.same("10 fills the scratch", scratch, [1, 9]);
+    let group = Picture {
+        boxes: &[0, 0, 1],
+        containments: &[1, 0],
+        arrows: &[],
+    };
+    let got = rights::entry(group, 1, 2, 7, &mut [9; 9]);
+    report.same("a group is no user", numbers(&got), Some((11, [1, 2, 0])));
+}
+
+fn files(report: &mut Report) {
+    for &(bytes, want) in FNV {
+        report.same("published FNV value", checker::fnv(bytes), want);
+    }
+    let file = file_b();
+    let read = |file: &[u8], lengths: [usize; 3]| {
+        let [boxes, rows, arrows] = lengths;
+        let (mut boxes, mut rows, mut arrows) = (vec![9; boxes], vec![9; rows], vec![9; arrows]);
+        let got = rights::read(file, &mut boxes, &mut rows, &mut arrows);
+        (got, boxes, rows, arrows)
+    };
+    let counts = Counts {
+        boxes: 4,
+        containments: 2,
+        arrows: 2,
+    };
+    report.same(
+        "file of case B",
+        read(&file, [5, 5, 9]),
+        (
+            Ok(counts),
+            vec![0, 0, 0, 1, 9],
+            vec![2, 0, 2, 1, 9],
+            vec![0, 3, 0, 1, 2, 3, 0, 0, 9],
+        ),
+    );
+    let short = |lengths| numbers(&read(&file, lengths).0);
+    report.same("short boxes", short([3, 3, 7]), Some((9, [5, 4, 0])));
+    report.same("short rows", short([4, 3, 7]), Some((9, [6, 4, 0])));
+    report.same("short arrows", short([4, 4, 7]), Some((9, [7, 8, 0])));
+    let cut = |length: usize| numbers(&read(&file[..length], [4, 4, 8]).0);
+    report.same("512 bytes", cut(512), None);
+    report.same("511 bytes", cut(511), Some((14, [511, 0, 0])));
+    report.same("no bytes", cut(0), Some((14, [0, 0, 0])));
+    report.same(
+        "listing of B",
+        checker::listing(&file),
+        LISTING_B.to_string(),
+    );
+    let beyond = vec![0; 40_000];
+    report.same(
+        "listing of a long input",
+        checker::listing(&beyond),
+        "refused 14 32769 0 0\n".to_string(),
+    );
+}
+
+pub fn run() -> Report {
+    let mut report = Report::default();
+    for case in CASES {
+        one_case(case, &mut report);
+    }
+    limits(&mut report);
+    refused(&mut report);
+    files(&mut report);
+    report
+}

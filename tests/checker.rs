@@ -1,0 +1,793 @@
+//! The independent model: document 01 in plain Rust, written from its text alone.
+//!
+//! Each call is a pure function from what was lent (the tables and the contents of every buffer
+//! before the call) to the answer and the contents of every buffer after it. Only the list is left
+//! free by the document; for it the model says which lists will do.
+
+pub const MOST_BOXES: usize = 256;
+pub const MOST_CONTAINMENTS: usize = 1024;
+pub const MOST_ARROWS: usize = 512;
+pub const MODES: u16 = 8;
+/// Stands in the matrix for "no arrow" and in the list after "no order".
+pub const NO_ARROW: u16 = 65_535;
+pub const BLOCK: usize = 512;
+pub const LONGEST_FILE: usize = 32_768;
+/// The program reads no more of its input than this.
+pub const MOST_INPUT: usize = 32_769;
+
+/// The three lent tables as plain numbers, good or bad.
+#[derive(Clone, Debug, Default, PartialEq, Eq)]
+pub struct Tables {
+    pub boxes: Vec<u8>,
+    pub rows: Vec<u16>,
+    pub arrows: Vec<u16>,
+}
+
+/// A refusal: its number and its three numbers, 0 where nothing is named.
+#[derive(Clone, Copy, Debug, PartialEq, Eq)]
+pub struct Refusal {
+    pub number: u32,
+    pub places: [u64; 3],
+}
+
+pub fn refuse<T>(number: u32, a: usize, b: usize, c: usize) -> Result<T, Refusal> {
+    Err(Refusal {
+        number,
+        places: [a as u64, b as u64, c as u64],
+    })
+}
+
+#[derive(Clone, Copy, Debug, PartialEq, Eq)]
+pub enum Answer {
+    Granted(usize),
+    Denied(usize),
+    Default,
+    /// The lowest positive and the lowest negative arrow that reach the pair.
+    Unclear(usize, usize),
+}
+
+#[derive(Clone, Copy, Debug, PartialEq, Eq)]
+pub struct Arrow {
+    pub tail: usize,
+    pub head: usize,
+    pub mode: u16,
+    pub positive: bool,
+}
+
+// ---------------------------------------------------------------------------------------------
+// Checks 1 to 7
+
+fn ragged(t: &Tables) -> Result<(), Refusal> {
+    if t.rows.len() % 2 != 0 {
+        return refuse(1, 1, t.rows.len(), 0);
+    }
+    if t.arrows.len() % 4 != 0 {
+        return refuse(1, 2, t.arrows.len(), 0);
+    }
+    Ok(())
+}
+
+fn too_many(counts: [usize; 3]) -> Result<(), Refusal> {
+    let limits = [MOST_BOXES, MOST_CONTAINMENTS, MOST_ARROWS];
+    for table in 0..3 {
+        if counts[table] > limits[table] {
+            return refuse(2, table, counts[table], 0);
+        }
+    }
+    Ok(())
+}
+
+/// Refuses with the number and the first row for which the fault holds.
+fn first_bad<R>(
+    number: u32,
+    rows: impl Iterator<Item = R>,
+    bad: impl Fn(R) -> bool,
+) -> Result<(), Refusal> {
+    for (place, row) in rows.enumerate() {
+        if bad(row) {
+            return refuse(number, place, 0, 0);
+        }
+    }
+    Ok(())
+}
+
+/// Checks 1 to 7, each over its whole table before the next.
+fn table_checks(t: &Tables) -> Result<(), Refusal> {
+    let n = t.boxes.len();
+    ragged(t)?;
+    too_many([n, t.rows.len() / 2, t.arrows.len() / 4])?;
+    first_bad(3, t.boxes.iter(), |&byte| byte > 1)?;
+    first_bad(4, t.rows.chunks(2), |row| {
+        row[0] as usize >= n || row[1] as usize >= n
+    })?;
+    first_bad(5, t.rows.chunks(2), |row| {
+        t.boxes[row[0] as usize] != t.boxes[row[1] as usize]
+    })?;
+    let is = |number: u16, side: u8| t.boxes.get(number as usize) == Some(&side);
+    first_bad(6, t.arrows.chunks(4), |row| {
+        !is(row[0], 0) || !is(row[1], 1)
+    })?;
+    first_bad(7, t.arrows.chunks(4), |row| row[2] > 7 || row[3] > 1)
+}
+
+// ---------------------------------------------------------------------------------------------
+// The picture and its meaning
+
+/// A picture whose tables passed checks 1 to 7; it may still have a loop.
+#[derive(Clone, Debug)]
+pub struct Picture {
+    pub n: usize,
+    pub arrows: Vec<Arrow>,
+    /// `contains[a][b]`: a chain of one or more rows leads from a to b.
+    pub contains: Vec<Vec<bool>>,
+    /// Atomic users and atomic files, by rising number.
+    pub users: Vec<usize>,
+    pub files: Vec<usize>,
+    /// The lowest box that contains itself.
+    pub on_loop: Option<usize>,
+    /// For each mode the answers of all pairs, row by row; empty where there is a loop.
+    pub answers: Vec<Vec<Answer>>,
+}
+
+/// Every box that a walk along the rows finds from `start`, `start` itself only by a loop.
+fn found_from(start: usize, inner: &[Vec<usize>]) -> Vec<bool> {
+    let mut found = vec![false; inner.len()];
+    let mut waiting = inner[start].clone();
+    while let Some(b) = waiting.pop() {
+        if !found[b] {
+            found[b] = true;
+            waiting.extend(&inner[b]);
+        }
+    }
+    found
+}
+
+impl Picture {
+    fn new(t: &Tables) -> Picture {
+        let n = t.boxes.len();
+        let mut inner = vec![Vec::new(); n];
+        for row in t.rows.chunks(2) {
+            inner[row[0] as usize].push(row[1] as usize);
+        }
+        let atoms = |side: u8| -> Vec<usize> {
+            (0..n)
+                .filter(|&b| t.boxes[b] == side && inner[b].is_empty())
+                .collect()
+        };
+        let contains: Vec<Vec<bool>> = (0..n).map(|a| found_from(a, &inner)).collect();
+        let mut picture = Picture {
+            n,
+            arrows: t
+                .arrows
+                .chunks(4)
+                .map(|row| Arrow {
+                    tail: row[0] as usize,
+                    head: row[1] as usize,
+                    mode: row[2],
+                    positive: row[3] == 1,
+                })
+                .collect(),
+            users: atoms(0),
+            files: atoms(1),
+            on_loop: (0..n).find(|&b| contains[b][b]),
+            contains,
+            answers: Vec::new(),
+        };
+        if picture.on_loop.is_none() {
+            picture.answers = (0..MODES).map(|mode| picture.mode_answers(mode)).collect();
+        }
+        picture
+    }
+
+    pub fn pairs(&self) -> usize {
+        self.users.len() * self.files.len()
+    }
+
+    /// User and file of the pair at a place, row by row.
+    pub fn pair(&self, place: usize) -> (usize, usize) {
+        let columns = self.files.len();
+        (self.users[place / columns], self.files[place % columns])
+    }
+
+    /// The numbers of the mode's arrows, rising.
+    pub fn of_mode(&self, mode: u16) -> Vec<usize> {
+        (0..self.arrows.len())
+            .filter(|&k| self.arrows[k].mode == mode)
+            .collect()
+    }
+
+    fn is_or_contains(&self, a: usize, b: usize) -> bool {
+        a == b || self.contains[a][b]
+    }
+
+    pub fn reaches(&self, arrow: usize, user: usize, file: usize) -> bool {
+        let arrow = &self.arrows[arrow];
+        self.is_or_contains(arrow.tail, user) && self.is_or_contains(arrow.head, file)
+    }
+
+    /// For two boxes around one atom.
+    fn level(&self, a: usize, b: usize) -> bool {
+        a == b || (!self.contains[a][b] && !self.contains[b][a])
+    }
+
+    /// For two arrows reaching one pair.
+    fn overrides(&self, p: usize, n: usize) -> bool {
+        let (p, n) = (&self.arrows[p], &self.arrows[n]);
+        let barred = self.contains[p.tail][n.tail]
+            || self.contains[p.head][n.head]
+            || (self.level(p.tail, n.tail) && self.level(p.head, n.head));
+        !barred
+    }
+
+    /// The answer for a pair, given all arrows of one mode.
+    fn answer(&self, of_mode: &[usize], user: usize, file: usize) -> Answer {
+        let reaching: Vec<usize> = of_mode
+            .iter()
+            .copied()
+            .filter(|&k| self.reaches(k, user, file))
+            .collect();
+        let (positive, negative): (Vec<usize>, Vec<usize>) =
+            reaching.iter().partition(|&&k| self.arrows[k].positive);
+        let certificate = |own: &[usize], other: &[usize]| {
+            own.iter()
+                .copied()
+                .find(|&k| other.iter().all(|&m| self.overrides(k, m)))
+        };
+        match (
+            certificate(&positive, &negative),
+            certificate(&negative, &positive),
+        ) {
+            (Some(p), Some(n)) => panic!("arrows {p} and {n} are certificates of both signs"),
+            (Some(p), None) => Answer::Granted(p),
+            (None, Some(n)) => Answer::Denied(n),
+            // Without a certificate there are arrows of both signs, or none at all.
+            (None, None) if reaching.is_empty() => Answer::Default,
+            (None, None) => Answer::Unclear(positive[0], negative[0]),
+        }
+    }
+
+    fn mode_answers(&self, mode: u16) -> Vec<Answer> {
+        let of_mode = self.of_mode(mode);
+        (0..self.pairs())
+            .map(|place| {
+                let (user, file) = self.pair(place);
+                self.answer(&of_mode, user, file)
+            })
+            .collect()
+    }
+
+    /// The first pair of the mode, by user, then file, with such an answer.
+    fn first(&self, mode: u16, such: impl Fn(&Answer) -> bool) -> Option<(usize, usize)> {
+        let place = self.answers[mode as usize].iter().position(such)?;
+        Some(self.pair(place))
+    }
+
+    pub fn first_unclear(&self, mode: u16) -> Option<(usize, usize)> {
+        self.first(mode, |answer| matches!(answer, Answer::Unclear(..)))
+    }
+
+    pub fn first_granted(&self, mode: u16) -> Option<(usize, usize)> {
+        self.first(mode, |answer| matches!(answer, Answer::Granted(_)))
+    }
+
+    fn scratch(&self) -> Vec<u8> {
+        self.contains
+            .iter()
+            .flat_map(|row| row.iter().map(|&c| c as u8))
+            .collect()
+    }
+}
+
+// ---------------------------------------------------------------------------------------------
+// Lists of a mode without an unclear pair
+
+/// What matters for lists of one mode: who is granted, and what each of its arrows reaches.
+pub struct Lists<'a> {
+    picture: &'a Picture,
+    granted: Vec<bool>,
+    /// Arrow number, sign and the places of the pairs it reaches.
+    arrows: Vec<(usize, bool, Vec<usize>)>,
+}
+
+impl<'a> Lists<'a> {
+    pub fn new(picture: &'a Picture, mode: u16) -> Lists<'a> {
+        let granted = picture.answers[mode as usize]
+            .iter()
+            .map(|a| matches!(a, Answer::Granted(_)))
+            .collect();
+        let arrows = picture
+            .of_mode(mode)
+            .into_iter()
+            .map(|k| {
+                let reached = (0..picture.pairs())
+                    .filter(|&place| {
+                        let (user, file) = picture.pair(place);
+                        picture.reaches(k, user, file)
+                    })
+                    .collect();
+                (k, picture.arrows[k].positive, reached)
+            })
+            .collect();
+        Lists {
+            picture,
+            granted,
+            arrows,
+        }
+    }
+
+    /// The pairs that a list reaches, or none if it isn't honest. `list` holds places in `arrows`.
+    fn walk(&self, list: &[usize]) -> Option<Vec<bool>> {
+        let mut reached = vec![false; self.granted.len()];
+        for &k in list {
+            let (_, positive, pairs) = &self.arrows[k];
+            for &place in pairs {
+                // Only the first arrow that reaches a pair counts.
+                if !reached[place] && self.granted[place] != *positive {
+                    return None;
+                }
+                reached[place] = true;
+            }
+        }
+        Some(reached)
+    }
+
+    fn first_granted_outside(&self, reached: &[bool]) -> Option<(usize, usize)> {
+        (0..self.granted.len())
+            .find(|&place| self.granted[place] && !reached[place])
+            .map(|place| self.picture.pair(place))
+    }
+
+    /// The first granted pair that no honest list reaches.
+    ///
+    /// By rounds: an arrow is usable if every pair that it would answer wrongly is reached by an
+    /// arrow found usable in an earlier round. The usable arrows, in the order of their rounds, are
+    /// an honest list; and every arrow of any honest list is usable, thanks to those before it.
+    pub fn first_missed(&self) -> Option<(usize, usize)> {
+        let mut reached = vec![false; self.granted.len()];
+        let mut left: Vec<usize> = (0..self.arrows.len()).collect();
+        loop {
+            let (usable, blocked): (Vec<usize>, Vec<usize>) = left.iter().partition(|&&k| {
+                let (_, positive, pairs) = &self.arrows[k];
+                pairs
+                    .iter()
+                    .all(|&place| self.granted[place] == *positive || reached[place])
+            });
+            if usable.is_empty() {
+                return self.first_granted_outside(&reached);
+            }
+            for k in usable {
+                for &place in &self.arrows[k].2 {
+                    reached[place] = true;
+                }
+            }
+            left = blocked;
+        }
+    }
+
+    /// Few enough arrows to try every list.
+    pub fn is_tiny(&self) -> bool {
+        self.arrows.len() <= 5
+    }
+
+    /// Tries every list without repeats (a repeated arrow is never the first to reach a pair, so
+    /// repeats change nothing). Answers whether one honest list reaches every granted pair, and
+    /// the first granted pair that none of them reaches.
+    pub fn by_every_list(&self) -> (bool, Option<(usize, usize)>) {
+        let mut by_some = vec![false; self.granted.len()];
+        let mut one_reaches_all = false;
+        let mut lists: Vec<Vec<usize>> = vec![Vec::new()];
+        while let Some(list) = lists.pop() {
+            if let Some(reached) = self.walk(&list) {
+                one_reaches_all |= self.first_granted_outside(&reached).is_none();
+                for (all, one) in by_some.iter_mut().zip(&reached) {
+                    *all |= one;
+                }
+            }
+            for k in 0..self.arrows.len() {
+                if !list.contains(&k) {
+                    let mut longer = list.clone();
+                    longer.push(k);
+                    lists.push(longer);
+                }
+            }
+        }
+        (one_reaches_all, self.first_granted_outside(&by_some))
+    }
+
+    /// Whether a written list will do: arrows of the mode, none twice, honest, and every granted
+    /// pair reached.
+    pub fn will_do(&self, list: &[u16]) -> Result<(), String> {
+        let mut places = Vec::new();
+        for &number in list {
+            let Some(place) = self
+                .arrows
+                .iter()
+                .position(|(k, _, _)| *k == number as usize)
+            else {
+                return Err(format!("{number} is no arrow of the mode"));
+            };
+            if places.contains(&place) {
+                return Err(format!("arrow {number} stands twice in the list"));
+            }
+            places.push(place);
+        }
+        let Some(reached) = self.walk(&places) else {
+            return Err("the list is not honest".to_string());
+        };
+        match self.first_granted_outside(&reached) {
+            Some((user, file)) => Err(format!("granted pair {user}, {file} is not reached")),
+            None => Ok(()),
+        }
+    }
+}
+
+// ---------------------------------------------------------------------------------------------
+// Calls on tables
+
+/// The tables of one picture, worked through once for all calls.
+#[derive(Clone, Debug)]
+pub enum Known {
+    Faulty(Refusal),
+    Sound(Picture),
+}
+
+impl Known {
+    pub fn new(t: &Tables) -> Known {
+        match table_checks(t) {
+            Err(refusal) => Known::Faulty(refusal),
+            Ok(()) => Known::Sound(Picture::new(t)),
+        }
+    }
+
+    /// Checks 1 to 7.
+    pub fn sound(&self) -> Result<&Picture, Refusal> {
+        match self {
+            Known::Faulty(refusal) => Err(*refusal),
+            Known::Sound(picture) => Ok(picture),
+        }
+    }
+}
+
+/// Check 8.
+fn known_mode(mode: u16) -> Result<(), Refusal> {
+    if mode >= MODES {
+        return refuse(8, mode as usize, 0, 0);
+    }
+    Ok(())
+}
+
+/// Check 9 for one buffer.
+fn long_enough(buffer: usize, lent: usize, needed: usize) -> Result<(), Refusal> {
+    if lent < needed {
+        return refuse(9, buffer, needed, 0);
+    }
+    Ok(())
+}
+
+/// Fills the scratch, checks 1 to 9 having passed, then makes check 10.
+fn fill_and_check_loops(p: &Picture, scratch: &mut [u8]) -> Result<(), Refusal> {
+    scratch[..p.n * p.n].copy_from_slice(&p.scratch());
+    match p.on_loop {
+        Some(b) => refuse(10, b, 0, 0),
+        None => Ok(()),
+    }
+}
+
+pub struct JudgeEnd {
+    pub result: Result<(), Refusal>,
+    pub scratch: Vec<u8>,
+}
+
+pub fn judge(known: &Known, scratch: &[u8]) -> JudgeEnd {
+    let mut after = scratch.to_vec();
+    let result = judge_into(known, &mut after);
+    JudgeEnd {
+        result,
+        scratch: after,
+    }
+}
+
+fn judge_into(known: &Known, scratch: &mut [u8]) -> Result<(), Refusal> {
+    let p = known.sound()?;
+    long_enough(0, scratch.len(), p.n * p.n)?;
+    fill_and_check_loops(p, scratch)?;
+    for mode in 0..MODES {
+        if let Some((user, file)) = p.first_unclear(mode) {
+            return refuse(12, mode as usize, user, file);
+        }
+    }
+    Ok(())
+}
+
+pub struct EntryEnd {
+    pub result: Result<Answer, Refusal>,
+    pub scratch: Vec<u8>,
+}
+
+pub fn entry(known: &Known, user: u16, file: u16, mode: u16, scratch: &[u8]) -> EntryEnd {
+    let mut after = scratch.to_vec();
+    let result = entry_into(known, user, file, mode, &mut after);
+    EntryEnd {
+        result,
+        scratch: after,
+    }
+}
+
+fn entry_into(
+    known: &Known,
+    user: u16,
+    file: u16,
+    mode: u16,
+    scratch: &mut [u8],
+) -> Result<Answer, Refusal> {
+    let p = known.sound()?;
+    known_mode(mode)?;
+    long_enough(0, scratch.len(), p.n * p.n)?;
+    fill_and_check_loops(p, scratch)?;
+    let row = p.users.iter().position(|&u| u == user as usize);
+    let column = p.files.iter().position(|&f| f == file as usize);
+    match (row, column) {
+        (Some(row), Some(column)) => Ok(p.answers[mode as usize][row * p.files.len() + column]),
+        _ => refuse(11, user as usize, file as usize, 0),
+    }
+}
+
+pub struct MatrixEnd {
+    pub result: Result<(), Refusal>,
+    pub scratch: Vec<u8>,
+    pub bytes: Vec<u8>,
+    pub numbers: Vec<u16>,
+}
+
+pub fn matrix(
+    known: &Known,
+    mode: u16,
+    scratch: &[u8],
+    bytes: &[u8],
+    numbers: &[u16],
+) -> MatrixEnd {
+    let mut end = MatrixEnd {
+        result: Ok(()),
+        scratch: scratch.to_vec(),
+        bytes: bytes.to_vec(),
+        numbers: numbers.to_vec(),
+    };
+    end.result = matrix_into(known, mode, &mut end);
+    end
+}
+
+fn matrix_into(known: &Known, mode: u16, end: &mut MatrixEnd) -> Result<(), Refusal> {
+    let p = known.sound()?;
+    known_mode(mode)?;
+    long_enough(0, end.scratch.len(), p.n * p.n)?;
+    long_enough(1, end.bytes.len(), p.pairs())?;
+    long_enough(2, end.numbers.len(), p.pairs())?;
+    fill_and_check_loops(p, &mut end.scratch)?;
+    for (place, answer) in p.answers[mode as usize].iter().enumerate() {
+        let (byte, number) = match *answer {
+            Answer::Granted(k) => (1, k as u16),
+            Answer::Denied(k) => (0, k as u16),
+            Answer::Default => (0, NO_ARROW),
+            Answer::Unclear(..) => (2, NO_ARROW),
+        };
+        end.bytes[place] = byte;
+        end.numbers[place] = number;
+    }
+    Ok(())
+}
+
+pub struct ListEnd {
+    /// On success the list is any that [`list_will_do`] accepts.
+    pub result: Result<(), Refusal>,
+    pub scratch: Vec<u8>,
+    /// The list buffer after a refusal; after success its contents from the count on.
+    pub list: Vec<u16>,
+    pub work: Vec<u8>,
+}
+
+pub fn list(known: &Known, mode: u16, scratch: &[u8], list: &[u16], work: &[u8]) -> ListEnd {
+    let mut end = ListEnd {
+        result: Ok(()),
+        scratch: scratch.to_vec(),
+        list: list.to_vec(),
+        work: work.to_vec(),
+    };
+    end.result = list_into(known, mode, &mut end);
+    end
+}
+
+fn list_into(known: &Known, mode: u16, end: &mut ListEnd) -> Result<(), Refusal> {
+    let p = known.sound()?;
+    known_mode(mode)?;
+    let needed_list = p.of_mode(mode).len();
+    long_enough(0, end.scratch.len(), p.n * p.n)?;
+    long_enough(3, end.list.len(), needed_list)?;
+    long_enough(4, end.work.len(), p.pairs())?;
+    fill_and_check_loops(p, &mut end.scratch)?;
+    if let Some((user, file)) = p.first_unclear(mode) {
+        return refuse(12, mode as usize, user, file);
+    }
+    end.work[..p.pairs()].fill(0);
+    if let Some((user, file)) = Lists::new(p, mode).first_missed() {
+        end.list[..needed_list].fill(NO_ARROW);
+        return refuse(13, mode as usize, user, file);
+    }
+    Ok(())
+}
+
+/// Whether the list buffer, as it was before and as it is after a call that answered `count`,
+/// holds a list that will do, with every place from the count on untouched.
+pub fn list_will_do(
+    known: &Known,
+    mode: u16,
+    before: &[u16],
+    after: &[u16],
+    count: usize,
+) -> Result<(), String> {
+    let p = known
+        .sound()
+        .map_err(|r| format!("a list in spite of refusal {}", r.number))?;
+    if count > p.of_mode(mode).len() {
+        return Err(format!(
+            "{count} arrows counted, more than the mode's {}",
+            p.of_mode(mode).len()
+        ));
+    }
+    if before[count..] != after[count..] {
+        return Err("a list place beyond the count was touched".to_string());
+    }
+    Lists::new(p, mode).will_do(&after[..count])
+}
+
+// ---------------------------------------------------------------------------------------------
+// Block files
+
+pub fn fnv(bytes: &[u8]) -> u32 {
+    let mut check: u64 = 2_166_136_261;
+    for &byte in bytes {
+        check ^= byte as u64;
+        check = (check * 16_777_619) % (1 << 32);
+    }
+    check as u32
+}
+
+/// Bytes of a record and records of a full block, by kind.
+pub fn record(kind: u8) -> (usize, usize) {
+    match kind {
+        1 => (1, 500),
+        2 => (4, 125),
+        _ => (6, 83),
+    }
+}
+
+fn word(bytes: &[u8], at: usize) -> u16 {
+    bytes[at] as u16 + 256 * bytes[at + 1] as u16
+}
+
+/// Checks 15 to 17 for one block; answers its kind and its records.
+fn block(bytes: &[u8], number: usize, kind_before: u8) -> Result<(u8, Vec<&[u8]>), Refusal> {
+    let stored = word(bytes, 508) as u32 + 65_536 * word(bytes, 510) as u32;
+    if stored != fnv(&bytes[..508]) {
+        return refuse(15, number, 0, 0);
+    }
+    let kind = bytes[0];
+    let head_wrong = !(1..=3).contains(&kind)
+        || kind < kind_before
+        || bytes[1] != 0
+        || bytes[6] != 0
+        || bytes[7] != 0
+        || word(bytes, 2) as usize != number
+        || word(bytes, 4) as usize > record(kind).1;
+    if head_wrong {
+        return refuse(16, number, 0, 0);
+    }
+    let size = record(kind).0;
+    let filler = 8 + size * word(bytes, 4) as usize;
+    if bytes[filler..508].iter().any(|&byte| byte != 0) {
+        return refuse(17, number, 0, 0);
+    }
+    Ok((kind, bytes[8..filler].chunks(size).collect()))
+}
+
+/// The tables in a file, or its refusal by 14 to 17 or 2.
+pub fn tables_in(file: &[u8]) -> Result<Tables, Refusal> {
+    if file.is_empty() || file.len() % BLOCK != 0 || file.len() > LONGEST_FILE {
+        return refuse(14, file.len(), 0, 0);
+    }
+    let mut t = Tables::default();
+    let mut kind_before = 0;
+    for (number, bytes) in file.chunks(BLOCK).enumerate() {
+        let (kind, records) = block(bytes, number, kind_before)?;
+        for r in records {
+            match kind {
+                1 => t.boxes.push(r[0]),
+                2 => t.rows.extend([word(r, 0), word(r, 2)]),
+                _ => t
+                    .arrows
+                    .extend([word(r, 0), word(r, 2), r[4] as u16, r[5] as u16]),
+            }
+        }
+        kind_before = kind;
+    }
+    too_many([t.boxes.len(), t.rows.len() / 2, t.arrows.len() / 4])?;
+    Ok(t)
+}
+
+pub struct ReadEnd {
+    pub result: Result<[usize; 3], Refusal>,
+    pub boxes: Vec<u8>,
+    pub rows: Vec<u16>,
+    pub arrows: Vec<u16>,
+}
+
+pub fn read(file: &[u8], boxes: &[u8], rows: &[u16], arrows: &[u16]) -> ReadEnd {
+    let mut end = ReadEnd {
+        result: Ok([0; 3]),
+        boxes: boxes.to_vec(),
+        rows: rows.to_vec(),
+        arrows: arrows.to_vec(),
+    };
+    end.result = read_into(file, &mut end);
+    end
+}
+
+fn read_into(file: &[u8], end: &mut ReadEnd) -> Result<[usize; 3], Refusal> {
+    let t = tables_in(file)?;
+    long_enough(5, end.boxes.len(), t.boxes.len())?;
+    long_enough(6, end.rows.len(), t.rows.len())?;
+    long_enough(7, end.arrows.len(), t.arrows.len())?;
+    end.boxes[..t.boxes.len()].copy_from_slice(&t.boxes);
+    end.rows[..t.rows.len()].copy_from_slice(&t.rows);
+    end.arrows[..t.arrows.len()].copy_from_slice(&t.arrows);
+    Ok([t.boxes.len(), t.rows.len() / 2, t.arrows.len() / 4])
+}
+
+// ---------------------------------------------------------------------------------------------
+// The program's listing
+
+/// What the program prints for this input.
+pub fn listing(input: &[u8]) -> String {
+    match full_listing(&input[..input.len().min(MOST_INPUT)]) {
+        Ok(text) => text,
+        Err(Refusal { number, places }) => {
+            let [a, b, c] = places;
+            format!("refused {number} {a} {b} {c}\n")
+        }
+    }
+}
+
+fn full_listing(file: &[u8]) -> Result<String, Refusal> {
+    let t = tables_in(file)?;
+    let known = Known::new(&t);
+    let p = known.sound()?;
+    let verdict = match judge(&known, &vec![0; p.n * p.n]).result {
+        Ok(()) => "accepted\n".to_string(),
+        Err(Refusal {
+            number: 12,
+            places: [mode, user, file],
+        }) => format!("ambiguous {mode} {user} {file}\n"),
+        Err(refusal) => return Err(refusal),
+    };
+    let mut text = format!(
+        "boxes {} containments {} arrows {}\n",
+        t.boxes.len(),
+        t.rows.len() / 2,
+        t.arrows.len() / 4
+    );
+    for mode in 0..MODES {
+        if p.of_mode(mode).is_empty() {
+            continue;
+        }
+        for (place, answer) in p.answers[mode as usize].iter().enumerate() {
+            let (user, file) = p.pair(place);
+            let said = match answer {
+                Answer::Granted(k) => format!("pos {k}"),
+                Answer::Denied(k) => format!("neg {k}"),
+                Answer::Default => "neg -".to_string(),
+                Answer::Unclear(p, n) => format!("ambig {p} {n}"),
+            };
+            text += &format!("{mode} {user} {file} {said}\n");
+        }
+    }
+    Ok(text + &verdict)
+}

@@ -1,0 +1,984 @@
+//! A plain second implementation behind the same C boundary, for builds without the library
+//! (`--cfg model`). It shares no code and no method with the model in `checker.rs`.
+//!
+//! It can also be told to be wrong in one of many ways, so that the comparison can be shown to
+//! notice each of them.
+
+use super::rights::{Reply, DENIED, DENIED_BY_DEFAULT, DONE, GRANTED, REFUSED, UNCLEAR};
+use std::slice::{from_raw_parts, from_raw_parts_mut};
+use std::sync::atomic::{AtomicUsize, Ordering::Relaxed};
+
+/// Lists the ways to be wrong once, as an enum and as a table of names.
+macro_rules! ways {
+    ($($way:ident: $says:literal,)*) => {
+        #[derive(Clone, Copy, PartialEq, Eq)]
+        pub enum Wrong { Nowhere, $($way,)* }
+        pub const WAYS: &[(Wrong, &str)] = &[$((Wrong::$way, $says),)*];
+    };
+}
+
+ways! {
+    BothDeeper: "an arrow overrides only if both ends are strictly deeper",
+    TailAndHeadApart: "one arrow wins by its tail, another by its head",
+    LevelIsSame: "only the same box is level",
+    AllOtherArrows: "a certificate must override arrows of its own sign too",
+    HighestCertificate: "the highest certificate is shown",
+    DeepestCertificate: "without opposite arrows the deepest is shown",
+    UnclearSwapped: "unclear shows its lower arrow first",
+    UnclearCertificates: "unclear shows the highest arrows",
+    DefaultGranted: "a pair that nothing reaches is granted",
+    ShallowClosure: "containment through more than two rows is missed",
+    LoopsMissed: "a box never contains itself",
+    LoopHighest: "the highest box on a loop is named",
+    RootsAreAtoms: "a box in no row is not atomic",
+    JudgeModeZero: "judge looks at mode 0 only",
+    JudgeByPairs: "judge goes by user and file before mode",
+    EntryTakesGroups: "an entry takes groups for users",
+    EntryNamesOne: "refusal 11 names only what is wrong",
+    ElevenBeforeTen: "11 before 10",
+    MatrixCellUnwritten: "the first granted cell is not written",
+    MatrixNumbersUnwritten: "default numbers are not written",
+    MatrixColumnsFirst: "the matrix goes by file, then user",
+    ListOneArrow: "the list holds one arrow only",
+    ListInventedCount: "the list's count is that of the mode's arrows",
+    ListTwice: "the last arrow of the list stands there twice",
+    ListByDepth: "the list is sorted by depth",
+    ListSinglePass: "the arrows are tried once only, from the lowest on",
+    ListPositiveOnly: "negative arrows are never placed",
+    ListTrialValues: "list places beyond the count are touched",
+    ListAlwaysWritten: "no order is never said",
+    NoOrderTooEager: "no order if any arrow can't be placed",
+    NoOrderFirstGranted: "13 names the first granted pair",
+    NoOrderListKept: "13 leaves the list as it was",
+    NoOrderListAll: "13 overwrites the list beyond the needed places",
+    WorkDirty: "the work bytes are left dirty",
+    WorkBeforeTwelve: "the work bytes are set before 12 is known",
+    WorkCleanedBeyond: "the work bytes beyond the pairs are cleaned too",
+    ScratchOnNine: "scratch is filled before 9 for later buffers",
+    ScratchNotOnTen: "scratch is not filled on 10",
+    ScratchBeyond: "scratch beyond the needed length is cleaned",
+    EightAfterNine: "8 after 9",
+    NineListAllArrows: "the list needs a place for every arrow",
+    NineWorkFirst: "buffer 4 before buffer 3",
+    TwoBeforeOne: "2 before 1",
+    TwoCountsNumbers: "2 names numbers, not rows",
+    FiveBeforeFour: "4 and 5 row by row",
+    SixSevenByRow: "6 and 7 row by row",
+    ModeSevenBad: "mode 7 is refused",
+    SameBoxMissed: "an arrow doesn't reach its own atomic ends",
+    TailOnly: "only tails are compared",
+    DepthCompared: "depths are compared instead of containment",
+    LoopsHalfFilled: "containment is not followed beyond a box on a loop",
+    TwelveOtherModes: "12 in the list call looks at every mode",
+    TwelveByFile: "12 goes by file, then user",
+    ListFirstPairOnly: "an arrow may follow if its first new pair fits",
+    ListIgnoresReached: "an arrow is blocked by pairs reached before",
+    LongArrowNumbers: "arrow numbers are cut to a byte",
+    LongMatrix: "pairs beyond place 255 are not written",
+    LastArrowMissed: "the 512th arrow is missed",
+    LastRowMissed: "the 1,024th containment is missed",
+    LastBoxMissed: "the 256th box is refused",
+    NineAtExact: "a work buffer of the exact length is too short",
+    ReadFnvOne: "the check multiplies before it mixes",
+    ReadHeadFirst: "16 before 15",
+    ReadKindsAnyOrder: "kinds may fall",
+    ReadPlaceUnchecked: "the block's number is not checked",
+    ReadFillerShort: "the last two filler bytes are not checked",
+    ReadFillerLast: "17 after all blocks have passed 15 and 16",
+    ReadNineBeforeTwo: "9 before 2",
+    ReadBytesForNumbers: "9 counts containments in rows",
+    ReadWritesEarly: "boxes are written before 9 is known",
+    ReadHighByte: "the high byte of a block's number is not checked",
+    ReadCountLow: "the high byte of a count is not read",
+    ReadLastBlock: "the 64th block is refused as a 65th would be",
+    ReadTooLong: "a file of 65 blocks is read",
+    ReadChecksBoxes: "the reader refuses box bytes above 1",
+}
+
+static WRONG: AtomicUsize = AtomicUsize::new(0);
+
+pub fn be(way: Wrong) {
+    WRONG.store(way as usize, Relaxed);
+}
+
+fn is(way: Wrong) -> bool {
+    WRONG.load(Relaxed) == way as usize
+}
+
+fn reply(kind: u32, a: usize, b: usize, c: usize) -> Reply {
+    Reply {
+        kind,
+        number: 0,
+        a: a as u64,
+        b: b as u64,
+        c: c as u64,
+    }
+}
+
+fn refusal(number: u32, a: usize, b: usize, c: usize) -> Reply {
+    Reply {
+        number,
+        ..reply(REFUSED, a, b, c)
+    }
+}
+
+struct Tables<'a> {
+    boxes: &'a [u8],
+    rows: &'a [u16],
+    arrows: &'a [u16],
+}
+
+impl Tables<'_> {
+    fn n(&self) -> usize {
+        self.boxes.len()
+    }
+
+    fn row(&self, k: usize) -> (usize, usize) {
+        (self.rows[2 * k] as usize, self.rows[2 * k + 1] as usize)
+    }
+
+    fn tail(&self, k: usize) -> usize {
+        self.arrows[4 * k] as usize
+    }
+
+    fn head(&self, k: usize) -> usize {
+        self.arrows[4 * k + 1] as usize
+    }
+
+    fn positive(&self, k: usize) -> bool {
+        self.arrows[4 * k + 3] == 1
+    }
+
+    fn of_mode(&self, mode: u16) -> Vec<usize> {
+        let all = 0..self.arrows.len() / 4;
+        all.filter(|k| self.arrows[4 * k + 2] == mode)
+            .filter(|&k| !is(Wrong::LastArrowMissed) || k < 511)
+            .collect()
+    }
+
+    fn ragged(&self) -> Option<Reply> {
+        if self.rows.len() % 2 == 1 {
+            Some(refusal(1, 1, self.rows.len(), 0))
+        } else if self.arrows.len() % 4 > 0 {
+            Some(refusal(1, 2, self.arrows.len(), 0))
+        } else {
+            None
+        }
+    }
+
+    fn long(&self) -> Option<Reply> {
+        let (rows, arrows) = (self.rows.len() / 2, self.arrows.len() / 4);
+        let (more_rows, more_arrows) = if is(Wrong::TwoCountsNumbers) {
+            (2, 4)
+        } else {
+            (1, 1)
+        };
+        let most = if is(Wrong::LastBoxMissed) { 255 } else { 256 };
+        if self.n() > most {
+            Some(refusal(2, 0, self.n(), 0))
+        } else if rows > 1024 {
+            Some(refusal(2, 1, rows * more_rows, 0))
+        } else if arrows > 512 {
+            Some(refusal(2, 2, arrows * more_arrows, 0))
+        } else {
+            None
+        }
+    }
+
+    /// Refusals 1 to 7.
+    fn fault(&self) -> Option<Reply> {
+        let first = if is(Wrong::TwoBeforeOne) {
+            self.long().or(self.ragged())
+        } else {
+            self.ragged().or(self.long())
+        };
+        if first.is_some() {
+            return first;
+        }
+        let n = self.n();
+        for b in 0..n {
+            if self.boxes[b] > 1 {
+                return Some(refusal(3, b, 0, 0));
+            }
+        }
+        let mut across = None;
+        for k in 0..self.rows.len() / 2 {
+            let (outer, inner) = self.row(k);
+            if outer >= n || inner >= n {
+                return Some(refusal(4, k, 0, 0));
+            }
+            if across.is_none() && self.boxes[outer] != self.boxes[inner] {
+                across = Some(refusal(5, k, 0, 0));
+                if is(Wrong::FiveBeforeFour) {
+                    return across;
+                }
+            }
+        }
+        if across.is_some() {
+            return across;
+        }
+        let mut unknown = None;
+        let highest = if is(Wrong::ModeSevenBad) { 6 } else { 7 };
+        for k in 0..self.arrows.len() / 4 {
+            let (tail, head) = (self.tail(k), self.head(k));
+            if tail >= n || head >= n || self.boxes[tail] == 1 || self.boxes[head] == 0 {
+                return Some(refusal(6, k, 0, 0));
+            }
+            let bad = self.arrows[4 * k + 2] > highest || self.arrows[4 * k + 3] > 1;
+            if unknown.is_none() && bad {
+                unknown = Some(refusal(7, k, 0, 0));
+                if is(Wrong::SixSevenByRow) {
+                    return unknown;
+                }
+            }
+        }
+        unknown
+    }
+
+    fn atoms(&self, side: u8) -> Vec<usize> {
+        let mut atomic = vec![true; self.n()];
+        let mut drawn = vec![false; self.n()];
+        for k in 0..self.rows.len() / 2 {
+            atomic[self.row(k).0] = false;
+            drawn[self.row(k).1] = true;
+        }
+        if is(Wrong::RootsAreAtoms) {
+            atomic = drawn.iter().zip(&atomic).map(|(&d, &a)| d && a).collect();
+        }
+        (0..self.n())
+            .filter(|&b| atomic[b] && self.boxes[b] == side)
+            .collect()
+    }
+
+    /// Containment by Warshall's method, in place.
+    fn fill(&self, scratch: &mut [u8]) {
+        let n = self.n();
+        if is(Wrong::ScratchBeyond) {
+            scratch.fill(0);
+        }
+        scratch[..n * n].fill(0);
+        for k in 0..self.rows.len() / 2 {
+            let (outer, inner) = self.row(k);
+            if !is(Wrong::LastRowMissed) || k < 1023 {
+                scratch[outer * n + inner] = 1;
+            }
+        }
+        if is(Wrong::ShallowClosure) {
+            let drawn = scratch[..n * n].to_vec();
+            for a in 0..n {
+                for b in (0..n).filter(|b| drawn[a * n + b] == 1) {
+                    for c in (0..n).filter(|c| drawn[b * n + c] == 1) {
+                        scratch[a * n + c] = 1;
+                    }
+                }
+            }
+            return;
+        }
+        for via in 0..n {
+            if is(Wrong::LoopsHalfFilled) && scratch[via * n + via] == 1 {
+                continue;
+            }
+            for a in 0..n {
+                if scratch[a * n + via] == 1 {
+                    for b in 0..n {
+                        scratch[a * n + b] |= scratch[via * n + b];
+                    }
+                }
+            }
+        }
+        if is(Wrong::LoopsMissed) {
+            for b in 0..n {
+                scratch[b * n + b] = 0;
+            }
+        }
+    }
+
+    /// Refusal 10, on a filled scratch.
+    fn looped(&self, scratch: &[u8]) -> Option<Reply> {
+        let n = self.n();
+        let mut on_loop = (0..n).filter(|b| scratch[b * n + b] == 1);
+        let named = if is(Wrong::LoopHighest) {
+            on_loop.last()
+        } else {
+            on_loop.next()
+        };
+        named.map(|b| refusal(10, b, 0, 0))
+    }
+}
+
+/// A picture on a filled scratch.
+struct World<'a> {
+    t: &'a Tables<'a>,
+    holds: &'a [u8],
+    users: Vec<usize>,
+    files: Vec<usize>,
+}
+
+impl<'a> World<'a> {
+    fn new(t: &'a Tables<'a>, holds: &'a [u8]) -> World<'a> {
+        World {
+            t,
+            holds,
+            users: t.atoms(0),
+            files: t.atoms(1),
+        }
+    }
+
+    fn inside(&self, inner: usize, outer: usize) -> bool {
+        self.holds[outer * self.t.n() + inner] == 1
+    }
+
+    fn reaches(&self, k: usize, u: usize, f: usize) -> bool {
+        let (tail, head) = (self.t.tail(k), self.t.head(k));
+        if is(Wrong::SameBoxMissed) {
+            return self.inside(u, tail) && self.inside(f, head);
+        }
+        (tail == u || self.inside(u, tail)) && (head == f || self.inside(f, head))
+    }
+
+    /// -1 if a lies inside b, 1 if b lies inside a, 0 if they are level.
+    fn order(&self, a: usize, b: usize) -> i32 {
+        self.inside(b, a) as i32 - self.inside(a, b) as i32
+    }
+
+    fn overrides(&self, p: usize, n: usize) -> bool {
+        let tails = self.order(self.t.tail(p), self.t.tail(n));
+        let heads = self.order(self.t.head(p), self.t.head(n));
+        if is(Wrong::BothDeeper) {
+            return tails < 0 && heads < 0;
+        }
+        if is(Wrong::TailOnly) {
+            return tails < 0;
+        }
+        if is(Wrong::DepthCompared) {
+            let depth = |b: usize| (0..self.t.n()).filter(|&o| self.inside(b, o)).count();
+            let sum = |k: usize| depth(self.t.tail(k)) + depth(self.t.head(k));
+            return sum(p) > sum(n);
+        }
+        if is(Wrong::LevelIsSame) {
+            let same = self.t.tail(p) == self.t.tail(n) && self.t.head(p) == self.t.head(n);
+            return tails <= 0 && heads <= 0 && !same;
+        }
+        tails <= 0 && heads <= 0 && tails + heads < 0
+    }
+
+    /// Kind and arrows of the answer for a pair.
+    fn cell(&self, of_mode: &[usize], u: usize, f: usize) -> (u32, usize, usize) {
+        let reaching = of_mode.iter().copied().filter(|&k| self.reaches(k, u, f));
+        let (pos, neg): (Vec<usize>, Vec<usize>) = reaching.partition(|&k| self.t.positive(k));
+        if pos.is_empty() && neg.is_empty() {
+            let kind = if is(Wrong::DefaultGranted) {
+                GRANTED
+            } else {
+                DENIED_BY_DEFAULT
+            };
+            return (kind, 0, 0);
+        }
+        if is(Wrong::TailAndHeadApart) {
+            for (kind, own, other) in [(GRANTED, &pos, &neg), (DENIED, &neg, &pos)] {
+                let end = |k: usize, column: usize| self.t.arrows[4 * k + column] as usize;
+                let by = |column: usize, most: i32| {
+                    own.iter().any(|&p| {
+                        other
+                            .iter()
+                            .all(|&n| self.order(end(p, column), end(n, column)) <= most)
+                    })
+                };
+                if by(0, 0) && by(1, 0) && (by(0, -1) || by(1, -1)) {
+                    return (kind, own[0], 0);
+                }
+            }
+        }
+        // Of two arrows at most one overrides the other, so each comparison strikes one of them.
+        let (mut i, mut j) = (0, 0);
+        while i < pos.len() && j < neg.len() {
+            if self.overrides(pos[i], neg[j]) {
+                j += 1;
+            } else {
+                i += 1;
+            }
+        }
+        let (kind, left, own, other) = if j == neg.len() {
+            (GRANTED, &pos[i..], &pos, &neg)
+        } else {
+            (DENIED, &neg[j..], &neg, &pos)
+        };
+        let wins = |k: &usize| {
+            let others =
+                is(Wrong::AllOtherArrows) && own.iter().any(|m| m != k && !self.overrides(*k, *m));
+            other.iter().all(|m| self.overrides(*k, *m)) && !others
+        };
+        let mut winners = left.iter().copied().filter(wins);
+        let shown = if is(Wrong::HighestCertificate) {
+            winners.last()
+        } else if is(Wrong::DeepestCertificate) && other.is_empty() {
+            winners.find(|&k| own.iter().all(|&m| !self.overrides(m, k)))
+        } else {
+            winners.next()
+        };
+        match shown {
+            Some(k) => (kind, k, 0),
+            None if pos.is_empty() => (DENIED, neg[0], 0),
+            None if neg.is_empty() => (GRANTED, pos[0], 0),
+            None if is(Wrong::UnclearSwapped) => (UNCLEAR, pos[0].min(neg[0]), pos[0].max(neg[0])),
+            None if is(Wrong::UnclearCertificates) => {
+                (UNCLEAR, pos[pos.len() - 1], neg[neg.len() - 1])
+            }
+            None => (UNCLEAR, pos[0], neg[0]),
+        }
+    }
+
+    fn unclear(&self, mode: u16) -> Option<(usize, usize)> {
+        let of_mode = self.t.of_mode(mode);
+        let mut by_file = None;
+        for &u in &self.users {
+            for &f in &self.files {
+                if self.cell(&of_mode, u, f).0 == UNCLEAR {
+                    if !is(Wrong::TwelveByFile) {
+                        return Some((u, f));
+                    }
+                    by_file = by_file.min(Some((f, u))).or(Some((f, u)));
+                }
+            }
+        }
+        by_file.map(|(f, u)| (u, f))
+    }
+}
+
+fn judge(t: &Tables, scratch: &mut [u8]) -> Reply {
+    if let Some(refused) = t.fault() {
+        return refused;
+    }
+    let needed = t.n() * t.n();
+    if scratch.len() < needed {
+        return refusal(9, 0, needed, 0);
+    }
+    t.fill(scratch);
+    if let Some(refused) = t.looped(scratch) {
+        return refused;
+    }
+    let world = World::new(t, scratch);
+    let modes = if is(Wrong::JudgeModeZero) { 1 } else { 8 };
+    let mut found: Vec<(usize, (usize, usize))> = Vec::new();
+    for mode in 0..modes {
+        if let Some(pair) = world.unclear(mode) {
+            found.push((mode as usize, pair));
+            if !is(Wrong::JudgeByPairs) {
+                break;
+            }
+        }
+    }
+    match found.into_iter().min_by_key(|(_, pair)| *pair) {
+        Some((mode, (u, f))) => refusal(12, mode, u, f),
+        None => reply(DONE, 0, 0, 0),
+    }
+}
+
+fn entry(t: &Tables, user: u16, file: u16, mode: u16, scratch: &mut [u8]) -> Reply {
+    if let Some(refused) = t.fault() {
+        return refused;
+    }
+    let needed = t.n() * t.n();
+    if is(Wrong::EightAfterNine) && scratch.len() < needed {
+        return refusal(9, 0, needed, 0);
+    }
+    if mode > 7 {
+        return refusal(8, mode as usize, 0, 0);
+    }
+    if scratch.len() < needed {
+        return refusal(9, 0, needed, 0);
+    }
+    t.fill(scratch);
+    let (u, f) = (user as usize, file as usize);
+    let (mut users, files) = (t.atoms(0), t.atoms(1));
+    if is(Wrong::EntryTakesGroups) {
+        users = (0..t.n()).filter(|&b| t.boxes[b] == 0).collect();
+    }
+    let wrong = !users.contains(&u) || !files.contains(&f);
+    let named = if is(Wrong::EntryNamesOne) && users.contains(&u) {
+        refusal(11, 0, f, 0)
+    } else {
+        refusal(11, u, f, 0)
+    };
+    if is(Wrong::ElevenBeforeTen) && wrong {
+        return named;
+    }
+    if let Some(refused) = t.looped(scratch) {
+        return refused;
+    }
+    if wrong {
+        return named;
+    }
+    let (kind, a, b) = World::new(t, scratch).cell(&t.of_mode(mode), u, f);
+    reply(kind, a, b, 0)
+}
+
+/// Refusals 8 and 9 of the matrix and list calls; `buffers` are number, length lent, length
+/// needed, in the order in which they are tried.
+fn mode_and_buffers(mode: u16, buffers: &[(usize, usize, usize)]) -> Option<Reply> {
+    let eight = (mode > 7).then(|| refusal(8, mode as usize, 0, 0));
+    let nine = buffers
+        .iter()
+        .find(|(_, lent, needed)| lent < needed)
+        .map(|(buffer, _, needed)| refusal(9, *buffer, *needed, 0));
+    if is(Wrong::EightAfterNine) {
+        nine.or(eight)
+    } else {
+        eight.or(nine)
+    }
+}
+
+fn matrix(
+    t: &Tables,
+    mode: u16,
+    scratch: &mut [u8],
+    bytes: &mut [u8],
+    numbers: &mut [u16],
+) -> Reply {
+    if let Some(refused) = t.fault() {
+        return refused;
+    }
+    let (needed, pairs) = (t.n() * t.n(), t.atoms(0).len() * t.atoms(1).len());
+    let buffers = [
+        (0, scratch.len(), needed),
+        (1, bytes.len(), pairs),
+        (2, numbers.len(), pairs),
+    ];
+    if is(Wrong::ScratchOnNine) && mode < 8 && scratch.len() >= needed {
+        t.fill(scratch);
+    }
+    if let Some(refused) = mode_and_buffers(mode, &buffers) {
+        return refused;
+    }
+    let before = scratch.to_vec();
+    t.fill(scratch);
+    if let Some(refused) = t.looped(scratch) {
+        if is(Wrong::ScratchNotOnTen) {
+            scratch.copy_from_slice(&before);
+        }
+        return refused;
+    }
+    let world = World::new(t, scratch);
+    let of_mode = t.of_mode(mode);
+    let mut first_granted = true;
+    for (i, &u) in world.users.iter().enumerate() {
+        for (j, &f) in world.files.iter().enumerate() {
+            let place = if is(Wrong::MatrixColumnsFirst) {
+                j * world.users.len() + i
+            } else {
+                i * world.files.len() + j
+            };
+            let (kind, arrow, _) = world.cell(&of_mode, u, f);
+            if kind == GRANTED && is(Wrong::MatrixCellUnwritten) && first_granted {
+                first_granted = false;
+                continue;
+            }
+            if is(Wrong::LongMatrix) && place > 255 {
+                continue;
+            }
+            let arrow = if is(Wrong::LongArrowNumbers) {
+                arrow % 256
+            } else {
+                arrow
+            };
+            (bytes[place], numbers[place]) = match kind {
+                GRANTED => (1, arrow as u16),
+                DENIED => (0, arrow as u16),
+                UNCLEAR => (2, 65_535),
+                _ if is(Wrong::MatrixNumbersUnwritten) => (0, numbers[place]),
+                _ => (0, 65_535),
+            };
+        }
+    }
+    reply(DONE, 0, 0, 0)
+}
+
+fn list(t: &Tables, mode: u16, scratch: &mut [u8], list: &mut [u16], work: &mut [u8]) -> Reply {
+    if let Some(refused) = t.fault() {
+        return refused;
+    }
+    let (needed, pairs) = (t.n() * t.n(), t.atoms(0).len() * t.atoms(1).len());
+    let of_mode = t.of_mode(mode);
+    let places = if is(Wrong::NineListAllArrows) {
+        t.arrows.len() / 4
+    } else {
+        of_mode.len()
+    };
+    let mut buffers = [
+        (0, scratch.len(), needed),
+        (3, list.len(), places),
+        (4, work.len(), pairs),
+    ];
+    if is(Wrong::NineAtExact) && work.len() == pairs {
+        buffers[2].1 = 0;
+    }
+    if is(Wrong::NineWorkFirst) {
+        buffers.swap(1, 2);
+    }
+    if let Some(refused) = mode_and_buffers(mode, &buffers) {
+        return refused;
+    }
+    t.fill(scratch);
+    if let Some(refused) = t.looped(scratch) {
+        return refused;
+    }
+    let world = World::new(t, scratch);
+    if is(Wrong::WorkBeforeTwelve) {
+        work[..pairs].fill(0);
+    }
+    for other in 0..8 {
+        if other == mode || is(Wrong::TwelveOtherModes) {
+            if let Some((u, f)) = world.unclear(other) {
+                return refusal(12, mode as usize, u, f);
+            }
+        }
+    }
+    if is(Wrong::WorkCleanedBeyond) {
+        work.fill(0);
+    }
+    // A work byte is 0 or 1 for denied or granted, and 2 more once reached.
+    let at = |place: usize| {
+        let columns = world.files.len();
+        (world.users[place / columns], world.files[place % columns])
+    };
+    for place in 0..pairs {
+        let (u, f) = at(place);
+        work[place] = (world.cell(&of_mode, u, f).0 == GRANTED) as u8;
+    }
+    let reached: Vec<(usize, Vec<usize>)> = of_mode
+        .iter()
+        .map(|&k| {
+            let hit = |place: &usize| world.reaches(k, at(*place).0, at(*place).1);
+            (k, (0..pairs).filter(hit).collect())
+        })
+        .collect();
+    let mut chosen: Vec<usize> = Vec::new();
+    let mut from = 0;
+    loop {
+        // The lowest arrow that may follow and reaches something new.
+        let next = reached.iter().find(|(k, places)| {
+            let other = !t.positive(*k) as u8;
+            let fits = if is(Wrong::ListFirstPairOnly) {
+                places
+                    .iter()
+                    .find(|&&place| work[place] < 2)
+                    .map(|&place| work[place])
+                    != Some(other)
+            } else if is(Wrong::ListIgnoresReached) {
+                places.iter().all(|&place| work[place] % 2 != other)
+            } else {
+                places.iter().all(|&place| work[place] != other)
+            };
+            fits && places.iter().any(|&place| work[place] < 2)
+                && (!is(Wrong::ListSinglePass) || *k >= from)
+                && (!is(Wrong::ListPositiveOnly) || t.positive(*k))
+        });
+        let Some((k, places)) = next else { break };
+        from = *k;
+        chosen.push(*k);
+        for &place in places {
+            work[place] |= 2;
+        }
+        if is(Wrong::ListOneArrow) {
+            break;
+        }
+    }
+    let missed = (0..pairs).find(|&place| work[place] == 1);
+    let first_granted = (0..pairs).find(|&place| work[place] % 2 == 1);
+    if !is(Wrong::WorkDirty) {
+        work[..pairs].fill(0);
+    }
+    if let Some(missed) = missed {
+        let named = if is(Wrong::NoOrderFirstGranted) {
+            first_granted.unwrap()
+        } else {
+            missed
+        };
+        if !is(Wrong::ListAlwaysWritten) && !is(Wrong::ListOneArrow) {
+            if is(Wrong::NoOrderListAll) {
+                list.fill(65_535);
+            } else if !is(Wrong::NoOrderListKept) {
+                list[..of_mode.len()].fill(65_535);
+            }
+            return refusal(13, mode as usize, at(named).0, at(named).1);
+        }
+    }
+    if is(Wrong::NoOrderTooEager) && chosen.len() < of_mode.len() && first_granted.is_some() {
+        let left = of_mode.iter().any(|k| !chosen.contains(k));
+        if left {
+            list[..of_mode.len()].fill(65_535);
+            let (u, f) = at(first_granted.unwrap());
+            return refusal(13, mode as usize, u, f);
+        }
+    }
+    if is(Wrong::ListByDepth) {
+        chosen = of_mode.clone();
+        let depth = |b: usize| (0..t.n()).filter(|&o| world.inside(b, o)).count();
+        chosen.sort_by_key(|&k| usize::MAX - depth(t.tail(k)) - depth(t.head(k)));
+    }
+    if is(Wrong::ListTwice) && chosen.len() < of_mode.len() {
+        chosen.extend(chosen.last().copied());
+    }
+    for (place, &k) in chosen.iter().enumerate() {
+        list[place] = k as u16;
+    }
+    if is(Wrong::ListTrialValues) {
+        list[chosen.len()..of_mode.len()].fill(65_535);
+    }
+    let count = if is(Wrong::ListInventedCount) {
+        of_mode.len()
+    } else {
+        chosen.len()
+    };
+    reply(DONE, count, 0, 0)
+}
+
+fn check_of(bytes: &[u8]) -> u32 {
+    bytes.iter().fold(0x811c_9dc5, |check: u32, &byte| {
+        if is(Wrong::ReadFnvOne) {
+            check.wrapping_mul(0x0100_0193) ^ byte as u32
+        } else {
+            (check ^ byte as u32).wrapping_mul(0x0100_0193)
+        }
+    })
+}
+
+fn read(file: &[u8], boxes: &mut [u8], rows: &mut [u16], arrows: &mut [u16]) -> Reply {
+    let longest = if is(Wrong::ReadTooLong) {
+        65
+    } else if is(Wrong::ReadLastBlock) {
+        63
+    } else {
+        64
+    };
+    if file.is_empty() || file.len() % 512 > 0 || file.len() / 512 > longest {
+        return refusal(14, file.len(), 0, 0);
+    }
+    let pair = |at: usize| u16::from_le_bytes([file[at], file[at + 1]]);
+    let sizes = [0, 1, 4, 6];
+    let mut counts = [0; 4];
+    let mut kind = 0;
+    let mut filler_fault = None;
+    for k in 0..file.len() / 512 {
+        let at = 512 * k;
+        let stored = pair(at + 508) as u32 | (pair(at + 510) as u32) << 16;
+        let damaged = stored != check_of(&file[at..at + 508]);
+        let falls = file[at] < kind && !is(Wrong::ReadKindsAnyOrder);
+        let low_only = is(Wrong::ReadHighByte) && file[at + 2] as usize == k;
+        let moved = pair(at + 2) as usize != k && !low_only && !is(Wrong::ReadPlaceUnchecked);
+        let kind_ok = file[at] >= 1 && file[at] <= 3;
+        let rest = file[at + 1] | file[at + 6] | file[at + 7];
+        let count = if is(Wrong::ReadCountLow) {
+            file[at + 4] as usize
+        } else {
+            pair(at + 4) as usize
+        };
+        let head =
+            !kind_ok || falls || moved || rest != 0 || count > [0, 500, 125, 83][file[at] as usize];
+        if is(Wrong::ReadHeadFirst) && head {
+            return refusal(16, k, 0, 0);
+        }
+        if damaged {
+            return refusal(15, k, 0, 0);
+        }
+        if head {
+            return refusal(16, k, 0, 0);
+        }
+        kind = file[at];
+        let end = if is(Wrong::ReadFillerShort) { 506 } else { 508 };
+        let used = 8 + count * sizes[kind as usize];
+        if used < end && file[at + used..at + end].iter().any(|&byte| byte > 0) {
+            if !is(Wrong::ReadFillerLast) {
+                return refusal(17, k, 0, 0);
+            }
+            filler_fault = filler_fault.or(Some(refusal(17, k, 0, 0)));
+        }
+        counts[kind as usize] += count;
+    }
+    if let Some(refused) = filler_fault {
+        return refused;
+    }
+    let two = [256, 1024, 512]
+        .iter()
+        .enumerate()
+        .find(|(table, limit)| counts[table + 1] > **limit)
+        .map(|(table, _)| refusal(2, table, counts[table + 1], 0));
+    let row_width = if is(Wrong::ReadBytesForNumbers) { 1 } else { 2 };
+    let nine = [
+        (5, boxes.len(), counts[1]),
+        (6, rows.len(), row_width * counts[2]),
+        (7, arrows.len(), 4 * counts[3]),
+    ]
+    .iter()
+    .find(|(_, lent, needed)| lent < needed)
+    .map(|(buffer, _, needed)| refusal(9, *buffer, *needed, 0));
+    let refused = if is(Wrong::ReadNineBeforeTwo) {
+        nine.or(two)
+    } else {
+        two.or(nine)
+    };
+    let early = is(Wrong::ReadWritesEarly) && refused.is_some();
+    if refused.is_some() && !early {
+        return refused.unwrap();
+    }
+    let (mut b, mut r, mut w) = (0, 0, 0);
+    for k in 0..file.len() / 512 {
+        let at = 512 * k;
+        let count = if is(Wrong::ReadCountLow) {
+            file[at + 4] as usize
+        } else {
+            pair(at + 4) as usize
+        };
+        for record in 0..count {
+            let from = at + 8 + record * sizes[file[at] as usize];
+            match file[at] {
+                1 => {
+                    if b < boxes.len() {
+                        boxes[b] = file[from];
+                    }
+                    if file[from] > 1 && is(Wrong::ReadChecksBoxes) {
+                        return refusal(3, b, 0, 0);
+                    }
+                    b += 1;
+                }
+                2 if !early && r + 1 < rows.len() => {
+                    rows[r] = pair(from);
+                    rows[r + 1] = pair(from + 2);
+                    r += 2;
+                }
+                3 if !early => {
+                    arrows[w] = pair(from);
+                    arrows[w + 1] = pair(from + 2);
+                    arrows[w + 2] = file[from + 4] as u16;
+                    arrows[w + 3] = file[from + 5] as u16;
+                    w += 4;
+                }
+                _ => {}
+            }
+        }
+    }
+    refused.unwrap_or(reply(DONE, counts[1], counts[2], counts[3]))
+}
+
+// The boundary. SAFETY of all five: the caller lends every pointer with its true length.
+
+#[no_mangle]
+pub unsafe extern "C" fn rights_judge(
+    boxes: *const u8,
+    boxes_len: usize,
+    rows: *const u16,
+    rows_len: usize,
+    arrows: *const u16,
+    arrows_len: usize,
+    scratch: *mut u8,
+    scratch_len: usize,
+) -> Reply {
+    let t = Tables {
+        boxes: from_raw_parts(boxes, boxes_len),
+        rows: from_raw_parts(rows, rows_len),
+        arrows: from_raw_parts(arrows, arrows_len),
+    };
+    judge(&t, from_raw_parts_mut(scratch, scratch_len))
+}
+
+#[no_mangle]
+pub unsafe extern "C" fn rights_entry(
+    boxes: *const u8,
+    boxes_len: usize,
+    rows: *const u16,
+    rows_len: usize,
+    arrows: *const u16,
+    arrows_len: usize,
+    user: u16,
+    file: u16,
+    mode: u16,
+    scratch: *mut u8,
+    scratch_len: usize,
+) -> Reply {
+    let t = Tables {
+        boxes: from_raw_parts(boxes, boxes_len),
+        rows: from_raw_parts(rows, rows_len),
+        arrows: from_raw_parts(arrows, arrows_len),
+    };
+    let scratch = from_raw_parts_mut(scratch, scratch_len);
+    entry(&t, user, file, mode, scratch)
+}
+
+#[no_mangle]
+pub unsafe extern "C" fn rights_matrix(
+    boxes: *const u8,
+    boxes_len: usize,
+    rows: *const u16,
+    rows_len: usize,
+    arrows: *const u16,
+    arrows_len: usize,
+    mode: u16,
+    scratch: *mut u8,
+    scratch_len: usize,
+    bytes: *mut u8,
+    bytes_len: usize,
+    numbers: *mut u16,
+    numbers_len: usize,
+) -> Reply {
+    let t = Tables {
+        boxes: from_raw_parts(boxes, boxes_len),
+        rows: from_raw_parts(rows, rows_len),
+        arrows: from_raw_parts(arrows, arrows_len),
+    };
+    matrix(
+        &t,
+        mode,
+        from_raw_parts_mut(scratch, scratch_len),
+        from_raw_parts_mut(bytes, bytes_len),
+        from_raw_parts_mut(numbers, numbers_len),
+    )
+}
+
+#[no_mangle]
+pub unsafe extern "C" fn rights_list(
+    boxes: *const u8,
+    boxes_len: usize,
+    rows: *const u16,
+    rows_len: usize,
+    arrows: *const u16,
+    arrows_len: usize,
+    mode: u16,
+    scratch: *mut u8,
+    scratch_len: usize,
+    list_places: *mut u16,
+    list_len: usize,
+    work: *mut u8,
+    work_len: usize,
+) -> Reply {
+    let t = Tables {
+        boxes: from_raw_parts(boxes, boxes_len),
+        rows: from_raw_parts(rows, rows_len),
+        arrows: from_raw_parts(arrows, arrows_len),
+    };
+    list(
+        &t,
+        mode,
+        from_raw_parts_mut(scratch, scratch_len),
+        from_raw_parts_mut(list_places, list_len),
+        from_raw_parts_mut(work, work_len),
+    )
+}
+
+#[no_mangle]
+pub unsafe extern "C" fn rights_read(
+    file: *const u8,
+    file_len: usize,
+    boxes: *mut u8,
+    boxes_len: usize,
+    rows: *mut u16,
+    rows_len: usize,
+    arrows: *mut u16,
+    arrows_len: usize,
+) -> Reply {
+    read(
+        from_raw_parts(file, file_len),
+        from_raw_parts_mut(boxes, boxes_len),
+        from_raw_parts_mut(rows, rows_len),
+        from_raw_parts_mut(arrows, arrows_len),
+    )
+}
