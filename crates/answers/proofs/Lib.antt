@@ -3,7 +3,7 @@ pub mod AnswerLaws
 pub mod PairLaws
 mod Keep
 pub mod AmongLaws
-pub mod ModeLaws
-pub mod GrantLaws
 pub mod ReadyLaws
 pub mod CallLaws
+pub mod ModeLaws
+pub mod GrantLaws

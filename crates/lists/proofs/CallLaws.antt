@@ -1,42 +1,26 @@
 -- What the call answers and leaves, stage by stage. Assumes nothing.
-use mathlib.Core.Path.{_≡_, refl, sym, ap, subst, _∙_}
+use mathlib.Core.Path.{_≡_, refl, sym, ap, _∙_}
 use mathlib.Core.List.{List, []}
-use mathlib.Core.Option.{Option, none, some}
-use Prim.Native.Nat.{ℕ, _<_, _≤_}
-use native.Mathlib.Decide.{decLt}
+use mathlib.Core.Option.{none, some}
+use Prim.Native.Nat.{ℕ, _≤_}
 use native.Mathlib.Omega.{arith}
-use lib.Dec.{T}
-use lib.ListN.{length, getD, take, length-replicate}
-use lib.Seq.{ext-getD}
+use lib.ListN.{length, take, length-replicate}
 use Rattle.tables.specs.Buffers.{written, zeros}
 use Rattle.tables.specs.Atoms.{pairCount}
 use Rattle.tables.specs.declared.Refusal.{Refusal}
-use Rattle.tables.proofs.PartLaws.{part-is}
-use Rattle.tables.proofs.BufferLaws.{written-length, written-at, written-rest, zeros-length}
 use Rattle.answers.specs.Among.{modeArrows}
 use Rattle.answers.specs.Pairs.{unclearFault}
 use Rattle.answers.specs.Calls.{unlessRefused}
-use Rattle.lists.specs.Greedy.{leftBy, orderFault}
+use Rattle.lists.specs.Greedy.{orderFault}
 use Rattle.lists.specs.Calls.{blanks, Answered, Listing}
 use Rattle.lists.specs.Steps.{leftIn, workOf, Ordered}
 use Rattle.lists.specs.declared.Listed.{Listed}
 use Rattle.lists.specs.declared.Listed.the-variants.{Written, Refused}
-use Rattle.lists.proofs.GreedyLaws.{Grown, full}
+use Rattle.tables.proofs.PartLaws.{part-is}
+use Rattle.tables.proofs.BufferLaws.{zeros-length}
+use Rattle.lists.proofs.GreedyLaws.{full}
 use Rattle.lists.proofs.OrderLaws.{settled, qualified}
-use Rattle.lists.proofs.GrowLaws.{work-length, left-by, own-room}
-
--- what is written over at least as many places
-written-over : (a b old : List ℕ) → length b ≤ length a → length a ≤ length old → written a (written b old) ≡ written a old
-written-over a b old h l =
-    let lb = written-length b old (omega arith) in
-    let la = written-length a old l in
-    let lab = written-length a (written b old) (omega arith) in
-    ext-getD 0 (written a (written b old)) (written a old) (lab ∙ lb ∙ sym la) (λ p k. go p (decLt p (length a)))
-  where
-    go : (p : ℕ) → Dec (p < length a) → getD (written a (written b old)) p 0 ≡ getD (written a old) p 0
-    go p (yes k) = written-at a (written b old) p k ∙ sym (written-at a old p k)
-    go p (no k) =
-        written-rest a (written b old) p (omega arith) ∙ written-rest b old p (omega arith) ∙ sym (written-rest a old p (omega arith))
+use Rattle.lists.proofs.GrowLaws.{written-over, work-length, left-by, own-room}
 
 module _ (boxes rows arrows : List ℕ) (m : ℕ) (out work : List ℕ) (count : ℕ) (out′ work′ : List ℕ)
     (o : Ordered boxes rows arrows m out work count out′ work′) where

@@ -1,18 +1,17 @@
 -- Lists of numbers: what the tests of `specs/Order.antt` say of a list with one more number, and how long a list with no number
 -- twice can be. Assumes nothing.
-use mathlib.Core.Path.{_≡_, refl, sym, ap, subst, _∙_}
+use mathlib.Core.Path.{_≡_, refl, sym, subst}
 use mathlib.Core.Logic.{⊎-elim}
 use mathlib.Core.Bool.{Bool, true, false, not, cond, _&&_, _||_}
 use mathlib.Core.List.{List, [], _∷_, _++_}
-use mathlib.Core.Option.{Option, none, some}
-use Prim.Native.Nat.{ℕ, zero, suc, _+_, _<_, _≤_}
+use Prim.Native.Nat.{ℕ, zero, suc, _<_, _≤_}
 use native.Mathlib.Omega.{arith}
 use lib.Dec.{T, T-not, not-T, eqb, eqb→eq, eqb-refl}
 use lib.ListN.{length, length-append}
 use Rattle.tables.specs.Search.{select}
-use Rattle.tables.proofs.Tests.{T?, or-T, and-T, T-and, T-or₁, T-or₂, T-eqb, T-true, not-false, true-T, false-not}
-use Rattle.tables.proofs.SearchLaws.{below-suc}
 use Rattle.lists.specs.Order.{anyOf, allOf, distinct}
+use Rattle.tables.proofs.Tests.{or-T, and-T, T-and, T-or₁, T-or₂, T-eqb, T-true, not-false, true-T, false-not}
+use Rattle.tables.proofs.SearchLaws.{below-suc}
 
 -- ---- one more number
 

@@ -1,5 +1,5 @@
 -- How the call ends: at checks 1 to 9, at check 10, or with what follows it. Assumes nothing.
-use mathlib.Core.Path.{_≡_, refl, sym, ap, _∙_}
+use mathlib.Core.Path.{_≡_, refl}
 use mathlib.Core.List.{List}
 use mathlib.Core.Option.{Option, none, some}
 use Prim.Native.Nat.{ℕ, _*_, _≤_}
@@ -9,16 +9,15 @@ use Rattle.tables.specs.Atoms.{pairCount}
 use Rattle.tables.specs.Refusals.{verdictOf, either}
 use Rattle.tables.specs.Faults.{tableFault, modeFault, roomFault}
 use Rattle.tables.specs.declared.Refusal.{Refusal}
-use Rattle.tables.proofs.TableLaws.{both-none, room-passed}
-use Rattle.tables.proofs.Verdicts.{either-verdict, orElse-assoc}
 use Rattle.containment.specs.Contains.{loopFault}
 use Rattle.containment.specs.Scratch.{scratchFault, scratchAfter, filled}
-use Rattle.containment.proofs.ScratchLaws.{scratch-room}
-use Rattle.answers.specs.Among.{modeArrows}
 use Rattle.answers.specs.Calls.{unlessRefused}
 use Rattle.lists.specs.Calls.{listRoom, listEarly, listLate, Listing, Outcome}
 use Rattle.lists.specs.declared.Listed.{Listed}
 use Rattle.lists.specs.declared.Listed.the-variants.{Refused}
+use Rattle.answers.proofs.CallLaws.{chained}
+use Rattle.tables.proofs.TableLaws.{both-none, room-passed}
+use Rattle.containment.proofs.ScratchLaws.{scratch-room}
 
 module _ (boxes rows arrows : List ℕ) (m : ℕ) (s out work : List ℕ) where
   -- checks 8 and 9
@@ -30,11 +29,7 @@ module _ (boxes rows arrows : List ℕ) (m : ℕ) (s out work : List ℕ) where
 
   pub rest-is : either (either (either (verdictOf (modeFault m)) (verdictOf (scratchFault (length boxes) s))) (verdictOf (roomFault 3 (length out) (listRoom boxes rows arrows m)))) (verdictOf (roomFault 4 (length work) (pairCount boxes rows)))
       ≡ verdictOf rest
-  rest-is =
-      rw (either-verdict, either-verdict, either-verdict)
-      (ap verdictOf
-      (orElse-assoc (orElse (modeFault m) (scratchFault (length boxes) s)) (roomFault 3 (length out) (listRoom boxes rows arrows m)) (roomFault 4 (length work) (pairCount boxes rows))
-      ∙ orElse-assoc (modeFault m) (scratchFault (length boxes) s) (orElse (roomFault 3 (length out) (listRoom boxes rows arrows m)) (roomFault 4 (length work) (pairCount boxes rows)))))
+  rest-is = chained (modeFault m) (scratchFault (length boxes) s) (roomFault 3 (length out) (listRoom boxes rows arrows m)) (roomFault 4 (length work) (pairCount boxes rows))
 
   pub record Rooms : Type 0 where
     pub scratch-room : length boxes * length boxes ≤ length s

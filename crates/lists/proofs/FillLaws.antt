@@ -1,28 +1,26 @@
 -- The loop that looks for an unclear pair and notes which pairs are granted. Assumes nothing.
-use mathlib.Core.Path.{_≡_, refl, sym, ap, _∙_}
+use mathlib.Core.Path.{_≡_, sym, ap, _∙_}
 use mathlib.Core.Bool.{Bool, true, false, cond}
 use mathlib.Core.List.{List, []}
-use mathlib.Core.Option.{Option, none, some}
-use Prim.Native.Nat.{ℕ, zero, _+_, _<_, _≤_}
+use mathlib.Core.Option.{none, some}
+use Prim.Native.Nat.{ℕ, _+_, _<_, _≤_}
 use native.Mathlib.Nat.{add-zero}
-use native.Mathlib.Omega.{arith}
-use lib.ListN.{length, getD, set}
-use Rattle.tables.specs.Search.{first, given, bit}
+use lib.ListN.{length, set}
+use Rattle.tables.specs.Search.{bit}
 use Rattle.tables.specs.Buffers.{build, written}
 use Rattle.tables.specs.Atoms.{pairCount}
 use Rattle.tables.specs.Refusals.{unclearPair, verdictOf}
 use Rattle.tables.specs.declared.Refusal.{Refusal}
 use Rattle.tables.specs.declared.Verdict.the-variants.{Passed}
-use Rattle.tables.proofs.Tests.{not-false}
-use Rattle.tables.proofs.SearchLaws.{Searched, search-none, search-more, search-here, first-none, given-none}
-use Rattle.tables.proofs.BufferLaws.{written-none, written-build, written-length, build-length}
-use Rattle.tables.proofs.Verdicts.{passed}
 use Rattle.answers.specs.Meaning.{isGranted, isUnclear}
 use Rattle.answers.specs.Pairs.{userAt, fileAt, answerAt, unclearFault}
 use Rattle.answers.specs.declared.Entry.{Entry}
-use Rattle.answers.proofs.ModeLaws.{unclear-first}
 use Rattle.lists.specs.Order.{anyOf, reached, granted}
 use Rattle.lists.specs.Steps.{Clear, workOf}
+use Rattle.tables.proofs.Tests.{not-false}
+use Rattle.tables.proofs.SearchLaws.{Searched, search-none, search-more, search-here, first-none, given-none}
+use Rattle.tables.proofs.BufferLaws.{written-none, written-build, written-length, build-length}
+use Rattle.answers.proofs.PairLaws.{unclearAt, unclear-is}
 
 module _ (boxes rows arrows : List ℕ) (m : ℕ) where
   abbrev unclear : ℕ → Bool
@@ -59,15 +57,17 @@ module _ (boxes rows arrows : List ℕ) (m : ℕ) where
 
     pub filling-unclear : (bytes : List ℕ) (p : ℕ) (e : Entry) → p < pairCount boxes rows → e ≡ answerAt boxes rows arrows m p → isUnclear e ≡ true
         → Filling bytes p → unclearFault boxes rows arrows m ≡ some (place p)
+    unfolding unclearAt
     filling-unclear bytes p e h i u f =
-        unclear-first boxes rows arrows m ∙ search-here unclear place (pairCount boxes rows) p (f .clear) (rw i at u) h
+        unclear-is boxes rows arrows m ∙ search-here unclear place (pairCount boxes rows) p (f .clear) (rw i at u) h
 
     pub filling-done : (bytes : List ℕ) (p : ℕ) → p ≡ pairCount boxes rows → Filling bytes p
         → (Passed ≡ verdictOf (unclearFault boxes rows arrows m)) × (bytes ≡ written (workOf boxes rows arrows m []) old)
-    unfolding workOf
-    filling-done bytes p e f = (rw (unclear-first boxes rows arrows m, ← e, f .clear), rw e at (f .filled))
+    unfolding workOf unclearAt
+    filling-done bytes p e f = (rw (unclear-is boxes rows arrows m, ← e, f .clear), rw e at (f .filled))
 
   -- where check 12 passes, no pair is unclear
   pub all-clear : unclearFault boxes rows arrows m ≡ none → Clear boxes rows arrows m
+  unfolding unclearAt
   all-clear e p h =
-      not-false (unclear p) (given-none (unclear p) (place p) (first-none _ (pairCount boxes rows) (sym (unclear-first boxes rows arrows m) ∙ e) p h))
+      not-false (unclear p) (given-none (unclear p) (place p) (first-none _ (pairCount boxes rows) (sym (unclear-is boxes rows arrows m) ∙ e) p h))

@@ -1,7 +1,6 @@
 -- A list grown by arrows that may follow it stays honest and has no arrow twice; in the end nothing more can be added.
 -- Assumes nothing.
-use mathlib.Core.Path.{_≡_, refl, sym, subst, _∙_}
-use mathlib.Core.Logic.{⊎-elim}
+use mathlib.Core.Path.{_≡_, refl, sym, subst}
 use mathlib.Core.Bool.{Bool, true, false, not, _&&_, _||_}
 use mathlib.Core.List.{List, [], _∷_, _++_}
 use mathlib.Core.Option.{Option, none, some}
@@ -12,11 +11,11 @@ use lib.ListN.{length}
 use Rattle.tables.specs.Search.{every, lowest, select}
 use Rattle.tables.specs.Rows.{arrowCount, arrowAt}
 use Rattle.tables.specs.Atoms.{pairCount}
-use Rattle.tables.proofs.Tests.{T?, or-T, and-T, T-and, T-or₁, T-or₂}
-use Rattle.tables.proofs.SearchLaws.{lowest-some, lowest-none, every-at, every-is, some-none}
-use Rattle.tables.proofs.BufferLaws.{select-most}
 use Rattle.lists.specs.Order.{anyOf, allOf, passes, distinct, firstOf, ofMode, meets, reached, right, honest}
 use Rattle.lists.specs.Greedy.{new, fits, addable, grow, greedy}
+use Rattle.tables.proofs.Tests.{T?, and-T, T-and, T-or₁, T-or₂}
+use Rattle.tables.proofs.SearchLaws.{lowest-some, lowest-none, every-at, every-is, some-none}
+use Rattle.tables.proofs.BufferLaws.{select-most}
 use Rattle.lists.proofs.CountLaws.{anyOf-snoc, allOf-snoc, distinct-snoc, anyOf-has, select-fewer}
 use Rattle.lists.proofs.MatchLaws.{Honest, Fits, Full, honest-none, honest-snoc}
 

@@ -1,32 +1,30 @@
 -- The work bytes show the list: which arrow they let follow, how marking goes on with them, and what they leave. Assumes nothing.
-use mathlib.Core.Path.{_≡_, refl, sym, ap, ap₂, subst, _∙_}
+use mathlib.Core.Path.{_≡_, refl, sym, ap, ap₂, _∙_}
 use mathlib.Core.Bool.{Bool, true, false, not, cond, _&&_, _||_}
 use mathlib.Core.List.{List, [], _∷_, _++_}
-use mathlib.Core.Option.{Option, none, some}
 use Prim.Native.Nat.{ℕ, zero, suc, _+_, _<_, _≤_}
 use native.Mathlib.Decide.{decLt, ℕ-discrete}
-use native.Mathlib.Numerals.{add-one}
 use native.Mathlib.Omega.{arith}
 use borrow.Author.Tests.{eq-eqb, ne-eqb}
-use lib.Dec.{T, eqb, ltb, lt→ltb, eqb→eq}
-use lib.ListN.{length, getD, drop, length-append, length-drop}
-use Rattle.tables.specs.Search.{first, given, every, select, bit}
+use lib.Dec.{T, eqb, ltb, lt→ltb}
+use lib.ListN.{length, getD, length-append}
+use lib.Seq.{ext-getD}
+use Rattle.tables.specs.Search.{every, select, bit}
 use Rattle.tables.specs.Buffers.{build, written, zeros}
 use Rattle.tables.specs.Rows.{arrowCount, arrowAt}
 use Rattle.tables.specs.Atoms.{pairCount}
 use Rattle.tables.specs.declared.Arrow.{Arrow}
-use Rattle.tables.specs.declared.Refusal.{Refusal}
-use Rattle.tables.proofs.Tests.{and-T, T-and, T-eqb, T-true, true-T}
-use Rattle.tables.proofs.BufferLaws.{written-at, written-rest, build-length, build-at, zeros-length, zeros-at}
-use Rattle.tables.proofs.SelectLaws.{select-found, select-has}
 use Rattle.answers.specs.Meaning.{positive, negative, isGranted, isUnclear}
-use Rattle.answers.specs.Pairs.{answerAt, unclearFault}
-use Rattle.answers.specs.Among.{modeArrows, FirstAt}
+use Rattle.answers.specs.Pairs.{answerAt}
+use Rattle.answers.specs.Among.{modeArrows}
 use Rattle.answers.specs.declared.Entry.{Entry}
-use Rattle.answers.proofs.ModeLaws.{mode-select}
-use Rattle.lists.specs.Order.{anyOf, gives, ofMode, meets, reached, granted, right, honest, distinct}
+use Rattle.lists.specs.Order.{anyOf, gives, ofMode, meets, reached, granted, right}
 use Rattle.lists.specs.Greedy.{new, fits, addable, leftBy}
 use Rattle.lists.specs.Steps.{touches, stops, follows, followsAt, marked, Behind, leftIn, Clear, workOf}
+use Rattle.tables.proofs.Tests.{and-T, T-and, T-true}
+use Rattle.tables.proofs.BufferLaws.{written-length, written-at, written-rest, build-length, build-at, zeros-length, zeros-at}
+use Rattle.tables.proofs.SelectLaws.{select-found, select-has}
+use Rattle.answers.proofs.ModeLaws.{mode-select}
 use Rattle.lists.proofs.CountLaws.{anyOf-snoc, select-within, room}
 use Rattle.lists.proofs.GreedyLaws.{Grown, grown-more, honest-own, addable-own, ofMode-there}
 use Rattle.lists.proofs.OrderLaws.{first-same}
@@ -34,14 +32,18 @@ use Rattle.lists.proofs.StepLaws.{stops-same, stops-open}
 
 -- ---- places written twice
 
--- what is written over as many places
-pub written-again : (a b old : List ℕ) → length a ≡ length b → length b ≤ length old → written a (written b old) ≡ written a old
-unfolding written
-written-again a b old e h = ap (λ (l : List ℕ). a ++ l) (rw e (drop-front b (drop (length b) old)))
+-- what is written over at least as many places
+pub written-over : (a b old : List ℕ) → length b ≤ length a → length a ≤ length old → written a (written b old) ≡ written a old
+written-over a b old h l =
+    let lb = written-length b old (omega arith) in
+    let la = written-length a old l in
+    let lab = written-length a (written b old) (omega arith) in
+    ext-getD 0 (written a (written b old)) (written a old) (lab ∙ lb ∙ sym la) (λ p k. go p (decLt p (length a)))
   where
-    drop-front : (x y : List ℕ) → drop (length x) (x ++ y) ≡ y
-    drop-front [] y = refl
-    drop-front (k ∷ x) y = drop-front x y
+    go : (p : ℕ) → Dec (p < length a) → getD (written a (written b old)) p 0 ≡ getD (written a old) p 0
+    go p (yes k) = written-at a (written b old) p k ∙ sym (written-at a old p k)
+    go p (no k) =
+        written-rest a (written b old) p (omega arith) ∙ written-rest b old p (omega arith) ∙ sym (written-rest a old p (omega arith))
 
 pub build-same : (g h : ℕ → ℕ) (n : ℕ) → ((k : ℕ) → k < n → g k ≡ h k) → build g n ≡ build h n
 unfolding build
@@ -81,6 +83,16 @@ byte-marked false true false = refl
 byte-marked false false true = refl
 byte-marked false false false = refl
 
+ended : (t b : Bool) → false ≡ ((t && false) && not b)
+ended true b = refl
+ended false b = refl
+
+turned : (t b : Bool) → (not b && t) ≡ ((t && true) && not b)
+turned true true = refl
+turned true false = refl
+turned false true = refl
+turned false false = refl
+
 -- an arrow that reaches the pair or not, t, against a byte to skip: 2, and s
 byte-new : (g r t : Bool) → (ltb (bit g + cond r 2 0) 2 && (not (eqb (bit g + cond r 2 0) 2) && t)) ≡ (t && not r)
 unfolding bit
@@ -96,30 +108,10 @@ byte-new false false false = refl
 byte-wrong : (g r t : Bool) (s : ℕ)
     → (ltb (bit g + cond r 2 0) 2 && (not (eqb (bit g + cond r 2 0) s) && t)) ≡ ((t && not r) && not (eqb (bit g) s))
 unfolding bit
-byte-wrong true true t s = swap t (eqb 1 s)
-  where
-    swap : (t b : Bool) → false ≡ ((t && false) && not b)
-    swap true b = refl
-    swap false b = refl
-byte-wrong false true t s = swap t (eqb 0 s)
-  where
-    swap : (t b : Bool) → false ≡ ((t && false) && not b)
-    swap true b = refl
-    swap false b = refl
-byte-wrong true false t s = swap t (eqb 1 s)
-  where
-    swap : (t b : Bool) → (not b && t) ≡ ((t && true) && not b)
-    swap true true = refl
-    swap true false = refl
-    swap false true = refl
-    swap false false = refl
-byte-wrong false false t s = swap t (eqb 0 s)
-  where
-    swap : (t b : Bool) → (not b && t) ≡ ((t && true) && not b)
-    swap true true = refl
-    swap true false = refl
-    swap false true = refl
-    swap false false = refl
+byte-wrong true true t s = ended t (eqb 1 s)
+byte-wrong false true t s = ended t (eqb 0 s)
+byte-wrong true false t s = turned t (eqb 1 s)
+byte-wrong false false t s = turned t (eqb 0 s)
 
 eqb-turn : (m n : ℕ) → eqb m n ≡ eqb n m
 eqb-turn m n = go (ℕ-discrete m n)
@@ -207,8 +199,8 @@ module _ (boxes rows arrows : List ℕ) (m : ℕ) where
     unfolding workOf
     mark-shown h k =
         ap (λ (x : List ℕ). written x (written (workOf boxes rows arrows m l) w)) (build-same _ (shown (l ++ (k ∷ []))) pairs (marked-shown k))
-        ∙ written-again (workOf boxes rows arrows m (l ++ (k ∷ []))) (workOf boxes rows arrows m l) w
-        (work-length (l ++ (k ∷ [])) ∙ sym (work-length l)) (omega (arith, work-length l))
+        ∙ written-over (workOf boxes rows arrows m (l ++ (k ∷ []))) (workOf boxes rows arrows m l) w
+        (omega (arith, work-length (l ++ (k ∷ [])), work-length l)) (omega (arith, work-length (l ++ (k ∷ []))))
 
   -- ---- the arrows of the mode, by their places
 

@@ -1,15 +1,15 @@
 -- First-match lists over any n pairs: R p k says whether arrow k reaches pair p, Right p k whether it gives p the right answer.
 -- Assumes nothing.
-use mathlib.Core.Path.{_≡_, refl, sym, subst, _∙_}
+use mathlib.Core.Path.{_≡_, sym, subst, _∙_}
 use mathlib.Core.Logic.{_⊎_, inl, inr, ⊎-elim}
-use mathlib.Core.Bool.{Bool, true, false, cond, _||_}
+use mathlib.Core.Bool.{Bool}
 use mathlib.Core.List.{List, [], _∷_, _++_}
-use mathlib.Core.Option.{Option, none, some}
+use mathlib.Core.Option.{some}
 use Prim.Native.Nat.{ℕ, _<_}
 use lib.Dec.{T}
+use Rattle.lists.specs.Order.{anyOf, allOf, firstOf}
 use Rattle.tables.proofs.Tests.{T?, or-T, and-T, T-true, not-false}
 use Rattle.tables.proofs.SearchLaws.{some-none}
-use Rattle.lists.specs.Order.{anyOf, allOf, firstOf}
 
 -- ---- the first of a list with one more in front, and of one with one more at the end
 

@@ -1,6 +1,6 @@
 -- The third condition: a list is written exactly when some honest list reaches every granted pair, and refusal 13 names the first
 -- granted pair that no honest list whatever reaches, whatever honest list to which nothing can be added was found. Assumes nothing.
-use mathlib.Core.Path.{_≡_, refl, sym, ap, subst, _∙_}
+use mathlib.Core.Path.{_≡_, refl, ap}
 use mathlib.Core.Logic.{_↔_}
 use mathlib.Core.Bool.{Bool, not, _&&_, _||_}
 use mathlib.Core.List.{List}
@@ -8,16 +8,16 @@ use mathlib.Core.Option.{Option, none, some}
 use Prim.Native.Nat.{ℕ, zero, suc, _<_}
 use native.Mathlib.Omega.{arith}
 use lib.Dec.{T, T-not, not-T}
-use Rattle.tables.specs.Search.{first, given}
+use Rattle.tables.specs.Search.{first}
 use Rattle.tables.specs.Atoms.{pairCount}
 use Rattle.tables.specs.Refusals.{noOrder}
 use Rattle.tables.specs.declared.Refusal.{Refusal}
-use Rattle.tables.proofs.TableLaws.{not-not}
-use Rattle.tables.proofs.Tests.{and-T, T-and, T-same, T-true, not-false}
-use Rattle.tables.proofs.SearchLaws.{first-none, first-some, first-is, first-nothing, given-none, given-some, given-true, given-false, every-at, every-is}
 use Rattle.answers.specs.Pairs.{userAt, fileAt}
 use Rattle.lists.specs.Order.{distinct, ofMode, meets, reached, granted, right, honest, coversAll, qualifies, FirstMissed}
 use Rattle.lists.specs.Greedy.{greedy, leftBy, orderFault}
+use Rattle.tables.proofs.TableLaws.{not-not}
+use Rattle.tables.proofs.Tests.{and-T, T-and, T-same, T-true, not-false}
+use Rattle.tables.proofs.SearchLaws.{first-none, first-some, first-is, first-nothing, given-none, given-some, given-true, given-false, every-at, every-is}
 use Rattle.lists.proofs.MatchLaws.{Full, maximal}
 use Rattle.lists.proofs.GreedyLaws.{implies, implied, honest-own, honest-right, Grown, greedy-grown, greedy-full}
 

@@ -1,20 +1,18 @@
 -- The pairs by place, read out of the lists of users and files, and the walk from place to place. Assumes nothing.
-use mathlib.Core.Path.{_≡_, refl, sym, ap, _∙_}
-use mathlib.Core.Bool.{Bool}
+use mathlib.Core.Path.{_≡_, sym, ap, _∙_}
 use mathlib.Core.List.{List}
 use Prim.Native.Nat.{ℕ, _+_, _*_, _/_, _%_, _<_, _≤_}
 use native.Mathlib.Omega.{arith}
-use lib.Dec.{T}
 use lib.ListN.{length, getD}
 use Rattle.tables.specs.Rows.{user, file}
-use Rattle.tables.specs.Atoms.{atoms, pairCount}
-use Rattle.tables.proofs.AtomPlaces.{atom-there, atoms-most}
-use Rattle.containment.proofs.Index.{at-div, at-mod, place, next-row}
+use Rattle.tables.specs.Atoms.{pairCount}
 use Rattle.answers.specs.Pairs.{userAt, fileAt}
-use Rattle.answers.proofs.PairLaws.{userAt-atom, fileAt-atom}
-use Rattle.answers.proofs.PairLaws as pairs
 use Rattle.lists.specs.Steps.{cellAt, Placed}
 use Rattle.lists.specs.declared.Cell.{Cell}
+use Rattle.tables.proofs.AtomPlaces.{atom-there, atoms-most}
+use Rattle.containment.proofs.Index.{at-div, at-mod, place, next-row}
+use Rattle.answers.proofs.PairLaws.{userAt-atom, fileAt-atom}
+use Rattle.answers.proofs.PairLaws as pairs
 
 -- ---- the place after p
 

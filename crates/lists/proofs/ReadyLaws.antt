@@ -1,18 +1,18 @@
 -- What the parts of a sound picture are, as the call gathers them. Assumes nothing.
-use mathlib.Core.Path.{_≡_, sym, ap₂, _∙_}
+use mathlib.Core.Path.{sym, ap₂, _∙_}
 use mathlib.Core.List.{List}
-use Prim.Native.Nat.{ℕ, _*_, _<_, _≤_}
+use Prim.Native.Nat.{ℕ, _*_}
 use native.Mathlib.Omega.{arith}
-use lib.ListN.{length, take}
-use Rattle.tables.specs.Rows.{user, file, arrowCount, arrowAt}
-use Rattle.tables.specs.Atoms.{atoms, pairCount}
+use lib.ListN.{take}
+use Rattle.tables.specs.Rows.{user, file}
+use Rattle.tables.specs.Atoms.{atoms}
 use Rattle.tables.specs.Faults.{SoundRows, SoundArrows}
-use Rattle.tables.proofs.AtomPlaces.{onSide-there}
+use Rattle.answers.specs.Among.{modeArrows}
+use Rattle.lists.specs.Steps.{Placed, Drawn}
 use Rattle.tables.proofs.AtomSides.{pairs-product}
 use Rattle.tables.proofs.PartLaws.{Wrote, part-is}
-use Rattle.answers.specs.Among.{modeArrows}
+use Rattle.answers.proofs.ReadyLaws.{sound-within}
 use Rattle.answers.proofs.AmongLaws.{mode-most, mode-numbers}
-use Rattle.lists.specs.Steps.{Placed, Drawn}
 
 module _ (boxes rows arrows : List ℕ) where
   pub placed-is : SoundRows boxes rows → (u f : ℕ) (users users₀ files files₀ : List ℕ)
@@ -27,11 +27,8 @@ module _ (boxes rows arrows : List ℕ) where
 
   pub drawn-is : SoundArrows boxes arrows → (m : ℕ) → Drawn boxes arrows (modeArrows arrows m)
   drawn-is s m = record {
-    few = omega (arith, mode-most rows arrows m, s .few-arrows);
-    within = record {
-      tail-in = λ k l. onSide-there boxes rows user (arrowAt arrows k .tail) (s .tail-user k l);
-      head-in = λ k l. onSide-there boxes rows file (arrowAt arrows k .head) (s .head-file k l);
-    };
+    few = omega (arith, mode-most arrows m, s .few-arrows);
+    within = sound-within boxes arrows s;
     signs = s .sign-most;
-    numbers = mode-numbers rows arrows m;
+    numbers = mode-numbers arrows m;
   }

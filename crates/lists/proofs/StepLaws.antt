@@ -1,14 +1,14 @@
 -- The tests of the steps, and how they go on from turn to turn. Assumes nothing.
-use mathlib.Core.Path.{_≡_, refl, sym, ap, _∙_}
+use mathlib.Core.Path.{_≡_, sym, ap, _∙_}
 use mathlib.Core.Logic.{_≢_}
-use mathlib.Core.Bool.{Bool, true, false, not, cond, _&&_}
+use mathlib.Core.Bool.{Bool, true, false, not, cond}
 use mathlib.Core.List.{List}
 use Prim.Native.Nat.{ℕ, _+_, _<_, _≤_}
 use native.Mathlib.Decide.{decLt, ℕ-discrete}
 use native.Mathlib.Numerals.{add-one}
 use native.Mathlib.Omega.{arith}
 use borrow.Author.Tests.{le-ltb, lt-ltb, eq-eqb, ne-eqb}
-use lib.Dec.{T, T-not, not-T, eqb, ltb, ltb→lt}
+use lib.Dec.{T, T-not, not-T, ltb, ltb→lt}
 use lib.ListN.{length, getD, set, take, replicate, length-set, length-replicate, replicate-append-replicate}
 use lib.Seq.{getD-set-same, getD-set-other, length-take-le, take-suc}
 use Rattle.tables.specs.Search.{every}
@@ -16,11 +16,11 @@ use Rattle.tables.specs.Buffers.{build, written}
 use Rattle.tables.specs.Rows.{arrowAt}
 use Rattle.tables.specs.Atoms.{pairCount}
 use Rattle.tables.specs.declared.Arrow.{Arrow}
+use Rattle.answers.specs.Among.{FirstAt}
+use Rattle.lists.specs.Steps.{touches, stops, NoStop, follows, marked, Behind}
 use Rattle.tables.proofs.Tests.{and-T, T-true, not-false}
 use Rattle.tables.proofs.SearchLaws.{every-at, every-is}
 use Rattle.tables.proofs.BufferLaws.{written-more, written-rest, build-length, written-build}
-use Rattle.answers.specs.Among.{FirstAt}
-use Rattle.lists.specs.Steps.{touches, stops, NoStop, follows, marked, Behind}
 use Rattle.lists.proofs.GreedyLaws.{not-nowhere}
 
 module _ (boxes rows : List ℕ) (a : Arrow) (work : List ℕ) (skip p : ℕ) where

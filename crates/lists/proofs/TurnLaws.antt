@@ -8,10 +8,9 @@ use lib.ListN.{length, getD, set, length-append}
 use Rattle.tables.specs.Buffers.{build, written, zeros}
 use Rattle.tables.specs.Rows.{arrowAt}
 use Rattle.tables.specs.Atoms.{pairCount}
-use Rattle.tables.specs.declared.Arrow.{Arrow}
-use Rattle.tables.proofs.BufferLaws.{written-none, written-more, written-length}
 use Rattle.answers.specs.Among.{modeArrows}
 use Rattle.lists.specs.Steps.{followsAt, marked, Behind, ownSign, nothing, Clear, workOf, Ordered}
+use Rattle.tables.proofs.BufferLaws.{written-none, written-more, written-length}
 use Rattle.lists.proofs.GreedyLaws.{Grown, grown-none}
 use Rattle.lists.proofs.GrowLaws.{work-length, own-room, grown-next, room-next, none-next, mark-shown, mark-grew, behind-grew, behind-none}
 

@@ -1,12 +1,12 @@
 -- The lettered pictures A to J (document 01), mode 0, whole: the answers' table, with what holds of lists. Assumes nothing.
 use mathlib.Core.Path.{_≡_, refl}
-use mathlib.Core.Bool.{Bool, true, false, not, cond, _&&_, _||_}
-use mathlib.Core.List.{List, [], _∷_, _++_, map}
+use mathlib.Core.Bool.{Bool, true, false}
+use mathlib.Core.List.{List, [], _∷_, map}
 use mathlib.Core.Option.{Option, none, some}
 use Prim.Native.Nat.{ℕ, _*_}
 use lib.ListN.{length, replicate}
-use Rattle.tables.specs.Search.{orElse, given, first, lowest, every, select, bit}
-use Rattle.tables.specs.Buffers.{build, written, zeros}
+use Rattle.tables.specs.Search.{orElse, given, first, lowest, every, select}
+use Rattle.tables.specs.Buffers.{build, written}
 use Rattle.tables.specs.Rows.{sideOf, onSide}
 use Rattle.tables.specs.Atoms.{outer, atom, atoms, pairCount}
 use Rattle.tables.specs.Refusals.{inItself, unclearPair, noOrder}
@@ -16,13 +16,13 @@ use Rattle.containment.specs.Contains.{contains, around, loopFault}
 use Rattle.containment.specs.Scratch.{scratchFault, earlyFault, pictureFault}
 use Rattle.answers.specs.Meaning.{reaches, nests, level, overrides, settle, hits, certifies, answer, byteOf, numberOf, isGranted, isUnclear}
 use Rattle.answers.specs.Among.{hasMode, modeArrows}
-use Rattle.answers.specs.Pairs.{userAt, fileAt, firstPair, answerAt, matrixBytes, matrixNumbers, unclearFault, anyUnclear}
+use Rattle.answers.specs.Pairs.{userAt, fileAt, firstPair, answerAt, byteAt, numberAt, matrixBytes, matrixNumbers, unclearFault, anyUnclear}
 use Rattle.answers.specs.Calls.{askedFault, entryEarly, entryFault, judgeFault, matrixEarly, matrixFault, replyOf}
-use Rattle.answers.specs.Cases as answers
 use Rattle.answers.specs.Cases.{Case, compute, picture-A, picture-B, picture-C, picture-D, picture-E, picture-F, picture-G, picture-H, picture-I, picture-J}
 use Rattle.lists.specs.Order.{anyOf, allOf, firstOf, passes, distinct, gives, ofMode, meets, reached, granted, right, honest, coversAll, qualifies}
 use Rattle.lists.specs.Greedy.{new, fits, addable, grow, greedy, leftBy, orderFault}
 use Rattle.lists.specs.Calls.{listEarly, listLate}
+use Rattle.answers.specs.Cases as answers
 
 -- a case of the answers, and what the call for a list says
 pub record ListCase : Type 0 where
@@ -76,5 +76,5 @@ table =
     ∷ [])
 
 pub table-right : map computeList table ≡ table
-unfolding computeList extend table answers.table compute picture-A picture-B picture-C picture-D picture-E picture-F picture-G picture-H picture-I picture-J orElse given first lowest every select build written sideOf onSide outer atom atoms pairCount raggedFault countFault byteFault namesNoBox acrossSides wrongEnds wrongMode rowFault tableFault modeFault roomFault contains around loopFault reaches nests level overrides settle hits certifies answer byteOf numberOf isGranted isUnclear userAt fileAt firstPair answerAt matrixBytes matrixNumbers unclearFault anyUnclear scratchFault earlyFault pictureFault askedFault entryEarly entryFault judgeFault matrixEarly matrixFault replyOf hasMode modeArrows anyOf allOf firstOf passes distinct gives ofMode meets reached granted right honest coversAll qualifies new fits addable grow greedy leftBy orderFault listEarly listLate
+unfolding computeList extend table answers.table compute picture-A picture-B picture-C picture-D picture-E picture-F picture-G picture-H picture-I picture-J orElse given first lowest every select build written sideOf onSide outer atom atoms pairCount raggedFault countFault byteFault namesNoBox acrossSides wrongEnds wrongMode rowFault tableFault modeFault roomFault contains around loopFault reaches nests level overrides settle hits certifies answer byteOf numberOf isGranted isUnclear userAt fileAt firstPair answerAt byteAt numberAt matrixBytes matrixNumbers unclearFault anyUnclear scratchFault earlyFault pictureFault askedFault entryEarly entryFault judgeFault matrixEarly matrixFault replyOf hasMode modeArrows anyOf allOf firstOf passes distinct gives ofMode meets reached granted right honest coversAll qualifies new fits addable grow greedy leftBy orderFault listEarly listLate
 table-right = refl

@@ -23,6 +23,7 @@ use answers::answer_among;
 use answers::does_reach;
 use answers::is_unclear;
 use answers::mode_arrows;
+use answers::pair_at;
 use answers::pair_count;
 use containment::check_scratch;
 use containment::contain;
@@ -305,10 +306,8 @@ fn refuse_pair(
     requires { ⌜ Placed (now boxes) (now rows) (now users) (now files) pairs × (p < pairs) ⌝ }
     ensures { λ r. ⌜ r ≡ verdictOf (some (refusal number mode (userAt (now (boxes .entry)) (now (rows .entry)) p) (fileAt (now (boxes .entry)) (now (rows .entry)) p))) ⌝ }
 {
-    let columns = files.len();
-    let u = users[p / columns];
-    let f = files[p % columns];
-    Verdict::refused_if(true, number, wide(mode), wide(u), wide(f))
+    let pair = pair_at(boxes, rows, users, files, p);
+    Verdict::refused_if(true, number, wide(mode), wide(pair.user), wide(pair.file))
 }
 
 // The first granted pair that is not reached, by the work bytes: refusal 13 names it.
@@ -417,7 +416,7 @@ fn granted_byte(e: Entry) -> u8
 }
 
 // The answer for the pair at place p. The last two buffers are for the arrows that reach it.
-fn answer_cell(
+fn answer_at(
     boxes: &[u8],
     rows: &[u16],
     scratch: &[u8],
@@ -428,19 +427,26 @@ fn answer_cell(
     mode: u16,
     own: &[u16],
     p: usize,
-    at: Cell,
     ps: &mut [u16],
     ns: &mut [u16],
 ) -> Entry
     requires { ⌜ Says (length (now boxes)) (now rows) (now scratch) × Placed (now boxes) (now rows) (now users) (now files) pairs × Drawn (now boxes) (now arrows) (now own) × (now own ≡ modeArrows (now arrows) mode) ⌝ }
-    requires { ⌜ (p < pairs) × (at ≡ cellAt (length (now files)) p) × (length (now own) ≤ length (now ps)) × (length (now own) ≤ length (now ns)) ⌝ }
+    requires { ⌜ (p < pairs) × (length (now own) ≤ length (now ps)) × (length (now own) ≤ length (now ns)) ⌝ }
     ensures { λ r. ⌜ r ≡ answerAt (now (boxes .entry)) (now (rows .entry)) (now (arrows .entry)) mode p ⌝ }
 {
-    let i = at.row;
-    let j = at.col;
-    let u = users[i];
-    let f = files[j];
-    answer_among(boxes.len(), rows, scratch, arrows, mode, own, u, f, ps, ns)
+    let pair = pair_at(boxes, rows, users, files, p);
+    answer_among(
+        boxes.len(),
+        rows,
+        scratch,
+        arrows,
+        mode,
+        own,
+        pair.user,
+        pair.file,
+        ps,
+        ns,
+    )
 }
 
 // Check 12, and a byte for each pair, 1 if it is granted. They are no work bytes yet: check 12 leaves those untouched.
@@ -463,12 +469,8 @@ fn fill_granted(
     ensures { λ r. ⌜ r ≡ verdictOf (unclearFault (now (boxes .entry)) (now (rows .entry)) (now (arrows .entry)) mode) ⌝ }
     ensures { λ r. ⌜ (r ≡ Verdict.Passed → now (bytes .exit) ≡ written (workOf (now (boxes .entry)) (now (rows .entry)) (now (arrows .entry)) mode []) (now (bytes .entry))) ⌝ }
 {
-    if pairs == 0 {
-        return Verdict::Passed;
-    }
-    let mut at = Cell::at(0, files.len());
     for p in 0..pairs {
-        let e = answer_cell(
+        let e = answer_at(
             boxes,
             rows,
             scratch,
@@ -479,7 +481,6 @@ fn fill_granted(
             mode,
             own,
             p,
-            at,
             ps,
             ns,
         );
@@ -487,7 +488,6 @@ fn fill_granted(
             return refuse_pair(boxes, rows, users, files, pairs, 12, mode, p);
         }
         bytes[p] = granted_byte(e);
-        at = at.next(files.len());
     }
     Verdict::Passed
 }

@@ -1,17 +1,16 @@
-use Rattle.lists.proofs.StepLaws.{written-same}
-use Rattle.lists.specs.Calls.{blanks}
-use Rattle.tables.proofs.BufferLaws.{written-none}
-use Rattle.tables.specs.Buffers.{written}
-use lib.ListN.{length, set, length-set}
-use Prim.Native.Nat.{ℕ, _-_, _≤_}
+-- `lists::blank` meets its contract: the places before p are 65,535. Assumes nothing.
 use mathlib.Core.Path.{_≡_, refl, sym, ap, _∙_}
 use mathlib.Core.List.{List}
+use Prim.Native.Nat.{ℕ, _-_, _≤_}
 use native.Mathlib.Omega.{arith}
 use borrow.Author.Needs.{needs}
+use lib.ListN.{length, set, length-set}
+use Rattle.lists.specs.Calls.{blanks}
+use Rattle.tables.specs.Buffers.{written}
+use Rattle.lists.proofs.StepLaws.{written-same}
+use Rattle.tables.proofs.BufferLaws.{written-none}
 use Rattle.lists.proofs.blank.Statement.{statement}
 use Rattle.lists.proofs.blank.Tie as tie
-use Rattle.lists.proofs.blank.Reads as reads
-use Rattle.lists.proofs.blank.Lts as lts
 
 abbrev Inv-loop : tie.InvT-loop
 Inv-loop out₀ count p₀ out p = (p ≤ count) × (out ≡ written (blanks p) out₀) × (length out ≡ length out₀)
@@ -19,38 +18,30 @@ Inv-loop out₀ count p₀ out p = (p ≤ count) × (out ≡ written (blanks p) 
 abbrev μ-loop : tie.MeasureT-loop
 μ-loop out₀ count p₀ out p = count - p
 
--- src/lib.rt:287:5
 loop-holds : tie.Need-loop-holds Inv-loop μ-loop
 unfolding blanks
 loop-holds c = (search needs, sym (written-none (c .args .out .now)), refl)
 
--- src/lib.rt:288:9
 mul-out : tie.Need-mul-out Inv-loop μ-loop
 mul-out c = search needs
 
--- src/lib.rt:288:9
 slice-write-out : tie.Need-slice-write-out Inv-loop μ-loop
 slice-write-out c = search needs
 
--- src/lib.rt:287:9
 add-p : tie.Need-add-p Inv-loop μ-loop
 add-p c = search needs
 
--- src/lib.rt:287:5
 loop-less : tie.Need-loop-less Inv-loop μ-loop
 loop-less c = search needs
 
--- src/lib.rt:287:5
 loop-again : tie.Need-loop-again Inv-loop μ-loop
 unfolding blanks
 loop-again c = let at = c .before in
     (search needs, ap (λ (l : List ℕ). set l (at .loop .p) 65535) (at .loop .inv .1) ∙ written-same 65535 (at .loop .p) (at .before .args .out .now) (omega arith), simp length-set (at .loop .inv .2))
 
--- src/lib.rt:283:1
 same-length : tie.Need-same-length Inv-loop μ-loop
 same-length c = search needs
 
--- src/lib.rt:283:1
 returns : tie.Need-returns Inv-loop μ-loop
 returns c = let at = c .before in
     let e : at .loop .p ≡ at .before .args .count = omega arith in

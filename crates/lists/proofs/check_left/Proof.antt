@@ -1,20 +1,18 @@
+-- `lists::check_left` meets its contract: no byte before p is that of a granted pair that is not reached. Assumes nothing.
+use mathlib.Core.Path.{_≡_, sym, ap, _∙_}
+use Prim.Native.Nat.{_-_, _≤_}
+use native.Mathlib.Omega.{arith}
+use borrow.Author.Tests.{eq-eqb, ne-eqb}
+use borrow.Author.Needs.{needs}
+use lib.Dec.{eqb}
+use lib.ListN.{getD}
 use Rattle.lists.specs.Steps.{leftIn}
 use Rattle.answers.specs.Pairs.{userAt, fileAt}
-use Rattle.tables.proofs.SearchLaws.{Searched, search-none, search-more, search-here}
 use Rattle.tables.specs.Atoms.{pairCount}
 use Rattle.tables.specs.Refusals.{noOrder, verdictOf}
-use borrow.Author.Tests.{eq-eqb, ne-eqb}
-use lib.Dec.{eqb}
-use lib.ListN.{length, getD}
-use Prim.Native.Nat.{ℕ, _-_, _≤_, _<_}
-use mathlib.Core.Path.{_≡_, sym, ap, _∙_}
-use native.Mathlib.Omega.{arith}
-use borrow.Author.Needs.{needs}
+use Rattle.tables.proofs.SearchLaws.{Searched, search-none, search-more, search-here}
 use Rattle.lists.proofs.check_left.Statement.{statement}
 use Rattle.lists.proofs.check_left.Tie as tie
-use Rattle.lists.proofs.check_left.Reads as reads
-use Rattle.lists.proofs.check_left.Lts as lts
-use Rattle.lists.proofs.refuse_pair.Reads as refuse-pair-reads
 
 abbrev Inv-loop : tie.InvT-loop
 Inv-loop boxes rows users files pairs mode work p₀ p = (p ≤ pairs) × Searched (λ q. eqb (getD work q 0) 1) (λ q. noOrder mode (userAt boxes rows q) (fileAt boxes rows q)) p
@@ -22,24 +20,20 @@ Inv-loop boxes rows users files pairs mode work p₀ p = (p ≤ pairs) × Search
 abbrev μ-loop : tie.MeasureT-loop
 μ-loop boxes rows users files pairs mode work p₀ p = pairs - p
 
--- src/lib.rt:316:5
 loop-holds : tie.Need-loop-holds Inv-loop μ-loop
 loop-holds c = let s = c .before .before .before .before .before in
     let a = s .args in
     (omega arith, search-none (λ q. eqb (getD (a .work .now) q 0) 1) (λ q. noOrder (a .mode) (userAt (a .boxes .now) (a .rows .now) q) (fileAt (a .boxes .now) (a .rows .now) q)))
 
--- src/lib.rt:317:12
 shared-slice-read-if1 : tie.Need-shared-slice-read-if1 Inv-loop μ-loop
 shared-slice-read-if1 c = search needs
 
--- src/lib.rt:318:13
 refuse-pair-requires : tie.Need-refuse-pair-requires Inv-loop μ-loop
 refuse-pair-requires c κs = let s = c .before .before .before .before .before .before .before .before .before in
     let a = s .args in
     let i = c .before .before .before .loop in
     (s .pre .0, omega arith)
 
--- src/lib.rt:318:13
 returns : tie.Need-returns Inv-loop μ-loop
 unfolding leftIn
 returns c = let s = c .before .before .before .before .before .before .before .before .before .before in
@@ -48,22 +42,18 @@ returns c = let s = c .before .before .before .before .before .before .before .b
     c .refuse-pair .ensures
     ∙ sym (ap verdictOf (search-here (λ q. eqb (getD (a .work .now) q 0) 1) (λ q. noOrder (a .mode) (userAt (a .boxes .now) (a .rows .now) q) (fileAt (a .boxes .now) (a .rows .now) q)) (pairCount (a .boxes .now) (a .rows .now)) (i .p) (i .inv .1) (eq-eqb _ 1 (c .before .if1 .taken)) (omega (arith, s .pre .0 .pairs-are))))
 
--- src/lib.rt:316:9
 add-p : tie.Need-add-p Inv-loop μ-loop
 add-p c = search needs
 
--- src/lib.rt:316:5
 loop-less : tie.Need-loop-less Inv-loop μ-loop
 loop-less c = search needs
 
--- src/lib.rt:316:5
 loop-again : tie.Need-loop-again Inv-loop μ-loop
 loop-again c = let s = c .before .before .before .before .before .before .before .before .before in
     let a = s .args in
     let i = c .before .before .before .loop in
     (omega arith, search-more (λ q. eqb (getD (a .work .now) q 0) 1) (λ q. noOrder (a .mode) (userAt (a .boxes .now) (a .rows .now) q) (fileAt (a .boxes .now) (a .rows .now) q)) (i .p) (i .inv .1) (ne-eqb _ 1 (c .if1 .left)))
 
--- src/lib.rt:304:1
 returns-2 : tie.Need-returns-2 Inv-loop μ-loop
 unfolding leftIn
 returns-2 c = let s = c .before .before .before .before .before .before .before in

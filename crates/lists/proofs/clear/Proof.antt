@@ -1,15 +1,14 @@
-use Rattle.tables.proofs.BufferLaws.{written-none, written-zeros}
-use Rattle.tables.specs.Buffers.{written, zeros}
-use lib.ListN.{length, set, length-set}
-use Prim.Native.Nat.{ℕ, _-_, _≤_}
+-- `lists::clear` meets its contract: the bytes before p are 0. Assumes nothing.
 use mathlib.Core.Path.{_≡_, refl, sym, ap, _∙_}
 use mathlib.Core.List.{List}
+use Prim.Native.Nat.{ℕ, _-_, _≤_}
 use native.Mathlib.Omega.{arith}
 use borrow.Author.Needs.{needs}
+use lib.ListN.{length, set, length-set}
+use Rattle.tables.specs.Buffers.{written, zeros}
+use Rattle.tables.proofs.BufferLaws.{written-none, written-zeros}
 use Rattle.lists.proofs.clear.Statement.{statement}
 use Rattle.lists.proofs.clear.Tie as tie
-use Rattle.lists.proofs.clear.Reads as reads
-use Rattle.lists.proofs.clear.Lts as lts
 
 abbrev Inv-loop : tie.InvT-loop
 Inv-loop work₀ count p₀ work p = (p ≤ count) × (work ≡ written (zeros p) work₀) × (length work ≡ length work₀)
@@ -17,33 +16,26 @@ Inv-loop work₀ count p₀ work p = (p ≤ count) × (work ≡ written (zeros p
 abbrev μ-loop : tie.MeasureT-loop
 μ-loop work₀ count p₀ work p = count - p
 
--- src/lib.rt:277:5
 loop-holds : tie.Need-loop-holds Inv-loop μ-loop
 unfolding zeros
 loop-holds c = (search needs, sym (written-none (c .args .work .now)), refl)
 
--- src/lib.rt:278:9
 slice-write-work : tie.Need-slice-write-work Inv-loop μ-loop
 slice-write-work c = search needs
 
--- src/lib.rt:277:9
 add-p : tie.Need-add-p Inv-loop μ-loop
 add-p c = search needs
 
--- src/lib.rt:277:5
 loop-less : tie.Need-loop-less Inv-loop μ-loop
 loop-less c = search needs
 
--- src/lib.rt:277:5
 loop-again : tie.Need-loop-again Inv-loop μ-loop
 loop-again c = let at = c .before in
     (search needs, ap (λ (l : List ℕ). set l (at .loop .p) 0) (at .loop .inv .1) ∙ written-zeros (at .loop .p) (at .before .args .work .now) (omega arith), simp length-set (at .loop .inv .2))
 
--- src/lib.rt:273:1
 same-length : tie.Need-same-length Inv-loop μ-loop
 same-length c = search needs
 
--- src/lib.rt:273:1
 returns : tie.Need-returns Inv-loop μ-loop
 returns c = let at = c .before in
     let e : at .loop .p ≡ at .before .args .count = omega arith in

@@ -1,171 +1,116 @@
-use Rattle.tables.proofs.AtomSides.{pairs-most}
-use Rattle.tables.proofs.Verdicts.{passed}
-use Rattle.tables.proofs.SearchLaws.{some-none}
+-- `lists::fill_granted` meets its contract: no pair before p is unclear, and the bytes before p say which are granted. Assumes nothing.
 use mathlib.Core.Option.{some}
-use Rattle.lists.proofs.FillLaws.{Filling, filling-none, filling-length, filling-next, filling-unclear, filling-done}
-use Rattle.lists.proofs.PlaceLaws.{place-there, few-rows}
-use Rattle.lists.specs.Steps.{cellAt}
-use Rattle.lists.specs.declared.Cell.{Cell}
-use Rattle.tables.specs.Refusals.{verdictOf}
-use lib.ListN.{length, length-set}
-use Prim.Native.Nat.{ℕ, _-_, _≤_, _<_}
 use mathlib.Core.Path.{_≡_, refl, sym, ap, _∙_}
+use Prim.Native.Nat.{_-_, _≤_, _<_}
 use native.Mathlib.Omega.{arith}
 use borrow.Author.Needs.{needs}
+use lib.ListN.{length}
+use Rattle.tables.specs.Refusals.{verdictOf}
+use Rattle.lists.proofs.FillLaws.{Filling, filling-none, filling-length, filling-next, filling-unclear, filling-done}
+use Rattle.tables.proofs.Verdicts.{passed}
+use Rattle.tables.proofs.SearchLaws.{some-none}
+use Rattle.tables.proofs.AtomSides.{pairs-most}
 use Rattle.lists.proofs.fill_granted.Statement.{statement}
 use Rattle.lists.proofs.fill_granted.Tie as tie
-use Rattle.lists.proofs.fill_granted.Reads as reads
-use Rattle.lists.proofs.fill_granted.Lts as lts
-use Rattle.answers.proofs.is_unclear.Reads as is-unclear-reads
-use Rattle.lists.proofs.Cell.at.Reads as at-reads
-use Rattle.lists.proofs.Cell.next.Reads as next-reads
-use Rattle.lists.proofs.answer_cell.Reads as answer-cell-reads
-use Rattle.lists.proofs.granted_byte.Reads as granted-byte-reads
-use Rattle.lists.proofs.refuse_pair.Reads as refuse-pair-reads
 
 abbrev Inv-loop : tie.InvT-loop
-Inv-loop boxes rows scratch users files pairs arrows mode own ps₀ ns₀ bytes₀ at₀ p₀ ps ns bytes at p =
-    Filling boxes rows arrows mode bytes₀ bytes p
-    × (p ≤ pairs)
-    × (at ≡ cellAt (length files) p)
-    × (length ps ≡ length ps₀)
-    × (length ns ≡ length ns₀)
+Inv-loop boxes rows scratch users files pairs arrows mode own ps₀ ns₀ bytes₀ p₀ ps ns bytes p =
+    Filling boxes rows arrows mode bytes₀ bytes p × (p ≤ pairs) × (length ps ≡ length ps₀) × (length ns ≡ length ns₀)
 
 abbrev μ-loop : tie.MeasureT-loop
-μ-loop boxes rows scratch users files pairs arrows mode own ps₀ ns₀ bytes₀ at₀ p₀ ps ns bytes at p =
+μ-loop boxes rows scratch users files pairs arrows mode own ps₀ ns₀ bytes₀ p₀ ps ns bytes p =
     pairs - p
 
--- src/lib.rt:456:9
-returns : tie.Need-returns Inv-loop μ-loop
-returns c = let s = c .before .before .before .before .before .before .before .before .before .before .before in
-    let a = s .args in
-    let d = filling-done (a .boxes .now) (a .rows .now) (a .arrows .now) (a .mode) (a .bytes .now) (a .bytes .now) 0 (omega (arith, c .if1 .taken, s .pre .0 .1 .pairs-are)) (filling-none (a .boxes .now) (a .rows .now) (a .arrows .now) (a .mode) (a .bytes .now)) in
-    (d .0, λ e. d .1)
-
--- src/lib.rt:458:9
-at-requires : tie.Need-at-requires Inv-loop μ-loop
-at-requires c κs = let s = c .before .before .before .before .before .before .before .before .before .before .before in
-    let a = s .args in
-    omega (arith, place-there (a .boxes .now) (a .rows .now) (a .users .now) (a .files .now) (a .pairs) (s .pre .0 .1) 0 (omega arith))
-
--- src/lib.rt:459:5
 loop-holds : tie.Need-loop-holds Inv-loop μ-loop
-loop-holds c = let s = c .before .before .before .before .before .before .before .before .before .before .before .before in
+loop-holds c = let s = c .before .before .before .before .before .before .before .before .before .before in
     let a = s .args in
-    (filling-none (a .boxes .now) (a .rows .now) (a .arrows .now) (a .mode) (a .bytes .now), omega arith, c .at .ensures, refl, refl)
+    (filling-none (a .boxes .now) (a .rows .now) (a .arrows .now) (a .mode) (a .bytes .now), omega arith, refl, refl)
 
--- src/lib.rt:460:13
-answer-cell-requires : tie.Need-answer-cell-requires Inv-loop μ-loop
-answer-cell-requires c κs = let s = c .before .before .before .before .before .before .before .before .before .before .before .before .before .before .before .before in
+answer-at-requires : tie.Need-answer-at-requires Inv-loop μ-loop
+answer-at-requires c κs = let s = c .before .before .before .before .before .before .before .before .before .before .before .before .before .before in
     let a = s .args in
     let i = c .before .before .before .loop in
-    ((s .pre .0 .0, s .pre .0 .1, s .pre .0 .2, s .pre .0 .3), (omega arith, i .inv .2, omega (arith, i .inv .3, s .pre .1 .0), omega (arith, i .inv .4, s .pre .1 .1)))
+    ((s .pre .0 .0, s .pre .0 .1, s .pre .0 .2, s .pre .0 .3), (omega arith, omega (arith, i .inv .2, s .pre .1 .0), omega (arith, i .inv .3, s .pre .1 .1)))
 
--- src/lib.rt:463:12
 is-unclear-requires : tie.Need-is-unclear-requires Inv-loop μ-loop
 is-unclear-requires c κs = search needs
 
--- src/lib.rt:464:13
 refuse-pair-requires : tie.Need-refuse-pair-requires Inv-loop μ-loop
-refuse-pair-requires c κs = let s = c .before .before .before .before .before .before .before .before .before .before .before .before .before .before .before .before .before .before .before .before .before .before .before in
+refuse-pair-requires c κs = let s = c .before .before .before .before .before .before .before .before .before .before .before .before .before .before .before .before .before .before .before .before .before in
     let a = s .args in
     let i = c .before .before .before .before .before .before .before .before .before .before .loop in
     (s .pre .0 .1, omega (arith, c .before .before .before .before .before .before .before .before .before .loop-test))
 
--- src/lib.rt:464:13
 same-length : tie.Need-same-length Inv-loop μ-loop
-same-length c = let s = c .before .before .before .before .before .before .before .before .before .before .before .before .before .before .before .before .before .before .before .before .before .before .before .before in
+same-length c = let s = c .before .before .before .before .before .before .before .before .before .before .before .before .before .before .before .before .before .before .before .before .before .before in
     let a = s .args in
     let i = c .before .before .before .before .before .before .before .before .before .before .before .loop in
-    c .before .before .before .before .before .before .before .answer-cell .kept .1 .1 .1 .1 .1 .1 .1 .1 .1 .1 .1 .0 ∙ i .inv .3
+    c .before .before .before .before .before .before .before .answer-at .kept .1 .1 .1 .1 .1 .1 .1 .1 .1 .1 .0 ∙ i .inv .2
 
--- src/lib.rt:464:13
 same-length-2 : tie.Need-same-length-2 Inv-loop μ-loop
-same-length-2 c = let s = c .before .before .before .before .before .before .before .before .before .before .before .before .before .before .before .before .before .before .before .before .before .before .before .before in
+same-length-2 c = let s = c .before .before .before .before .before .before .before .before .before .before .before .before .before .before .before .before .before .before .before .before .before .before in
     let a = s .args in
     let i = c .before .before .before .before .before .before .before .before .before .before .before .loop in
-    c .before .before .before .before .before .before .before .answer-cell .kept .1 .1 .1 .1 .1 .1 .1 .1 .1 .1 .1 .1 .0 ∙ i .inv .4
+    c .before .before .before .before .before .before .before .answer-at .kept .1 .1 .1 .1 .1 .1 .1 .1 .1 .1 .1 .0 ∙ i .inv .3
 
--- src/lib.rt:464:13
 same-length-3 : tie.Need-same-length-3 Inv-loop μ-loop
-same-length-3 c = let s = c .before .before .before .before .before .before .before .before .before .before .before .before .before .before .before .before .before .before .before .before .before .before .before .before in
+same-length-3 c = let s = c .before .before .before .before .before .before .before .before .before .before .before .before .before .before .before .before .before .before .before .before .before .before in
     let a = s .args in
     let i = c .before .before .before .before .before .before .before .before .before .before .before .loop in
     filling-length (a .boxes .now) (a .rows .now) (a .arrows .now) (a .mode) (a .bytes .now) (i .bytes) (i .p) (omega (arith, i .inv .1, s .pre .1 .2)) (i .inv .0)
 
--- src/lib.rt:464:13
-returns-2 : tie.Need-returns-2 Inv-loop μ-loop
-returns-2 c = let s = c .before .before .before .before .before .before .before .before .before .before .before .before .before .before .before .before .before .before .before .before .before .before .before .before in
+returns : tie.Need-returns Inv-loop μ-loop
+returns c = let s = c .before .before .before .before .before .before .before .before .before .before .before .before .before .before .before .before .before .before .before .before .before .before in
     let a = s .args in
     let i = c .before .before .before .before .before .before .before .before .before .before .before .loop in
-    let named = filling-unclear (a .boxes .now) (a .rows .now) (a .arrows .now) (a .mode) (a .bytes .now) (i .bytes) (i .p) (c .before .before .before .before .before .before .before .answer-cell .result) (omega (arith, c .before .before .before .before .before .before .before .before .before .before .loop-test, s .pre .0 .1 .pairs-are)) (c .before .before .before .before .before .before .before .answer-cell .ensures)
-    (sym (c .before .before .is-unclear .ensures) ∙ c .before .if2 .taken) (i .inv .0) in
+    let named = filling-unclear (a .boxes .now) (a .rows .now) (a .arrows .now) (a .mode) (a .bytes .now) (i .bytes) (i .p) (c .before .before .before .before .before .before .before .answer-at .result) (omega (arith, c .before .before .before .before .before .before .before .before .before .before .loop-test, s .pre .0 .1 .pairs-are)) (c .before .before .before .before .before .before .before .answer-at .ensures)
+    (sym (c .before .before .is-unclear .ensures) ∙ c .before .if1 .taken) (i .inv .0) in
     (c .refuse-pair .ensures ∙ sym (ap verdictOf named), λ e. absurd (some-none (passed (some _) (sym (c .refuse-pair .ensures) ∙ e))))
 
--- src/lib.rt:466:20
 granted-byte-requires : tie.Need-granted-byte-requires Inv-loop μ-loop
 granted-byte-requires c κs = search needs
 
--- src/lib.rt:466:9
 slice-write-bytes : tie.Need-slice-write-bytes Inv-loop μ-loop
-slice-write-bytes c = let s = c .before .before .before .before .before .before .before .before .before .before .before .before .before .before .before .before .before .before .before .before .before .before .before .before in
+slice-write-bytes c = let s = c .before .before .before .before .before .before .before .before .before .before .before .before .before .before .before .before .before .before .before .before .before .before in
     let a = s .args in
     let i = c .before .before .before .before .before .before .before .before .before .before .before .loop in
     omega (arith, c .before .before .before .before .before .before .before .before .before .before .loop-test, s .pre .1 .2, filling-length (a .boxes .now) (a .rows .now) (a .arrows .now) (a .mode) (a .bytes .now) (i .bytes) (i .p) (omega (arith, i .inv .1, s .pre .1 .2)) (i .inv .0))
 
--- src/lib.rt:467:9
-next-requires : tie.Need-next-requires Inv-loop μ-loop
-next-requires c κs = let s = c .before .before .before .before .before .before .before .before .before .before .before .before .before .before .before .before .before .before .before .before .before .before .before .before in
+add-p : tie.Need-add-p Inv-loop μ-loop
+add-p c = let s = c .before .before .before .before .before .before .before .before .before .before .before .before .before .before .before .before .before .before .before .before .before .before in
     let a = s .args in
     let i = c .before .before .before .before .before .before .before .before .before .before .before .loop in
-    let row = ap (λ (x : Cell). x .row) (i .inv .2) in
-    let col = ap (λ (x : Cell). x .col) (i .inv .2) in
-    let l : i .p < a .pairs = omega (arith, c .before .before .before .before .before .before .before .before .before .before .loop-test) in
-    (omega (arith, col, place-there (a .boxes .now) (a .rows .now) (a .users .now) (a .files .now) (a .pairs) (s .pre .0 .1) (i .p) l), omega (arith, row, few-rows (a .boxes .now) (a .rows .now) (a .users .now) (a .files .now) (a .pairs) (s .pre .0 .1) (i .p) l))
+    omega (arith, c .before .before .before .before .before .before .before .before .before .before .loop-test, s .pre .0 .1 .pairs-are, pairs-most (a .boxes .now) (a .rows .now) (s .pre .0 .1 .few))
 
--- src/lib.rt:459:9
-add-p : tie.Need-add-p Inv-loop μ-loop
-add-p c = let s = c .before .before .before .before .before .before .before .before .before .before .before .before .before .before .before .before .before .before .before .before .before .before .before .before .before in
-    let a = s .args in
-    let i = c .before .before .before .before .before .before .before .before .before .before .before .before .loop in
-    omega (arith, c .before .before .before .before .before .before .before .before .before .before .before .loop-test, s .pre .0 .1 .pairs-are, pairs-most (a .boxes .now) (a .rows .now) (s .pre .0 .1 .few))
-
--- src/lib.rt:459:5
 loop-less : tie.Need-loop-less Inv-loop μ-loop
 loop-less c = search needs
 
--- src/lib.rt:459:5
 loop-again : tie.Need-loop-again Inv-loop μ-loop
-loop-again c = let s = c .before .before .before .before .before .before .before .before .before .before .before .before .before .before .before .before .before .before .before .before .before .before .before .before .before in
+loop-again c = let s = c .before .before .before .before .before .before .before .before .before .before .before .before .before .before .before .before .before .before .before .before .before .before in
     let a = s .args in
-    let i = c .before .before .before .before .before .before .before .before .before .before .before .before .loop in
-    let l : i .p < a .pairs = omega (arith, c .before .before .before .before .before .before .before .before .before .before .before .loop-test) in (
-      filling-next (a .boxes .now) (a .rows .now) (a .arrows .now) (a .mode) (a .bytes .now) (i .bytes) (i .p) (c .before .before .before .before .before .before .before .before .answer-cell .result) (c .before .granted-byte .result) (omega (arith, s .pre .1 .2)) (c .before .before .before .before .before .before .before .before .answer-cell .ensures)
-          (sym (c .before .before .before .is-unclear .ensures) ∙ c .before .before .if2 .left) (c .before .granted-byte .ensures) (i .inv .0),
+    let i = c .before .before .before .before .before .before .before .before .before .before .before .loop in
+    let l : i .p < a .pairs = omega (arith, c .before .before .before .before .before .before .before .before .before .before .loop-test) in (
+      filling-next (a .boxes .now) (a .rows .now) (a .arrows .now) (a .mode) (a .bytes .now) (i .bytes) (i .p) (c .before .before .before .before .before .before .before .answer-at .result) (c .granted-byte .result) (omega (arith, s .pre .1 .2)) (c .before .before .before .before .before .before .before .answer-at .ensures)
+          (sym (c .before .before .is-unclear .ensures) ∙ c .before .if1 .left) (c .granted-byte .ensures) (i .inv .0),
       omega arith,
-      c .next .ensures (i .p) (i .inv .2),
-      c .before .before .before .before .before .before .before .before .answer-cell .kept .1 .1 .1 .1 .1 .1 .1 .1 .1 .1 .1 .0 ∙ i .inv .3,
-      c .before .before .before .before .before .before .before .before .answer-cell .kept .1 .1 .1 .1 .1 .1 .1 .1 .1 .1 .1 .1 .0 ∙ i .inv .4,
+      c .before .before .before .before .before .before .before .answer-at .kept .1 .1 .1 .1 .1 .1 .1 .1 .1 .1 .0 ∙ i .inv .2,
+      c .before .before .before .before .before .before .before .answer-at .kept .1 .1 .1 .1 .1 .1 .1 .1 .1 .1 .1 .0 ∙ i .inv .3,
     )
 
--- src/lib.rt:436:1
 same-length-4 : tie.Need-same-length-4 Inv-loop μ-loop
 same-length-4 c = search needs
 
--- src/lib.rt:436:1
 same-length-5 : tie.Need-same-length-5 Inv-loop μ-loop
 same-length-5 c = search needs
 
--- src/lib.rt:436:1
 same-length-6 : tie.Need-same-length-6 Inv-loop μ-loop
-same-length-6 c = let s = c .before .before .before .before .before .before .before .before .before .before .before .before .before .before in
+same-length-6 c = let s = c .before .before .before .before .before .before .before .before .before .before .before .before in
     let a = s .args in
     let i = c .before .loop in
     filling-length (a .boxes .now) (a .rows .now) (a .arrows .now) (a .mode) (a .bytes .now) (i .bytes) (i .p) (omega (arith, i .inv .1, s .pre .1 .2)) (i .inv .0)
 
--- src/lib.rt:436:1
-returns-3 : tie.Need-returns-3 Inv-loop μ-loop
-returns-3 c = let s = c .before .before .before .before .before .before .before .before .before .before .before .before .before .before in
+returns-2 : tie.Need-returns-2 Inv-loop μ-loop
+returns-2 c = let s = c .before .before .before .before .before .before .before .before .before .before .before .before in
     let a = s .args in
     let i = c .before .loop in
     let d = filling-done (a .boxes .now) (a .rows .now) (a .arrows .now) (a .mode) (a .bytes .now) (i .bytes) (i .p) (omega (arith, s .pre .0 .1 .pairs-are)) (i .inv .0) in
@@ -177,23 +122,20 @@ fill-granted-spec =
     (tie.spec
     Inv-loop
     μ-loop
-    returns
-    at-requires
     loop-holds
-    answer-cell-requires
+    answer-at-requires
     is-unclear-requires
     refuse-pair-requires
     same-length
     same-length-2
     same-length-3
-    returns-2
+    returns
     granted-byte-requires
     slice-write-bytes
-    next-requires
     add-p
     loop-less
     loop-again
     same-length-4
     same-length-5
     same-length-6
-    returns-3)
+    returns-2)

@@ -1,51 +1,37 @@
-use Rattle.lists.proofs.CallLaws.{finish-written, finish-refused, finish-work}
-use Rattle.lists.specs.Steps.{leftIn}
-use Rattle.tables.proofs.Verdicts.{passed, refused}
-use Prim.Native.Nat.{_≤_}
-use mathlib.Core.Path.{_≡_, sym, ap, _∙_}
+-- `lists::finish` meets its contract: the list that was found leaves no granted pair, or leaves the one that refusal 13 names. Assumes nothing.
+use mathlib.Core.Path.{sym, _∙_}
 use native.Mathlib.Omega.{arith}
 use borrow.Author.Needs.{needs}
+use Rattle.lists.specs.Steps.{leftIn}
+use Rattle.lists.proofs.CallLaws.{finish-written, finish-refused, finish-work}
+use Rattle.tables.proofs.Verdicts.{passed, refused}
 use Rattle.lists.proofs.finish.Statement.{statement}
 use Rattle.lists.proofs.finish.Tie as tie
-use Rattle.lists.proofs.finish.Reads as reads
-use Rattle.lists.proofs.finish.Lts as lts
-use Rattle.lists.proofs.blank.Reads as blank-reads
-use Rattle.lists.proofs.check_left.Reads as check-left-reads
-use Rattle.lists.proofs.clear.Reads as clear-reads
-use Rattle.lists.proofs.order.Reads as order-reads
 
--- src/lib.rt:502:9
 order-requires : tie.Need-order-requires
 order-requires c κs = search needs
 
--- src/lib.rt:505:9
 check-left-requires : tie.Need-check-left-requires
 check-left-requires c κs = search needs
 
--- src/lib.rt:506:5
 clear-requires : tie.Need-clear-requires
 clear-requires c κs = search needs
 
--- src/lib.rt:507:29
 enum-known-left : tie.Need-enum-known-left
 enum-known-left c = search needs
 
--- src/lib.rt:508:9
 blank-requires : tie.Need-blank-requires
 blank-requires c κs = let s = c .before .before .before .before .before .before .before .before .before .before .before .before .before .before .before .before .before .before .before .before .before .before .before .before .before .before in
     let a = s .args in
     let d = c .before .before .before .before .before .before .before .before .before .before .before .before .before .before .order in
     omega (arith, d .kept .1 .1 .1 .1 .1 .1 .1 .1 .1 .0, s .pre .1 .1)
 
--- src/lib.rt:509:9
 same-length : tie.Need-same-length
 same-length c = search needs
 
--- src/lib.rt:509:9
 same-length-2 : tie.Need-same-length-2
 same-length-2 c = search needs
 
--- src/lib.rt:509:9
 returns : tie.Need-returns
 returns c = let s = c .before .before .before .before .before .before .before .before .before .before .before .before .before .before .before .before .before .before .before .before .before .before .before .before .before .before .before .before .before in
     let a = s .args in
@@ -56,15 +42,12 @@ returns c = let s = c .before .before .before .before .before .before .before .b
 enum-told : tie.Need-enum-told
 enum-told c = search needs
 
--- src/lib.rt:484:1
 same-length-3 : tie.Need-same-length-3
 same-length-3 c = search needs
 
--- src/lib.rt:484:1
 same-length-4 : tie.Need-same-length-4
 same-length-4 c = search needs
 
--- src/lib.rt:484:1
 returns-2 : tie.Need-returns-2
 returns-2 c = let s = c .before .before .before .before .before .before .before .before .before .before .before .before .before .before .before .before .before .before .before .before .before .before .before .before in
     let a = s .args in

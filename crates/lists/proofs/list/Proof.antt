@@ -1,30 +1,17 @@
-use Rattle.lists.proofs.EndLaws.{rest, rest-is, early-tables, early-rest, end-early, end-loops, end-listing, rooms}
-use Rattle.lists.specs.Calls.{listEarly}
-use Rattle.containment.proofs.ScratchLaws.{filled-says}
+-- `lists::list` meets its contract: each stage refuses, or leaves the next one its facts. Assumes nothing.
+use mathlib.Core.Option.{none}
+use mathlib.Core.Path.{_≡_, sym, _∙_}
+use borrow.Author.Needs.{needs}
+use lib.ListN.{length}
 use Rattle.containment.specs.Contains.{loopFault}
+use Rattle.tables.specs.Faults.{tableFault}
+use Rattle.tables.specs.Refusals.{verdictOf}
+use Rattle.lists.proofs.EndLaws.{rest, rest-is, early-tables, early-rest, end-early, end-loops, end-listing, rooms}
+use Rattle.containment.proofs.ScratchLaws.{filled-says}
 use Rattle.tables.proofs.TableLaws.{sound-rows, sound-arrows}
 use Rattle.tables.proofs.Verdicts.{passed, refused}
-use Rattle.tables.specs.Faults.{tableFault, modeFault}
-use Rattle.tables.specs.Refusals.{verdictOf}
-use lib.ListN.{length}
-use Prim.Native.Nat.{_≤_}
-use mathlib.Core.Option.{none}
-use mathlib.Core.Path.{_≡_, sym, ap, _∙_}
-use native.Mathlib.Omega.{arith}
-use borrow.Author.Needs.{needs}
 use Rattle.lists.proofs.list.Statement.{statement}
 use Rattle.lists.proofs.list.Tie as tie
-use Rattle.lists.proofs.list.Reads as reads
-use Rattle.lists.proofs.list.Lts as lts
-use Rattle.answers.proofs.pair_count.Reads as pair-count-reads
-use Rattle.containment.proofs.check_scratch.Reads as check-scratch-reads
-use Rattle.containment.proofs.contain.Reads as contain-reads
-use Rattle.lists.proofs.mode_count.Reads as mode-count-reads
-use Rattle.lists.proofs.write_list.Reads as write-list-reads
-use Rattle.tables.proofs.Verdict.or_else.Reads as or-else-reads
-use Rattle.tables.proofs.check.Reads as check-reads
-use Rattle.tables.proofs.check_mode.Reads as check-mode-reads
-use Rattle.tables.proofs.check_room.Reads as check-room-reads
 
 -- checks 1 to 7 passed
 sound : (c : tie.After-enum-told) → let a = c .before .before .before .before .before .before .before .before .before .args in tableFault (a .boxes .now) (a .rows .now) (a .arrows .now) ≡ none
@@ -41,15 +28,12 @@ asked c = let a = c .before .before .before .before .before .before .before .bef
 early : (c : tie.After-enum-told2) → let a = c .before .before .before .before .before .before .before .before .before .before .before .before .before .before .before .before .before .before .before .before .before .args in rest (a .boxes .now) (a .rows .now) (a .arrows .now) (a .mode) (a .scratch .now) (a .out .now) (a .work .now) ≡ none
 early c = let a = c .before .before .before .before .before .before .before .before .before .before .before .before .before .before .before .before .before .before .before .before .before .args in passed (rest (a .boxes .now) (a .rows .now) (a .arrows .now) (a .mode) (a .scratch .now) (a .out .now) (a .work .now)) (sym (asked (c .before .before)) ∙ c .enum-told2 .given .1)
 
--- src/lib.rt:679:9
 check-requires : tie.Need-check-requires
 check-requires c κs = search needs
 
--- src/lib.rt:680:29
 enum-known-tables : tie.Need-enum-known-tables
 enum-known-tables c = search needs
 
--- src/lib.rt:681:9
 returns : tie.Need-returns
 returns c = let a = c .before .before .before .before .before .before .before .before .before .before .args in
     end-early (a .boxes .now) (a .rows .now) (a .arrows .now) (a .mode) (a .scratch .now) (a .out .now) (a .work .now) _ (early-tables (a .boxes .now) (a .rows .now) (a .arrows .now) (a .mode) (a .scratch .now) (a .out .now) (a .work .now) _ (refused (tableFault (a .boxes .now) (a .rows .now) (a .arrows .now)) _ (sym (c .before .before .before .check .ensures) ∙ c .before .tables .given .1)))
@@ -57,54 +41,42 @@ returns c = let a = c .before .before .before .before .before .before .before .b
 enum-told : tie.Need-enum-told
 enum-told c = search needs
 
--- src/lib.rt:683:9
 pair-count-requires : tie.Need-pair-count-requires
 pair-count-requires c κs = let a = c .before .before .before .before .before .before .before .before .before .args in
     sound-rows (a .boxes .now) (a .rows .now) (a .arrows .now) (sound c)
 
--- src/lib.rt:684:9
 mode-count-requires : tie.Need-mode-count-requires
 mode-count-requires c κs = let a = c .before .before .before .before .before .before .before .before .before .before .args in
     sound-arrows (a .boxes .now) (a .rows .now) (a .arrows .now) (sound (c .before)) .few-arrows
 
--- src/lib.rt:685:17
 check-mode-requires : tie.Need-check-mode-requires
 check-mode-requires c κs = search needs
 
--- src/lib.rt:686:18
 check-scratch-requires : tie.Need-check-scratch-requires
 check-scratch-requires c κs = let a = c .before .before .before .before .before .before .before .before .before .before .before .before .before .args in
     sound-rows (a .boxes .now) (a .rows .now) (a .arrows .now) (sound (c .before .before .before .before)) .few-boxes
 
--- src/lib.rt:685:17
 or-else-requires : tie.Need-or-else-requires
 or-else-requires c κs = search needs
 
--- src/lib.rt:687:18
 check-room-requires : tie.Need-check-room-requires
 check-room-requires c κs = search needs
 
--- src/lib.rt:685:17
 or-else-requires-2 : tie.Need-or-else-requires-2
 or-else-requires-2 c κs = search needs
 
--- src/lib.rt:688:18
 check-room-requires-2 : tie.Need-check-room-requires-2
 check-room-requires-2 c κs = search needs
 
--- src/lib.rt:685:9
 or-else-requires-3 : tie.Need-or-else-requires-3
 or-else-requires-3 c κs = search needs
 
--- src/lib.rt:689:29
 enum-known-early : tie.Need-enum-known-early
 enum-known-early c = search needs
 
--- src/lib.rt:690:9
 same-length : tie.Need-same-length
 same-length c = search needs
 
--- src/lib.rt:690:9
 returns-2 : tie.Need-returns-2
 returns-2 c = let a = c .before .before .before .before .before .before .before .before .before .before .before .before .before .before .before .before .before .before .before .before .before .before .args in
     end-early (a .boxes .now) (a .rows .now) (a .arrows .now) (a .mode) (a .scratch .now) (a .out .now) (a .work .now) _ (early-rest (a .boxes .now) (a .rows .now) (a .arrows .now) (a .mode) (a .scratch .now) (a .out .now) (a .work .now) (sound (c .before .before .before .before .before .before .before .before .before .before .before .before .before)) ∙ refused (rest (a .boxes .now) (a .rows .now) (a .arrows .now) (a .mode) (a .scratch .now) (a .out .now) (a .work .now)) _ (sym (asked (c .before .before .before)) ∙ c .before .early .given .1))
@@ -112,20 +84,16 @@ returns-2 c = let a = c .before .before .before .before .before .before .before 
 enum-told-2 : tie.Need-enum-told-2
 enum-told-2 c = search needs
 
--- src/lib.rt:692:9
 contain-requires : tie.Need-contain-requires
 contain-requires c κs = let a = c .before .before .before .before .before .before .before .before .before .before .before .before .before .before .before .before .before .before .before .before .before .before .args in
     (sound-rows (a .boxes .now) (a .rows .now) (a .arrows .now) (sound (c .before .before .before .before .before .before .before .before .before .before .before .before .before)), rooms (a .boxes .now) (a .rows .now) (a .arrows .now) (a .mode) (a .scratch .now) (a .out .now) (a .work .now) (early (c .before)) .scratch-room)
 
--- src/lib.rt:693:29
 enum-known-loops : tie.Need-enum-known-loops
 enum-known-loops c = search needs
 
--- src/lib.rt:694:9
 same-length-2 : tie.Need-same-length-2
 same-length-2 c = search needs
 
--- src/lib.rt:694:9
 returns-3 : tie.Need-returns-3
 returns-3 c = let a = c .before .before .before .before .before .before .before .before .before .before .before .before .before .before .before .before .before .before .before .before .before .before .before .before .before .before .before .before .args in
     rw (c .before .before .before .before .before .contain .ensures .1) (end-loops (a .boxes .now) (a .rows .now) (a .arrows .now) (a .mode) (a .scratch .now) (a .out .now) (a .work .now) (early-rest (a .boxes .now) (a .rows .now) (a .arrows .now) (a .mode) (a .scratch .now) (a .out .now) (a .work .now) (sound (c .before .before .before .before .before .before .before .before .before .before .before .before .before .before .before .before .before .before .before)) ∙ early (c .before .before .before .before .before .before .before)) _ (refused (loopFault (a .boxes .now) (a .rows .now)) _ (sym (c .before .before .before .before .before .contain .ensures .0) ∙ c .before .loops .given .1)))
@@ -133,25 +101,20 @@ returns-3 c = let a = c .before .before .before .before .before .before .before 
 enum-told-3 : tie.Need-enum-told-3
 enum-told-3 c = search needs
 
--- src/lib.rt:696:5
 write-list-requires : tie.Need-write-list-requires
 write-list-requires c κs = let a = c .before .before .before .before .before .before .before .before .before .before .before .before .before .before .before .before .before .before .before .before .before .before .before .before .before .before .before .before .before .before .args in
     let room = rooms (a .boxes .now) (a .rows .now) (a .arrows .now) (a .mode) (a .scratch .now) (a .out .now) (a .work .now) (early (c .before .before .before .before .before .before .before .before .before)) in
     ((sound-rows (a .boxes .now) (a .rows .now) (a .arrows .now) (sound (c .before .before .before .before .before .before .before .before .before .before .before .before .before .before .before .before .before .before .before .before .before)), sound-arrows (a .boxes .now) (a .rows .now) (a .arrows .now) (sound (c .before .before .before .before .before .before .before .before .before .before .before .before .before .before .before .before .before .before .before .before .before)), rw (c .before .before .before .before .before .before .before .contain .ensures .1) (filled-says (length (a .boxes .now)) (a .rows .now) (a .scratch .now) (room .scratch-room))), (room .out-room, room .work-room))
 
--- src/lib.rt:668:1
 same-length-3 : tie.Need-same-length-3
 same-length-3 c = search needs
 
--- src/lib.rt:668:1
 same-length-4 : tie.Need-same-length-4
 same-length-4 c = search needs
 
--- src/lib.rt:668:1
 same-length-5 : tie.Need-same-length-5
 same-length-5 c = search needs
 
--- src/lib.rt:668:1
 returns-4 : tie.Need-returns-4
 returns-4 c = let a = c .before .before .before .before .before .before .before .before .before .before .before .before .before .before .before .before .before .before .before .before .before .before .before .before .before .before .before .before .before .before .before .before .before .before .before .args in
     rw (c .before .before .before .before .before .before .before .before .before .before .before .before .contain .ensures .1) (end-listing (a .boxes .now) (a .rows .now) (a .arrows .now) (a .mode) (a .scratch .now) (a .out .now) (a .work .now) (early-rest (a .boxes .now) (a .rows .now) (a .arrows .now) (a .mode) (a .scratch .now) (a .out .now) (a .work .now) (sound (c .before .before .before .before .before .before .before .before .before .before .before .before .before .before .before .before .before .before .before .before .before .before .before .before .before .before)) ∙ early (c .before .before .before .before .before .before .before .before .before .before .before .before .before .before)) (passed (loopFault (a .boxes .now) (a .rows .now)) (sym (c .before .before .before .before .before .before .before .before .before .before .before .before .contain .ensures .0) ∙ c .before .before .before .before .before .before .before .before .enum-told3 .given .1)) _ _ _ (c .before .before .before .before .write-list .ensures))

@@ -1,44 +1,31 @@
-use Rattle.lists.specs.Steps.{stops}
-use Rattle.answers.specs.Among.{FirstAt}
-use Rattle.tables.specs.Atoms.{pairCount}
-use Rattle.lists.proofs.StepLaws.{blocked-no, fresh-is, behind-set}
-use Rattle.lists.specs.Steps.{followsAt, ownSign, nothing}
-use Rattle.tables.specs.declared.Arrow.{Arrow}
-use Rattle.tables.specs.Rows.{arrowAt}
-use lib.ListN.{length, getD, length-set}
-use Prim.Native.Nat.{ℕ, _<_, _≤_}
+-- `lists::may_follow` meets its contract: the two pointers move on to the first place that stops the arrow. Assumes nothing.
 use mathlib.Core.Path.{_≡_, sym, ap, _∙_}
 use native.Mathlib.Omega.{arith}
 use borrow.Author.Needs.{needs}
+use lib.ListN.{getD, length-set}
+use Rattle.lists.specs.Steps.{stops, followsAt, ownSign, nothing}
+use Rattle.answers.specs.Among.{FirstAt}
+use Rattle.tables.specs.Atoms.{pairCount}
+use Rattle.tables.specs.Rows.{arrowAt}
+use Rattle.lists.proofs.StepLaws.{blocked-no, fresh-is, behind-set}
 use Rattle.lists.proofs.may_follow.Statement.{statement}
 use Rattle.lists.proofs.may_follow.Tie as tie
-use Rattle.lists.proofs.may_follow.Reads as reads
-use Rattle.lists.proofs.may_follow.Lts as lts
-use Rattle.lists.proofs.advance.Reads as advance-reads
-use Rattle.lists.proofs.sign_byte.Reads as sign-byte-reads
-use Rattle.tables.proofs.Arrow.at.Reads as at-reads
-use Rattle.tables.proofs.wide.Reads as wide-reads
 
--- src/lib.rt:157:36
 mul-wide : tie.Need-mul-wide
 mul-wide c = search needs
 
--- src/lib.rt:157:36
 shared-slice-read-wide : tie.Need-shared-slice-read-wide
 shared-slice-read-wide c = search needs
 
--- src/lib.rt:157:31
 wide-requires : tie.Need-wide-requires
 wide-requires c κs = search needs
 
--- src/lib.rt:157:9
 at-requires : tie.Need-at-requires
 at-requires c κs = let s = c .before .before .before .before .before .before .before .before .before .before .before .before in
     let a = s .args in
     let n = s .pre .0 .2 .numbers (a .t) (s .pre .0 .4) in
     rw (c .wide .ensures) n
 
--- src/lib.rt:167:9
 sign-byte-requires : tie.Need-sign-byte-requires
 sign-byte-requires c κs = let s = c .before .before .before .before .before .before .before .before .before .before .before .before .before in
     let a = s .args in
@@ -46,19 +33,16 @@ sign-byte-requires c κs = let s = c .before .before .before .before .before .be
     let e : c .at .result ≡ arrowAt (a .arrows .now) (getD (a .own .now) (a .t) 0) = c .at .ensures ∙ ap (arrowAt (a .arrows .now)) (c .before .wide .ensures) in
     rw e (s .pre .0 .2 .signs (getD (a .own .now) (a .t) 0) n)
 
--- src/lib.rt:168:9
 mul-advance : tie.Need-mul-advance
 mul-advance c = let s = c .before .before .before .before .before .before .before .before .before .before .before .before .before .before in
     let a = s .args in
     omega (arith, s .pre .0 .4, s .pre .0 .2 .few, s .pre .1 .0 .room)
 
--- src/lib.rt:168:9
 slice-read-advance : tie.Need-slice-read-advance
 slice-read-advance c = let s = c .before .before .before .before .before .before .before .before .before .before .before .before .before .before .before in
     let a = s .args in
     omega (arith, s .pre .0 .4, s .pre .0 .2 .few, s .pre .1 .0 .room)
 
--- src/lib.rt:158:9
 advance-requires : tie.Need-advance-requires
 advance-requires c κs = let s = c .before .before .before .before .before .before .before .before .before .before .before .before .before .before .before in
     let a = s .args in
@@ -69,23 +53,19 @@ advance-requires c κs = let s = c .before .before .before .before .before .befo
       rw (c .before .sign-byte .ensures, e) (s .pre .1 .0 .passed (a .t) (s .pre .0 .4)),
     )
 
--- src/lib.rt:170:5
 mul-blocked : tie.Need-mul-blocked
 mul-blocked c = let s = c .before .before .before .before .before .before .before .before .before .before .before .before .before .before .before .before in
     let a = s .args in
     omega (arith, s .pre .0 .4, s .pre .0 .2 .few, s .pre .1 .0 .room)
 
--- src/lib.rt:170:5
 slice-write-blocked : tie.Need-slice-write-blocked
 slice-write-blocked c = let s = c .before .before .before .before .before .before .before .before .before .before .before .before .before .before .before .before in
     let a = s .args in
     omega (arith, s .pre .0 .4, s .pre .0 .2 .few, s .pre .1 .0 .room)
 
--- src/lib.rt:172:9
 same-length : tie.Need-same-length
 same-length c = simp length-set
 
--- src/lib.rt:172:9
 returns : tie.Need-returns
 unfolding followsAt
 returns c = let s = c .before .before .before .before .before .before .before .before .before .before .before .before .before .before .before .before .before in
@@ -97,19 +77,16 @@ returns c = let s = c .before .before .before .before .before .before .before .b
       (behind-set (a .boxes .now) (a .rows .now) (a .arrows .now) (a .own .now) (a .work .now) ownSign (a .blocked .now) (a .t) (c .before .advance .result) (s .pre .0 .4) (s .pre .1 .0) (w .none-before), s .pre .1 .1),
     )
 
--- src/lib.rt:175:64
 mul-advance-2 : tie.Need-mul-advance-2
 mul-advance-2 c = let s = c .before .before .before .before .before .before .before .before .before .before .before .before .before .before .before .before .before in
     let a = s .args in
     omega (arith, s .pre .0 .4, s .pre .0 .2 .few, s .pre .1 .1 .room)
 
--- src/lib.rt:175:64
 slice-read-advance-2 : tie.Need-slice-read-advance-2
 slice-read-advance-2 c = let s = c .before .before .before .before .before .before .before .before .before .before .before .before .before .before .before .before .before .before in
     let a = s .args in
     omega (arith, s .pre .0 .4, s .pre .0 .2 .few, s .pre .1 .1 .room)
 
--- src/lib.rt:174:9
 advance-requires-2 : tie.Need-advance-requires-2
 advance-requires-2 c κs = let s = c .before .before .before .before .before .before .before .before .before .before .before .before .before .before .before .before .before .before in
     let a = s .args in
@@ -120,27 +97,22 @@ advance-requires-2 c κs = let s = c .before .before .before .before .before .be
       rw e (s .pre .1 .1 .passed (a .t) (s .pre .0 .4)),
     )
 
--- src/lib.rt:177:5
 mul-fresh : tie.Need-mul-fresh
 mul-fresh c = let s = c .before .before .before .before .before .before .before .before .before .before .before .before .before .before .before .before .before .before .before in
     let a = s .args in
     omega (arith, s .pre .0 .4, s .pre .0 .2 .few, s .pre .1 .1 .room)
 
--- src/lib.rt:177:5
 slice-write-fresh : tie.Need-slice-write-fresh
 slice-write-fresh c = let s = c .before .before .before .before .before .before .before .before .before .before .before .before .before .before .before .before .before .before .before in
     let a = s .args in
     omega (arith, s .pre .0 .4, s .pre .0 .2 .few, s .pre .1 .1 .room)
 
--- src/lib.rt:138:1
 same-length-2 : tie.Need-same-length-2
 same-length-2 c = simp length-set
 
--- src/lib.rt:138:1
 same-length-3 : tie.Need-same-length-3
 same-length-3 c = simp length-set
 
--- src/lib.rt:138:1
 returns-2 : tie.Need-returns-2
 unfolding followsAt
 returns-2 c = let s = c .before .before .before .before .before .before .before .before .before .before .before .before .before .before .before .before .before .before .before in

@@ -1,13 +1,9 @@
-use Rattle.tables.specs.Buffers.{zeros}
+-- `lists::no_boxes` meets its contract: 256 zeros. Assumes nothing.
 use mathlib.Core.Path.{refl}
-use native.Mathlib.Omega.{arith}
-use borrow.Author.Needs.{needs}
+use Rattle.tables.specs.Buffers.{zeros}
 use Rattle.lists.proofs.no_boxes.Statement.{statement}
 use Rattle.lists.proofs.no_boxes.Tie as tie
-use Rattle.lists.proofs.no_boxes.Reads as reads
-use Rattle.lists.proofs.no_boxes.Lts as lts
 
--- src/lib.rt:540:1
 returns : tie.Need-returns
 unfolding zeros
 returns c = refl

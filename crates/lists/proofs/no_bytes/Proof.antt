@@ -1,13 +1,9 @@
-use Rattle.tables.specs.Buffers.{zeros}
+-- `lists::no_bytes` meets its contract: 16,384 zeros. Assumes nothing.
 use mathlib.Core.Path.{refl}
-use native.Mathlib.Omega.{arith}
-use borrow.Author.Needs.{needs}
+use Rattle.tables.specs.Buffers.{zeros}
 use Rattle.lists.proofs.no_bytes.Statement.{statement}
 use Rattle.lists.proofs.no_bytes.Tie as tie
-use Rattle.lists.proofs.no_bytes.Reads as reads
-use Rattle.lists.proofs.no_bytes.Lts as lts
 
--- src/lib.rt:526:1
 returns : tie.Need-returns
 unfolding zeros
 returns c = refl

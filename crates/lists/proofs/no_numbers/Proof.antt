@@ -1,13 +1,9 @@
-use Rattle.tables.specs.Buffers.{zeros}
+-- `lists::no_numbers` meets its contract: 512 zeros. Assumes nothing.
 use mathlib.Core.Path.{refl}
-use native.Mathlib.Omega.{arith}
-use borrow.Author.Needs.{needs}
+use Rattle.tables.specs.Buffers.{zeros}
 use Rattle.lists.proofs.no_numbers.Statement.{statement}
 use Rattle.lists.proofs.no_numbers.Tie as tie
-use Rattle.lists.proofs.no_numbers.Reads as reads
-use Rattle.lists.proofs.no_numbers.Lts as lts
 
--- src/lib.rt:533:1
 returns : tie.Need-returns
 unfolding zeros
 returns c = refl

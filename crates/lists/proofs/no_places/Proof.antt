@@ -1,13 +1,9 @@
-use Rattle.tables.specs.Buffers.{zeros}
+-- `lists::no_places` meets its contract: 512 zeros. Assumes nothing.
 use mathlib.Core.Path.{refl}
-use native.Mathlib.Omega.{arith}
-use borrow.Author.Needs.{needs}
+use Rattle.tables.specs.Buffers.{zeros}
 use Rattle.lists.proofs.no_places.Statement.{statement}
 use Rattle.lists.proofs.no_places.Tie as tie
-use Rattle.lists.proofs.no_places.Reads as reads
-use Rattle.lists.proofs.no_places.Lts as lts
 
--- src/lib.rt:322:1
 returns : tie.Need-returns
 unfolding zeros
 returns c = refl

@@ -1,22 +1,14 @@
-use Rattle.lists.proofs.TurnLaws.{Growing, growing-none, growing-out, growing-work, growing-room, growing-next, growing-done}
-use Rattle.lists.specs.Steps.{followsAt}
-use Rattle.tables.proofs.BufferLaws.{zeros-length}
-use Rattle.tables.specs.Rows.{arrowAt}
-use lib.ListN.{length, getD}
-use lib.Dec.{T}
-use Prim.Native.Nat.{ℕ, _-_, _<_, _≤_}
-use mathlib.Core.Path.{_≡_, refl, sym, ap, _∙_}
+-- `lists::order` meets its contract: the list so far is honest, has no arrow twice, and the work bytes show it. Assumes nothing.
+use mathlib.Core.Path.{_≡_, sym, ap, _∙_}
+use Prim.Native.Nat.{_-_, _<_}
 use native.Mathlib.Omega.{arith}
 use borrow.Author.Needs.{needs}
+use lib.ListN.{length, getD}
+use Rattle.tables.specs.Rows.{arrowAt}
+use Rattle.lists.proofs.TurnLaws.{Growing, growing-none, growing-out, growing-work, growing-room, growing-next, growing-done}
+use Rattle.tables.proofs.BufferLaws.{zeros-length}
 use Rattle.lists.proofs.order.Statement.{statement}
 use Rattle.lists.proofs.order.Tie as tie
-use Rattle.lists.proofs.order.Reads as reads
-use Rattle.lists.proofs.order.Lts as lts
-use Rattle.lists.proofs.mark.Reads as mark-reads
-use Rattle.lists.proofs.no_places.Reads as no-places-reads
-use Rattle.lists.proofs.pick.Reads as pick-reads
-use Rattle.tables.proofs.Arrow.at.Reads as at-reads
-use Rattle.tables.proofs.wide.Reads as wide-reads
 
 abbrev Inv-loop : tie.InvT-loop
 Inv-loop boxes rows scratch users files pairs arrows mode own out₀ work₀ blocked₀ fresh₀ count₀ out work blocked fresh count =
@@ -26,15 +18,12 @@ abbrev μ-loop : tie.MeasureT-loop
 μ-loop boxes rows scratch users files pairs arrows mode own out₀ work₀ blocked₀ fresh₀ count₀ out work blocked fresh count =
     length own - count
 
--- src/lib.rt:347:23
 no-places-requires : tie.Need-no-places-requires Inv-loop μ-loop
 no-places-requires c κs = search needs
 
--- src/lib.rt:348:21
 no-places-requires-2 : tie.Need-no-places-requires-2 Inv-loop μ-loop
 no-places-requires-2 c κs = search needs
 
--- src/lib.rt:350:5
 loop-holds : tie.Need-loop-holds Inv-loop μ-loop
 loop-holds c = let s = c .before .before .before .before .before .before .before .before .before .before .before in
     let a = s .args in
@@ -45,57 +34,48 @@ loop-holds c = let s = c .before .before .before .before .before .before .before
       ap length f ∙ zeros-length 512,
     )
 
--- src/lib.rt:361:13
 slice-aggregate-pick : tie.Need-slice-aggregate-pick Inv-loop μ-loop
 slice-aggregate-pick c = sym (c .before .before .loop .inv .1)
 
--- src/lib.rt:362:13
 slice-aggregate-pick-2 : tie.Need-slice-aggregate-pick-2 Inv-loop μ-loop
 slice-aggregate-pick-2 c = sym (c .before .before .before .loop .inv .2)
 
--- src/lib.rt:351:13
 pick-requires : tie.Need-pick-requires Inv-loop μ-loop
 pick-requires c κs = let s = c .before .before .before .before .before .before .before .before .before .before .before .before .before .before .before in
     let a = s .args in
     let i = c .before .before .before .loop in
     ((s .pre .0 .0, s .pre .0 .1, s .pre .0 .2, omega (arith, s .pre .1 .2, growing-work (a .boxes .now) (a .rows .now) (a .arrows .now) (a .mode) (a .own .now) (a .out .now) (a .work .now) (s .pre .0 .3) (s .pre .1 .0) (s .pre .1 .1) (omega (arith, s .pre .0 .1 .pairs-are, s .pre .1 .2)) (i .out) (i .work) (i .blocked) (i .fresh) (i .count) (i .inv .0))), (i .inv .0 .blocked-behind, i .inv .0 .fresh-behind))
 
--- src/lib.rt:365:13
 same-length : tie.Need-same-length Inv-loop μ-loop
 same-length c = let s = c .before .before .before .before .before .before .before .before .before .before .before .before .before .before .before .before .before .before .before in
     let a = s .args in
     let i = c .before .before .before .before .before .before .before .loop in
     growing-out (a .boxes .now) (a .rows .now) (a .arrows .now) (a .mode) (a .own .now) (a .out .now) (a .work .now) (s .pre .0 .3) (s .pre .1 .0) (s .pre .1 .1) (omega (arith, s .pre .0 .1 .pairs-are, s .pre .1 .2)) (i .out) (i .work) (i .blocked) (i .fresh) (i .count) (i .inv .0)
 
--- src/lib.rt:365:13
 same-length-2 : tie.Need-same-length-2 Inv-loop μ-loop
 same-length-2 c = let s = c .before .before .before .before .before .before .before .before .before .before .before .before .before .before .before .before .before .before .before in
     let a = s .args in
     let i = c .before .before .before .before .before .before .before .loop in
     growing-work (a .boxes .now) (a .rows .now) (a .arrows .now) (a .mode) (a .own .now) (a .out .now) (a .work .now) (s .pre .0 .3) (s .pre .1 .0) (s .pre .1 .1) (omega (arith, s .pre .0 .1 .pairs-are, s .pre .1 .2)) (i .out) (i .work) (i .blocked) (i .fresh) (i .count) (i .inv .0)
 
--- src/lib.rt:365:13
 returns : tie.Need-returns Inv-loop μ-loop
 returns c = let s = c .before .before .before .before .before .before .before .before .before .before .before .before .before .before .before .before .before .before .before in
     let a = s .args in
     let i = c .before .before .before .before .before .before .before .loop in
     growing-done (a .boxes .now) (a .rows .now) (a .arrows .now) (a .mode) (a .own .now) (a .out .now) (a .work .now) (s .pre .0 .3) (s .pre .1 .0) (s .pre .1 .1) (omega (arith, s .pre .0 .1 .pairs-are, s .pre .1 .2)) (i .out) (i .work) (i .blocked) (i .fresh) (i .count) (i .inv .0) (c .before .before .before .pick .result) (c .if1 .taken) (c .before .before .before .pick .ensures .0 .none-before)
 
--- src/lib.rt:367:17
 mul-k : tie.Need-mul-k Inv-loop μ-loop
 mul-k c = let s = c .before .before .before .before .before .before .before .before .before .before .before .before .before .before .before .before .before .before .before in
     let a = s .args in
     let i = c .before .before .before .before .before .before .before .loop in
     omega (arith, s .pre .0 .2 .few, c .if1 .left)
 
--- src/lib.rt:367:17
 shared-slice-read-k : tie.Need-shared-slice-read-k Inv-loop μ-loop
 shared-slice-read-k c = let s = c .before .before .before .before .before .before .before .before .before .before .before .before .before .before .before .before .before .before .before .before in
     let a = s .args in
     let i = c .before .before .before .before .before .before .before .before .loop in
     omega (arith, c .before .if1 .left)
 
--- src/lib.rt:368:9
 mul-out : tie.Need-mul-out Inv-loop μ-loop
 mul-out c = let s = c .before .before .before .before .before .before .before .before .before .before .before .before .before .before .before .before .before .before .before .before in
     let a = s .args in
@@ -105,7 +85,6 @@ mul-out c = let s = c .before .before .before .before .before .before .before .b
     let f = k .ensures .0 .holds l in
     omega (arith, s .pre .0 .2 .few, growing-room (a .boxes .now) (a .rows .now) (a .arrows .now) (a .mode) (a .own .now) (a .out .now) (a .work .now) (s .pre .0 .3) (s .pre .1 .0) (s .pre .1 .1) (omega (arith, s .pre .0 .1 .pairs-are, s .pre .1 .2)) (i .out) (i .work) (i .blocked) (i .fresh) (i .count) (i .inv .0) (k .result) l f)
 
--- src/lib.rt:368:9
 slice-write-out : tie.Need-slice-write-out Inv-loop μ-loop
 slice-write-out c = let s = c .before .before .before .before .before .before .before .before .before .before .before .before .before .before .before .before .before .before .before .before in
     let a = s .args in
@@ -115,7 +94,6 @@ slice-write-out c = let s = c .before .before .before .before .before .before .b
     let f = k .ensures .0 .holds l in
     omega (arith, s .pre .1 .1, growing-out (a .boxes .now) (a .rows .now) (a .arrows .now) (a .mode) (a .own .now) (a .out .now) (a .work .now) (s .pre .0 .3) (s .pre .1 .0) (s .pre .1 .1) (omega (arith, s .pre .0 .1 .pairs-are, s .pre .1 .2)) (i .out) (i .work) (i .blocked) (i .fresh) (i .count) (i .inv .0), growing-room (a .boxes .now) (a .rows .now) (a .arrows .now) (a .mode) (a .own .now) (a .out .now) (a .work .now) (s .pre .0 .3) (s .pre .1 .0) (s .pre .1 .1) (omega (arith, s .pre .0 .1 .pairs-are, s .pre .1 .2)) (i .out) (i .work) (i .blocked) (i .fresh) (i .count) (i .inv .0) (k .result) l f)
 
--- src/lib.rt:369:9
 add-count : tie.Need-add-count Inv-loop μ-loop
 add-count c = let s = c .before .before .before .before .before .before .before .before .before .before .before .before .before .before .before .before .before .before .before .before in
     let a = s .args in
@@ -125,11 +103,9 @@ add-count c = let s = c .before .before .before .before .before .before .before 
     let f = k .ensures .0 .holds l in
     omega (arith, s .pre .0 .2 .few, growing-room (a .boxes .now) (a .rows .now) (a .arrows .now) (a .mode) (a .own .now) (a .out .now) (a .work .now) (s .pre .0 .3) (s .pre .1 .0) (s .pre .1 .1) (omega (arith, s .pre .0 .1 .pairs-are, s .pre .1 .2)) (i .out) (i .work) (i .blocked) (i .fresh) (i .count) (i .inv .0) (k .result) l f)
 
--- src/lib.rt:370:35
 wide-requires : tie.Need-wide-requires Inv-loop μ-loop
 wide-requires c κs = search needs
 
--- src/lib.rt:370:13
 at-requires : tie.Need-at-requires Inv-loop μ-loop
 at-requires c κs = let s = c .before .before .before .before .before .before .before .before .before .before .before .before .before .before .before .before .before .before .before .before .before in
     let a = s .args in
@@ -139,7 +115,6 @@ at-requires c κs = let s = c .before .before .before .before .before .before .b
     let f = k .ensures .0 .holds l in
     rw (c .wide .ensures) (s .pre .0 .2 .numbers (k .result) l)
 
--- src/lib.rt:371:9
 mark-requires : tie.Need-mark-requires Inv-loop μ-loop
 mark-requires c κs = let s = c .before .before .before .before .before .before .before .before .before .before .before .before .before .before .before .before .before .before .before .before .before .before .before in
     let a = s .args in
@@ -152,7 +127,6 @@ mark-requires c κs = let s = c .before .before .before .before .before .before 
     let w = s .pre .0 .2 .within in
     (s .pre .0 .0, s .pre .0 .1, rw e (w .tail-in (getD (a .own .now) (k .result) 0) n, w .head-in (getD (a .own .now) (k .result) 0) n), omega (arith, s .pre .1 .2, growing-work (a .boxes .now) (a .rows .now) (a .arrows .now) (a .mode) (a .own .now) (a .out .now) (a .work .now) (s .pre .0 .3) (s .pre .1 .0) (s .pre .1 .1) (omega (arith, s .pre .0 .1 .pairs-are, s .pre .1 .2)) (i .out) (i .work) (i .blocked) (i .fresh) (i .count) (i .inv .0)))
 
--- src/lib.rt:350:5
 loop-less : tie.Need-loop-less Inv-loop μ-loop
 loop-less c = let s = c .before .before .before .before .before .before .before .before .before .before .before .before .before .before .before .before .before .before .before .before .before .before .before .before .before .before in
     let a = s .args in
@@ -162,7 +136,6 @@ loop-less c = let s = c .before .before .before .before .before .before .before 
     let f = k .ensures .0 .holds l in
     omega (arith, growing-room (a .boxes .now) (a .rows .now) (a .arrows .now) (a .mode) (a .own .now) (a .out .now) (a .work .now) (s .pre .0 .3) (s .pre .1 .0) (s .pre .1 .1) (omega (arith, s .pre .0 .1 .pairs-are, s .pre .1 .2)) (i .out) (i .work) (i .blocked) (i .fresh) (i .count) (i .inv .0) (k .result) l f)
 
--- src/lib.rt:350:5
 loop-again : tie.Need-loop-again Inv-loop μ-loop
 loop-again c = let s = c .before .before .before .before .before .before .before .before .before .before .before .before .before .before .before .before .before .before .before .before .before .before .before .before .before .before in
     let a = s .args in

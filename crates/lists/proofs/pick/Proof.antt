@@ -1,18 +1,15 @@
-use Rattle.lists.specs.Steps.{followsAt, Behind, ownSign, nothing}
-use Rattle.tables.proofs.Tests.{true-T, false-not}
-use Rattle.answers.specs.Among.{FirstAt}
+-- `lists::pick` meets its contract: no arrow before place t of the numbers may follow. Assumes nothing.
+use mathlib.Core.Path.{_≡_, refl, sym, _∙_}
+use Prim.Native.Nat.{ℕ, _-_, _≤_, _<_}
+use native.Mathlib.Omega.{arith}
 use borrow.Author.Count.{below-none, below-more}
+use borrow.Author.Needs.{needs}
 use lib.ListN.{length}
 use lib.Dec.{T}
-use Prim.Native.Nat.{ℕ, _-_, _≤_, _<_}
-use mathlib.Core.Path.{_≡_, refl, sym, ap, _∙_}
-use native.Mathlib.Omega.{arith}
-use borrow.Author.Needs.{needs}
+use Rattle.lists.specs.Steps.{followsAt, Behind, ownSign, nothing}
+use Rattle.tables.proofs.Tests.{true-T, false-not}
 use Rattle.lists.proofs.pick.Statement.{statement}
 use Rattle.lists.proofs.pick.Tie as tie
-use Rattle.lists.proofs.pick.Reads as reads
-use Rattle.lists.proofs.pick.Lts as lts
-use Rattle.lists.proofs.may_follow.Reads as may-follow-reads
 
 abbrev Inv-loop : tie.InvT-loop
 Inv-loop boxes rows scratch users files pairs arrows own work blocked₀ fresh₀ t₀ t-end blocked fresh t = (t ≤ length own)
@@ -25,20 +22,17 @@ Inv-loop boxes rows scratch users files pairs arrows own work blocked₀ fresh�
 abbrev μ-loop : tie.MeasureT-loop
 μ-loop boxes rows scratch users files pairs arrows own work blocked₀ fresh₀ t₀ t-end blocked fresh t = length own - t
 
--- src/lib.rt:200:5
 loop-holds : tie.Need-loop-holds Inv-loop μ-loop
 loop-holds c = let s = c .before .before .before .before .before .before .before .before .before .before in
     let a = s .args in
     (omega arith, below-none _, s .pre .1 .0, s .pre .1 .1, refl, refl)
 
--- src/lib.rt:201:12
 may-follow-requires : tie.Need-may-follow-requires Inv-loop μ-loop
 may-follow-requires c κs = let s = c .before .before .before .before .before .before .before .before .before .before .before .before .before .before in
     let a = s .args in
     let i = c .before .before .before .loop in
     ((s .pre .0 .0, s .pre .0 .1, s .pre .0 .2, s .pre .0 .3, omega arith), (i .inv .2, i .inv .3))
 
--- src/lib.rt:204:13
 same-length : tie.Need-same-length Inv-loop μ-loop
 same-length c = let s = c .before .before .before .before .before .before .before .before .before .before .before .before .before .before .before .before .before .before .before .before in
     let a = s .args in
@@ -46,7 +40,6 @@ same-length c = let s = c .before .before .before .before .before .before .befor
     let m = c .before .before .before .before .before .may-follow in
     m .kept .1 .1 .1 .1 .1 .1 .1 .1 .1 .0 ∙ i .inv .4
 
--- src/lib.rt:204:13
 same-length-2 : tie.Need-same-length-2 Inv-loop μ-loop
 same-length-2 c = let s = c .before .before .before .before .before .before .before .before .before .before .before .before .before .before .before .before .before .before .before .before in
     let a = s .args in
@@ -54,7 +47,6 @@ same-length-2 c = let s = c .before .before .before .before .before .before .bef
     let m = c .before .before .before .before .before .may-follow in
     m .kept .1 .1 .1 .1 .1 .1 .1 .1 .1 .1 .0 ∙ i .inv .5
 
--- src/lib.rt:204:13
 returns : tie.Need-returns Inv-loop μ-loop
 returns c = let s = c .before .before .before .before .before .before .before .before .before .before .before .before .before .before .before .before .before .before .before .before in
     let a = s .args in
@@ -62,18 +54,15 @@ returns c = let s = c .before .before .before .before .before .before .before .b
     let m = c .before .before .before .before .before .may-follow in
     (record { none-before = i .inv .1; holds = λ l. true-T _ (sym (m .ensures .0) ∙ c .if1 .taken) }, m .ensures .1)
 
--- src/lib.rt:200:9
 add-t : tie.Need-add-t Inv-loop μ-loop
 add-t c = let s = c .before .before .before .before .before .before .before .before .before .before .before .before .before .before .before .before .before .before .before .before in
     let a = s .args in
     let i = c .before .before .before .before .before .before .before .before .before .loop in
     omega (arith, s .pre .0 .2 .few, i .inv .0, c .before .before .before .before .before .before .before .before .loop-test)
 
--- src/lib.rt:200:5
 loop-less : tie.Need-loop-less Inv-loop μ-loop
 loop-less c = search needs
 
--- src/lib.rt:200:5
 loop-again : tie.Need-loop-again Inv-loop μ-loop
 loop-again c = let s = c .before .before .before .before .before .before .before .before .before .before .before .before .before .before .before .before .before .before .before .before in
     let a = s .args in
@@ -87,15 +76,12 @@ loop-again c = let s = c .before .before .before .before .before .before .before
       m .kept .1 .1 .1 .1 .1 .1 .1 .1 .1 .1 .0 ∙ i .inv .5,
     )
 
--- src/lib.rt:182:1
 same-length-3 : tie.Need-same-length-3 Inv-loop μ-loop
 same-length-3 c = search needs
 
--- src/lib.rt:182:1
 same-length-4 : tie.Need-same-length-4 Inv-loop μ-loop
 same-length-4 c = search needs
 
--- src/lib.rt:182:1
 returns-2 : tie.Need-returns-2 Inv-loop μ-loop
 returns-2 c = let s = c .before .before .before .before .before .before .before .before .before .before .before .before in
     let a = s .args in

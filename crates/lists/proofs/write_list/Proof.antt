@@ -1,99 +1,74 @@
+-- `lists::write_list` meets its contract: the atomic boxes and the mode's arrows are gathered. Assumes nothing.
+use mathlib.Core.Path.{ap, _∙_}
+use native.Mathlib.Omega.{arith}
+use borrow.Author.Needs.{needs}
+use lib.ListN.{length}
+use Rattle.tables.specs.Rows.{user, file}
 use Rattle.tables.proofs.AtomSides.{pairs-most}
 use Rattle.lists.proofs.ReadyLaws.{placed-is, drawn-is}
 use Rattle.tables.proofs.AtomPlaces.{atoms-most}
 use Rattle.tables.proofs.PartLaws.{part-is, part-length, part-within}
 use Rattle.tables.proofs.BufferLaws.{zeros-length}
-use Rattle.tables.specs.Atoms.{atoms, pairCount}
-use Rattle.tables.specs.Rows.{user, file}
-use lib.ListN.{length, take}
-use Prim.Native.Nat.{ℕ, _*_, _≤_}
-use mathlib.Core.Path.{_≡_, refl, sym, ap, _∙_}
-use native.Mathlib.Omega.{arith}
-use borrow.Author.Needs.{needs}
 use Rattle.lists.proofs.write_list.Statement.{statement}
 use Rattle.lists.proofs.write_list.Tie as tie
-use Rattle.lists.proofs.write_list.Reads as reads
-use Rattle.lists.proofs.write_list.Lts as lts
-use Rattle.answers.proofs.mode_arrows.Reads as mode-arrows-reads
-use Rattle.lists.proofs.list_pairs.Reads as list-pairs-reads
-use Rattle.lists.proofs.no_boxes.Reads as no-boxes-reads
-use Rattle.lists.proofs.no_numbers.Reads as no-numbers-reads
-use Rattle.tables.proofs.atoms_of.Reads as atoms-of-reads
 
--- src/lib.rt:592:21
 no-boxes-requires : tie.Need-no-boxes-requires
 no-boxes-requires c κs = search needs
 
--- src/lib.rt:593:21
 no-boxes-requires-2 : tie.Need-no-boxes-requires-2
 no-boxes-requires-2 c κs = search needs
 
--- src/lib.rt:594:19
 no-numbers-requires : tie.Need-no-numbers-requires
 no-numbers-requires c κs = search needs
 
--- src/lib.rt:595:49
 slice-aggregate-atoms-of : tie.Need-slice-aggregate-atoms-of
 slice-aggregate-atoms-of c = search needs
 
--- src/lib.rt:595:9
 atoms-of-requires : tie.Need-atoms-of-requires
 atoms-of-requires c κs = search needs
 
--- src/lib.rt:596:49
 slice-aggregate-atoms-of-2 : tie.Need-slice-aggregate-atoms-of-2
 slice-aggregate-atoms-of-2 c = search needs
 
--- src/lib.rt:596:9
 atoms-of-requires-2 : tie.Need-atoms-of-requires-2
 atoms-of-requires-2 c κs = search needs
 
--- src/lib.rt:597:39
 slice-aggregate-mode-arrows : tie.Need-slice-aggregate-mode-arrows
 slice-aggregate-mode-arrows c = search needs
 
--- src/lib.rt:597:9
 mode-arrows-requires : tie.Need-mode-arrows-requires
 mode-arrows-requires c κs = search needs
 
--- src/lib.rt:602:9
 array-share-prefix-users : tie.Need-array-share-prefix-users
 array-share-prefix-users c = let s = c .before .before .before .before .before .before .before .before .before .before .before .before .before .before .before .before .before .before in
     let a = s .args in
     part-within _ _ _ _ (c .before .before .before .before .before .before .before .atoms-of .ensures) (omega (arith, atoms-most (a .boxes .now) (a .rows .now) user, s .pre .0 .0 .few-boxes, ap length (c .before .before .before .before .before .before .before .before .before .before .before .no-boxes .ensures) ∙ zeros-length 256))
 
--- src/lib.rt:602:9
 slice-aggregate-list-pairs : tie.Need-slice-aggregate-list-pairs
 slice-aggregate-list-pairs c = part-length _ _ _ _ (c .before .before .before .before .before .before .before .before .atoms-of .ensures)
 
--- src/lib.rt:603:9
 array-share-prefix-files : tie.Need-array-share-prefix-files
 array-share-prefix-files c = let s = c .before .before .before .before .before .before .before .before .before .before .before .before .before .before .before .before .before .before .before in
     let a = s .args in
     part-within _ _ _ _ (c .before .before .before .before .before .atoms-of2 .ensures) (omega (arith, atoms-most (a .boxes .now) (a .rows .now) file, s .pre .0 .0 .few-boxes, ap length (c .before .before .before .before .before .before .before .before .before .before .before .no-boxes2 .ensures) ∙ zeros-length 256))
 
--- src/lib.rt:603:9
 slice-aggregate-list-pairs-2 : tie.Need-slice-aggregate-list-pairs-2
 slice-aggregate-list-pairs-2 c = part-length _ _ _ _ (c .before .before .before .before .before .before .atoms-of2 .ensures)
 
--- src/lib.rt:604:9
 mul-list-pairs : tie.Need-mul-list-pairs
 mul-list-pairs c = let s = c .before .before .before .before .before .before .before .before .before .before .before .before .before .before .before .before .before .before .before .before in
     let a = s .args in
     let placed = placed-is (a .boxes .now) (a .rows .now) (a .arrows .now) (s .pre .0 .0) (c .before .before .before .before .before .before .before .before .before .atoms-of .result) (c .before .before .before .before .before .before .atoms-of2 .result) _ _ _ _ (c .before .before .before .before .before .before .before .before .before .atoms-of .ensures) (c .before .before .before .before .before .before .atoms-of2 .ensures) in
     omega (arith, placed .pairs-are, pairs-most (a .boxes .now) (a .rows .now) (s .pre .0 .0 .few-boxes))
 
--- src/lib.rt:607:9
 array-share-prefix-own : tie.Need-array-share-prefix-own
 array-share-prefix-own c = let s = c .before .before .before .before .before .before .before .before .before .before .before .before .before .before .before .before .before .before .before .before in
     let a = s .args in
     part-within _ _ _ _ (c .before .before .before .mode-arrows .ensures) (omega (arith, drawn-is (a .boxes .now) (a .rows .now) (a .arrows .now) (s .pre .0 .1) (a .mode) .few, ap length (c .before .before .before .before .before .before .before .before .before .before .before .no-numbers .ensures) ∙ zeros-length 512))
 
--- src/lib.rt:607:9
 slice-aggregate-list-pairs-3 : tie.Need-slice-aggregate-list-pairs-3
 slice-aggregate-list-pairs-3 c = part-length _ _ _ _ (c .before .before .before .before .mode-arrows .ensures)
 
--- src/lib.rt:598:5
 list-pairs-requires : tie.Need-list-pairs-requires
 list-pairs-requires c κs = let s = c .before .before .before .before .before .before .before .before .before .before .before .before .before .before .before .before .before .before .before .before .before .before .before in
     let a = s .args in
@@ -107,15 +82,12 @@ list-pairs-requires c κs = let s = c .before .before .before .before .before .b
       omega (arith, placed .pairs-are, s .pre .1 .1),
     )
 
--- src/lib.rt:579:1
 same-length : tie.Need-same-length
 same-length c = search needs
 
--- src/lib.rt:579:1
 same-length-2 : tie.Need-same-length-2
 same-length-2 c = search needs
 
--- src/lib.rt:579:1
 returns : tie.Need-returns
 returns c = c .before .before .before .before .list-pairs .ensures
 
