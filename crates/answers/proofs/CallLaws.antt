@@ -25,7 +25,6 @@ use Rattle.containment.specs.Scratch.{filled, scratchFault, scratchAfter}
 use Rattle.answers.specs.Meaning.{answer}
 use Rattle.answers.specs.Pairs.{matrixBytes, matrixNumbers}
 use Rattle.answers.specs.Calls.{askedFault, replyOf, unlessRefused, entryEarly, entryFault, matrixEarly, matrixFault, bytesAfter, numbersAfter}
-use Rattle.answers.specs.declared.Entry.{Entry}
 use Rattle.answers.specs.declared.Reply.{Reply}
 use Rattle.answers.specs.declared.Reply.the-variants.{Answered, Refused}
 
