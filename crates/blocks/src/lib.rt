@@ -303,7 +303,7 @@ pub enum Seen {
 }
 
 // What stands at a block number of a file.
-pub fn seen_at(file: &[u8], block: usize) -> Seen
+fn seen_at(file: &[u8], block: usize) -> Seen
     ensures { λ r. ⌜ r ≡ seenAt (now (file .entry)) block ⌝ }
 {
     if block < file.len() / BLOCK_SIZE {
@@ -313,7 +313,7 @@ pub fn seen_at(file: &[u8], block: usize) -> Seen
 }
 
 // The number after a block's; where a file has no such block, the number itself.
-pub fn next_block(file: &[u8], block: usize) -> usize
+fn next_block(file: &[u8], block: usize) -> usize
     ensures { λ r. ⌜ r ≡ nextBlock (now (file .entry)) block ⌝ }
 {
     if block < file.len() / BLOCK_SIZE {

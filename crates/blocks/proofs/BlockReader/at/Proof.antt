@@ -1,6 +1,5 @@
--- `BlockReader::at` meets its contract: a walk of its MIR, by hand. A `BlockReader` is made of the slice and the number passed, in the result's local.
--- A `&[u8]` is Copy, so what it owns is had twice: once for src at exit, and once inside the result, beside the facts of at.
--- Assumes nothing.
+-- A walk of the MIR, by hand: a reader is made of the bytes and the number passed. A `&[u8]` is Copy, so what it owns is had
+-- twice: once for the exit, and once inside the result. Assumes nothing.
 use mathlib.Core.Path.{refl}
 use Prim.Native.Nat.{ℕ, _<_, _^_}
 use mathlib.Core.List.{List, [], _∷_}
@@ -24,8 +23,8 @@ use denote.RattleType.{owns}
 use denote.Laws.{Is}
 use denote.Plain.{uint-vals, uint-tells, uint-makes}
 use denote.Builtin.{u8, usize}
-use denote.Ref.{RefT, NamedLft}
-use denote.Signature.{plain, namedLft}
+use denote.Ref.{RefT}
+use denote.Signature.{plain}
 use denote.Slice.{sliceVal, ShrSlice, slice-vals, shr-slice-tells, shr-slice-lawful, shr-slice-copy}
 use denote.Steps.{nothing, owned}
 use denote.Struct.Rest.{own-shut}
@@ -35,8 +34,8 @@ use denote.Triple.Table.{entered}
 use denote.Triple.Walked.{says, Stays, stay-none, stay-none-slice, walkOf, goes-none, goes-none-slice, Walks, ends-at, walked, walk-meets}
 use denote.Exit.{yes}
 use Rattle.blocks.specs.declared.BlockReader.{BlockReader}
-use Rattle.blocks.proofs.BlockReader as T
 use Rattle.blocks.proofs.BlockReader.Laws as T′
+use Rattle.blocks.proofs.Held.{Def, Law}
 use Rattle.blocks.proofs.BlockReader.at.Key.{name as #at}
 use Rattle.blocks.proofs.BlockReader.at as made-at
 use Rattle.blocks.proofs.BlockReader.at.Statement as stated
@@ -46,9 +45,6 @@ abbrev stayed : Stays (made-at.ended .signature .params) (made-at.ended .kept)
 stayed = (stay-none-slice (0 ∷ []) tt (plain (λ _. u8)) yes, (stay-none (λ _. usize) yes, tt))
 
 module _ {M : Type 1} (𝓤 : URA M) (H : Heap 𝓤) (A : Atoms 𝓤) (W : Given 𝓤 H A) (mem : Memory → SProp 𝓤) (run : Routine → Fun 𝓤) (κ : Lft) (q : Share) (s : RefT (List ℕ)) (n : ℕ) (ok : n < 2 ^ 64) where
-  abbrev α : NamedLft
-  α = namedLft 1 0 tt (κ, tt)
-
   -- the machine value that s has
   abbrev v : Val
   v = sliceVal (s .ptr) (length (s .now))
@@ -70,8 +66,8 @@ module _ {M : Type 1} (𝓤 : URA M) (H : Heap 𝓤) (A : Atoms 𝓤) (W : Given
       qed W ((‵ (flft κ q) ⊛ ‵ ftrue) ∷ ‵ (owns (ShrSlice (named 0) κ u8 ∷ usize ∷ []) (s, (n, tt)) at) ∷ []) ∵
       suffices ! _ (ends-at 𝓤 H A made-at.ended stayed (made-at.clauses 𝓤 H A mem run) W (((κ, tt), (q, tt), tt, (s, (n, tt)), at), tt) (T′.lowered made) made (tt, (tt, tt)) (tt, (tt, tt))) $ says ! (refl, refl) $
       frame ! $ fsplit ! $ use1 W (‵ Own ⊛ ‵ Own) (shr-slice-copy 𝓤 H A W (named 0) κ u8 .twice s (v ∷ [])) $ split ! $ move ! (0 ∷ 2 ∷ []) $ fjoin ! $ frame ! $
-      -- [what src owns]: what the fields own together, of it and of at's facts, is what the struct owns
-      nothing ! $ owned ! usize (Is usize) (uint-makes 𝓤 H A W w64) n _ (refl, ok) $ fjoin ! $ move ! (1 ∷ 0 ∷ []) $ fjoin ! $ by ! (own-shut 𝓤 H A W (T.the-type α) (T′.the-laws α) (s, (n, tt)))
+      -- [what the bytes own]: that, beside the facts of the number, is what the reader owns
+      nothing ! $ owned ! usize (Is usize) (uint-makes 𝓤 H A W w64) n _ (refl, ok) $ fjoin ! $ move ! (1 ∷ 0 ∷ []) $ fjoin ! $ by ! (own-shut 𝓤 H A W (Def (κ, tt)) (Law (κ, tt)) (s, (n, tt)))
 
   module _ (C : Calls 𝓤 H) (Λ : Loops 𝓤 H) where
     walk : Is (ShrSlice (named 0) κ u8) s (v ∷ []) → ent 𝓤 (onEntry 𝓤 H A made-at.signature (κ, tt) (q, tt) (s, (n, tt)) at) (WpFn 𝓤 H C Λ code.function (v ∷ vint w64 n ∷ []) Post)
