@@ -1,4 +1,5 @@
--- What a block reader sees at its place, and where it goes from there. Assumes nothing.
+-- Document 01, "Block files": a block reader keeps the caller's bytes together with its place; what it sees there, and where
+-- the next one stands. Assumes nothing.
 use mathlib.Core.Bool.{cond}
 use mathlib.Core.List.{List}
 use Prim.Native.Nat.{ℕ, _+_}
