@@ -270,24 +270,27 @@ fn now() -> f64 {
     at.seconds as f64 + at.nanoseconds as f64 * 1e-9
 }
 
-/// The best times of library and twin, in turns, within about so many seconds, at least 3 runs
-/// each where one takes less than a second.
-fn times(case: &Case, call: Call, seconds: f64) -> (f64, f64) {
+/// The best times of library and twin on each case, all in turns, so that a busy moment of the
+/// machine strikes all of them. Ends after about so many seconds a case, but not before the third
+/// round where rounds are short.
+fn times(cases: &[Case], call: Call, seconds: f64) -> Vec<[f64; 2]> {
     let mut buffers = Buffers::new();
-    let mut best = [f64::MAX; 2];
+    let mut best = vec![[f64::MAX; 2]; cases.len()];
     let begin = now();
-    for round in 0..2000 {
-        for (side, best) in [Side::Library, Side::Twin].into_iter().zip(&mut best) {
-            let start = now();
-            black_box(case.run(side, call, black_box(&mut buffers))).ok();
-            *best = best.min(now() - start);
+    for round in 1..=2000 {
+        for (case, best) in cases.iter().zip(&mut best) {
+            for (side, best) in [Side::Library, Side::Twin].into_iter().zip(best) {
+                let start = now();
+                black_box(case.run(side, call, black_box(&mut buffers))).ok();
+                *best = best.min(now() - start);
+            }
         }
-        let spent = now() - begin;
-        if spent > seconds && (round >= 2 || spent > 2.0) {
+        let spent = (now() - begin) / cases.len() as f64;
+        if spent > seconds && (round >= 3 || spent > 2.0) {
             break;
         }
     }
-    (best[0], best[1])
+    best
 }
 
 fn shown(seconds: f64) -> String {
@@ -359,7 +362,13 @@ const CASES: &[(&str, Build, usize, &[Call])] = &[
         &[Judge, Matrix, List],
     ),
     ("staircase", pictures::staircase, 0, &[Matrix, List]),
-    ("thin-staircase", pictures::thin_staircase, 0, &[Matrix, List]),
+    (
+        "thin-staircase",
+        pictures::thin_staircase,
+        0,
+        &[Matrix, List],
+    ),
+    ("ring", || pictures::ring(42), 0, &[List]),
 ];
 
 /// A row of the growth table: key, what grows, sizes, picture of a size, call.
@@ -458,14 +467,15 @@ fn measure(only: &str, agree_only: bool) {
         if !key.contains(only) {
             continue;
         }
-        let case = Case::new(key, build(), blocks);
+        let cases = [Case::new(key, build(), blocks)];
+        let case = &cases[0];
         for &call in calls {
-            must_agree(&case, call);
+            must_agree(case, call);
             agreed += 1;
             if agree_only {
                 continue;
             }
-            let (library, twin) = times(&case, call, SECONDS);
+            let [library, twin] = times(&cases, call, SECONDS)[0];
             let name = match call {
                 Read => format!("{}, file of {} blocks", case.key, case.file.len() / 512),
                 _ => format!("{}: {}", case.key, case.picture.name),
@@ -488,32 +498,35 @@ fn measure(only: &str, agree_only: bool) {
         if !series.key.contains(only) {
             continue;
         }
-        let mut found = Vec::new();
-        for &size in series.sizes {
-            let case = Case::new(series.key, (series.build)(size), 0);
-            must_agree(&case, series.call);
+        let case = |&size: &usize| Case::new(series.key, (series.build)(size), 0);
+        let cases: Vec<Case> = series.sizes.iter().map(case).collect();
+        for case in &cases {
+            must_agree(case, series.call);
             agreed += 1;
-            if !agree_only {
-                found.push(times(&case, series.call, SECONDS / 2.0));
-            }
         }
         if agree_only {
             continue;
         }
+        let found = times(&cases, series.call, SECONDS / 2.0);
         let join = |parts: Vec<String>| parts.join(", ");
         println!(
             "| {} {} | {} | {} | {} | {} |",
             series.says,
             join(series.sizes.iter().map(|n| n.to_string()).collect()),
             series.call.name(),
-            join(found.iter().map(|t| shown(t.0)).collect()),
+            join(found.iter().map(|t| shown(t[0])).collect()),
             join(
                 found
                     .windows(2)
-                    .map(|w| format!("{:.1}", w[1].0 / w[0].0))
+                    .map(|w| format!("{:.1}", w[1][0] / w[0][0]))
                     .collect()
             ),
-            join(found.iter().map(|t| format!("{:.2}", t.0 / t.1)).collect()),
+            join(
+                found
+                    .iter()
+                    .map(|t| format!("{:.2}", t[0] / t[1]))
+                    .collect()
+            ),
         );
     }
     eprintln!("library and twin agree on {agreed} calls");

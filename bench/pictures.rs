@@ -187,8 +187,8 @@ pub fn every_pair(side: usize, depth: usize, arrows: usize) -> Picture {
 }
 
 /// All arrows reach every pair, and striking leaves all positive arrows but the first as
-/// candidates. Each of these but the last fails only near the end of the negative ones; the last
-/// one overrides all.
+/// candidates. Each of these but the last fails only near the end of the negative ones, by turns at
+/// one of two; the last one overrides all.
 pub fn candidates_left(users: usize, files: usize, arrows: usize) -> Picture {
     let mut p = Picture::new(&format!(
         "{users}x{files} pairs, {arrows} arrows reach each, candidates left"
@@ -215,12 +215,12 @@ pub fn candidates_left(users: usize, files: usize, arrows: usize) -> Picture {
         } else {
             p.arrow(wide0, folders, 0);
         }
-        if k == 0 {
-            p.arrow(narrow0, folders + 1, 1);
-        } else if k + 1 < half {
-            p.arrow(narrow1, folders + 1, 1);
-        } else {
+        if k + 1 == half {
             p.arrow(narrow0, folders + 2, 1);
+        } else if k % 2 == 0 {
+            p.arrow(narrow0, folders + 1, 1);
+        } else {
+            p.arrow(narrow1, folders + 1, 1);
         }
     }
     p
@@ -330,6 +330,26 @@ pub fn thin_staircase() -> Picture {
                 (step % 2) as u16,
             );
         }
+    }
+    p
+}
+
+/// The ring of case J with so many users and files: each arrow has to stand before the next one,
+/// all around, so that there is no order.
+pub fn ring(size: usize) -> Picture {
+    let mut p = Picture::new(&format!("ring of {} arrows, no order", 2 * size));
+    let [users, wide, close] = [0; 3].map(|side| p.add(side, size));
+    let [files, inner, outer] = [1; 3].map(|side| p.add(side, size));
+    for i in 0..size {
+        let next = (i + 1) % size;
+        p.put(wide + i, users + i);
+        p.put(close + i, users + i);
+        p.put(wide + next, close + i);
+        p.put(inner + i, files + i);
+        p.put(outer + i, inner + i);
+        p.put(outer + i, files + next);
+        p.arrow(wide + i, inner + i, 1);
+        p.arrow(close + i, outer + i, 0);
     }
     p
 }

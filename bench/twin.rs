@@ -4,6 +4,8 @@
 pub const BOXES: usize = 256;
 pub const ROWS: usize = 1024;
 pub const ARROWS: usize = 512;
+/// 128 users and 128 files make the most pairs.
+pub const PAIRS: usize = 16384;
 pub const NO_ARROW: u16 = 65535;
 
 /// A refusal's number and its three numbers.
@@ -525,12 +527,28 @@ impl Mode<'_> {
         }
     }
 
+    /// Check 12, and a byte for each pair, 1 if it is granted.
+    fn fill_granted(&self, mode: u16, bytes: &mut [u8]) -> Result<(), Refusal> {
+        let mut room = Room::new();
+        let (mut row, mut col) = (0, 0);
+        for byte in bytes {
+            let (u, f) = (self.users[row], self.files[col]);
+            *byte = match self.answer(u, f, &mut room) {
+                Entry::Unclear(..) => return refuse(12, mode as usize, u as usize, f as usize),
+                Entry::Granted(_) => 1,
+                Entry::Denied(_) | Entry::Default => 0,
+            };
+            col += 1;
+            if col == self.files.len() {
+                row += 1;
+                col = 0;
+            }
+        }
+        Ok(())
+    }
+
     /// Writes the list and answers its length; the work bytes end as answer and reached.
     fn order(&self, list: &mut [u16], work: &mut [u8]) -> usize {
-        let mut room = Room::new();
-        for (p, byte) in work.iter_mut().enumerate() {
-            *byte = byte_of(self.answer_at(p, &mut room));
-        }
         let mut blocked = [0; ARROWS];
         let mut fresh = [0; ARROWS];
         let mut count = 0;
@@ -558,21 +576,21 @@ pub fn list(
     check_room(3, list.len(), own)?;
     check_room(4, work.len(), pairs)?;
     contain(t, scratch)?;
-    check_clear(t, scratch, mode)?;
-    let work = &mut work[..pairs];
-    let written = with_mode(t, scratch, mode, |m| {
+    with_mode(t, scratch, mode, |m| {
+        let mut bytes = [0; PAIRS];
+        m.fill_granted(mode, &mut bytes[..pairs])?;
+        let work = &mut work[..pairs];
+        work.copy_from_slice(&bytes[..pairs]);
         let count = m.order(list, work);
-        match work.iter().position(|&byte| byte == 1) {
-            None => Ok(count),
-            Some(p) => {
-                let (u, f) = m.pair_at(p);
-                list[..own].fill(NO_ARROW);
-                refuse(13, mode as usize, u as usize, f as usize)
-            }
-        }
-    });
-    work.fill(0);
-    written
+        let left = work.iter().position(|&byte| byte == 1);
+        work.fill(0);
+        let Some(p) = left else {
+            return Ok(count);
+        };
+        list[..own].fill(NO_ARROW);
+        let (u, f) = m.pair_at(p);
+        refuse(13, mode as usize, u as usize, f as usize)
+    })
 }
 
 // ---- Block files
