@@ -7,7 +7,10 @@
 //!   bench --once CALL KEY SIDE   one call on one side (library or twin), for callgrind:
 //!                                what counts is inside bench_measured
 //!
-//! A time is the processor time of the thread, the least of many runs in turns with the other side.
+//! A time is wall time, the least of many runs in turns with the other side. Other work on the
+//! machine can only lengthen a run, and spoils long calls most. (The processor time of a thread
+//! would not count that work, but some systems under-report it now and then, and the least of many
+//! would pick just those runs.)
 
 mod pictures;
 #[path = "../tests/rights.rs"]
@@ -21,6 +24,7 @@ mod twin;
 use pictures::Picture;
 use std::collections::HashSet;
 use std::hint::black_box;
+use std::time::Instant;
 
 // ---- The calls, on either side
 
@@ -248,45 +252,23 @@ impl Case {
 
 // ---- Time
 
-#[repr(C)]
-struct Timespec {
-    seconds: i64,
-    nanoseconds: i64,
-}
-
-extern "C" {
-    fn clock_gettime(clock: i32, at: *mut Timespec) -> i32;
-}
-
-/// The processor time of this thread, in seconds.
-fn now() -> f64 {
-    const THREAD_TIME: i32 = 3;
-    let mut at = Timespec {
-        seconds: 0,
-        nanoseconds: 0,
-    };
-    // SAFETY: the C library writes one timespec.
-    unsafe { clock_gettime(THREAD_TIME, &mut at) };
-    at.seconds as f64 + at.nanoseconds as f64 * 1e-9
-}
-
 /// The best times of library and twin on each case, all in turns, so that a busy moment of the
-/// machine strikes all of them. Ends after about so many seconds a case, but not before the third
-/// round where rounds are short.
+/// machine strikes all of them. Ends after about so many seconds a case, but where rounds are short
+/// not before the tenth.
 fn times(cases: &[Case], call: Call, seconds: f64) -> Vec<[f64; 2]> {
     let mut buffers = Buffers::new();
     let mut best = vec![[f64::MAX; 2]; cases.len()];
-    let begin = now();
+    let begin = Instant::now();
     for round in 1..=2000 {
         for (case, best) in cases.iter().zip(&mut best) {
             for (side, best) in [Side::Library, Side::Twin].into_iter().zip(best) {
-                let start = now();
+                let start = Instant::now();
                 black_box(case.run(side, call, black_box(&mut buffers))).ok();
-                *best = best.min(now() - start);
+                *best = best.min(start.elapsed().as_secs_f64());
             }
         }
-        let spent = (now() - begin) / cases.len() as f64;
-        if spent > seconds && (round >= 3 || spent > 2.0) {
+        let spent = begin.elapsed().as_secs_f64() / cases.len() as f64;
+        if spent > seconds && (round >= 10 || spent > 4.0) {
             break;
         }
     }
