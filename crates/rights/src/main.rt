@@ -134,9 +134,7 @@ fn put_user(
 {
     let mut at = from;
     for j in 0..files.len() {
-        let e = answers::answer_among(
-            n, rows, scratch, arrows, mode, own, u, files[j], ps, ns,
-        );
+        let e = answers::answer_among(n, rows, scratch, arrows, mode, own, u, files[j], ps, ns);
         at = put_pair(out, at, mode, u, files[j], e);
     }
     at
@@ -162,7 +160,18 @@ fn put_users(
     let mut at = from;
     for i in 0..users.len() {
         at = put_user(
-            n, rows, scratch, arrows, mode, own, users[i], files, ps, ns, out, at,
+            n,
+            rows,
+            scratch,
+            arrows,
+            mode,
+            own,
+            users[i],
+            files,
+            ps,
+            ns,
+            out,
+            at,
         );
     }
     at
@@ -183,7 +192,15 @@ fn boxes_of() -> [u16; 256]
 }
 
 // The lines of a mode that has an arrow.
-fn put_mode(boxes: &[u8], rows: &[u16], scratch: &[u8], arrows: &[u16], mode: u16, out: &mut [u8], at: usize) -> usize
+fn put_mode(
+    boxes: &[u8],
+    rows: &[u16],
+    scratch: &[u8],
+    arrows: &[u16],
+    mode: u16,
+    out: &mut [u8],
+    at: usize,
+) -> usize
     requires { ⌜ SoundRows (now boxes) (now rows) × SoundArrows (now boxes) (now arrows) × Says (length (now boxes)) (now rows) (now scratch) ⌝ }
 {
     let mut users = boxes_of();
@@ -213,7 +230,14 @@ fn put_mode(boxes: &[u8], rows: &[u16], scratch: &[u8], arrows: &[u16], mode: u1
     )
 }
 
-fn put_modes(boxes: &[u8], rows: &[u16], scratch: &[u8], arrows: &[u16], out: &mut [u8], from: usize) -> usize
+fn put_modes(
+    boxes: &[u8],
+    rows: &[u16],
+    scratch: &[u8],
+    arrows: &[u16],
+    out: &mut [u8],
+    from: usize,
+) -> usize
     requires { ⌜ SoundRows (now boxes) (now rows) × SoundArrows (now boxes) (now arrows) × Says (length (now boxes)) (now rows) (now scratch) ⌝ }
 {
     let mut at = from;
@@ -224,7 +248,13 @@ fn put_modes(boxes: &[u8], rows: &[u16], scratch: &[u8], arrows: &[u16], out: &m
 }
 
 // The listing of a picture, or its refusal.
-fn put_picture(boxes: &[u8], rows: &[u16], arrows: &[u16], scratch: &mut [u8], out: &mut [u8]) -> usize {
+fn put_picture(
+    boxes: &[u8],
+    rows: &[u16],
+    arrows: &[u16],
+    scratch: &mut [u8],
+    out: &mut [u8],
+) -> usize {
     let v = containment::prepare(boxes, rows, arrows, scratch);
     if let Verdict::Refused(r) = v {
         return put_refusal(out, 0, r);
@@ -261,7 +291,14 @@ fn table_numbers() -> [u16; 2048]
 }
 
 // What is read, and what is to be written for it.
-fn put_file(file: &[u8], boxes: &mut [u8], rows: &mut [u16], arrows: &mut [u16], scratch: &mut [u8], out: &mut [u8]) -> usize {
+fn put_file(
+    file: &[u8],
+    boxes: &mut [u8],
+    rows: &mut [u16],
+    arrows: &mut [u16],
+    scratch: &mut [u8],
+    out: &mut [u8],
+) -> usize {
     let reading = blocks::read(file, boxes, rows, arrows);
     match reading {
         Reading::Refused(r) => put_refusal(out, 0, r),
@@ -270,7 +307,14 @@ fn put_file(file: &[u8], boxes: &mut [u8], rows: &mut [u16], arrows: &mut [u16],
 }
 
 // The tables that were read, by their row counts.
-fn put_tables(c: Counts, boxes: &[u8], rows: &[u16], arrows: &[u16], scratch: &mut [u8], out: &mut [u8]) -> usize {
+fn put_tables(
+    c: Counts,
+    boxes: &[u8],
+    rows: &[u16],
+    arrows: &[u16],
+    scratch: &mut [u8],
+    out: &mut [u8],
+) -> usize {
     let nb = c.boxes;
     let nr = c.containments;
     let na = c.arrows;

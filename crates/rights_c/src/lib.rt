@@ -111,7 +111,12 @@ fn of_reading(x: Reading) -> Reply
 }
 
 #[no_mangle]
-pub extern "C" fn rights_judge(boxes: &[u8], rows: &[u16], arrows: &[u16], scratch: &mut [u8]) -> Reply
+pub extern "C" fn rights_judge(
+    boxes: &[u8],
+    rows: &[u16],
+    arrows: &[u16],
+    scratch: &mut [u8],
+) -> Reply
     ensures { λ r. ⌜ (r ≡ verdictReply (verdictOf (judgeFault (now (boxes .entry)) (now (rows .entry)) (now (arrows .entry)) (now (scratch .entry))))) × (now (scratch .exit) ≡ scratchAfter (earlyFault (now (boxes .entry)) (now (rows .entry)) (now (arrows .entry)) (now (scratch .entry))) (now (boxes .entry)) (now (rows .entry)) (now (scratch .entry))) ⌝ }
 {
     of_verdict(answers::judge(boxes, rows, arrows, scratch))
@@ -129,9 +134,7 @@ pub extern "C" fn rights_entry(
 ) -> Reply
     ensures { λ r. ⌜ (r ≡ askedReply (replyOf (entryFault (now (boxes .entry)) (now (rows .entry)) (now (arrows .entry)) (now (scratch .entry)) mode user file) (answer (now (rows .entry)) (now (arrows .entry)) mode user file))) × (now (scratch .exit) ≡ scratchAfter (entryEarly (now (boxes .entry)) (now (rows .entry)) (now (arrows .entry)) (now (scratch .entry)) mode) (now (boxes .entry)) (now (rows .entry)) (now (scratch .entry))) ⌝ }
 {
-    of_asked(answers::one_entry(
-        boxes, rows, arrows, scratch, user, file, mode,
-    ))
+    of_asked(answers::one_entry(boxes, rows, arrows, scratch, user, file, mode))
 }
 
 #[no_mangle]
@@ -146,9 +149,7 @@ pub extern "C" fn rights_matrix(
 ) -> Reply
     ensures { λ r. ⌜ (r ≡ verdictReply (verdictOf (matrixFault (now (boxes .entry)) (now (rows .entry)) (now (arrows .entry)) (now (scratch .entry)) mode (now (bytes .entry)) (now (numbers .entry))))) × (now (scratch .exit) ≡ scratchAfter (matrixEarly (now (boxes .entry)) (now (rows .entry)) (now (arrows .entry)) (now (scratch .entry)) mode (now (bytes .entry)) (now (numbers .entry))) (now (boxes .entry)) (now (rows .entry)) (now (scratch .entry))) × (now (bytes .exit) ≡ bytesAfter (now (boxes .entry)) (now (rows .entry)) (now (arrows .entry)) (now (scratch .entry)) mode (now (bytes .entry)) (now (numbers .entry))) × (now (numbers .exit) ≡ numbersAfter (now (boxes .entry)) (now (rows .entry)) (now (arrows .entry)) (now (scratch .entry)) mode (now (bytes .entry)) (now (numbers .entry))) ⌝ }
 {
-    of_verdict(answers::matrix(
-        boxes, rows, arrows, scratch, mode, bytes, numbers,
-    ))
+    of_verdict(answers::matrix(boxes, rows, arrows, scratch, mode, bytes, numbers))
 }
 
 #[no_mangle]
@@ -163,13 +164,16 @@ pub extern "C" fn rights_list(
 ) -> Reply
     ensures { λ r. ⌜ ((l : Listed) × (r ≡ listReply l) × Outcome (now (boxes .entry)) (now (rows .entry)) (now (arrows .entry)) mode (now (scratch .entry)) (now (list .entry)) (now (work .entry)) l (now (scratch .exit)) (now (list .exit)) (now (work .exit))) ⌝ }
 {
-    of_list(lists::list(
-        boxes, rows, arrows, scratch, mode, list, work,
-    ))
+    of_list(lists::list(boxes, rows, arrows, scratch, mode, list, work))
 }
 
 #[no_mangle]
-pub extern "C" fn rights_read(file: &[u8], boxes: &mut [u8], rows: &mut [u16], arrows: &mut [u16]) -> Reply
+pub extern "C" fn rights_read(
+    file: &[u8],
+    boxes: &mut [u8],
+    rows: &mut [u16],
+    arrows: &mut [u16],
+) -> Reply
     ensures { λ r. ⌜ ((x : Reading) × (r ≡ readReply x) × ReadDone (now (file .entry)) (now (boxes .entry)) (now (rows .entry)) (now (arrows .entry)) (now (boxes .exit)) (now (rows .exit)) (now (arrows .exit)) x) ⌝ }
 {
     of_reading(blocks::read(file, boxes, rows, arrows))

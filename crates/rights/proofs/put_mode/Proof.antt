@@ -1,105 +1,77 @@
-use lib.ListN.{length}
 use mathlib.Core.Path.{ap}
-use Rattle.rights.proofs.Lists.{all-there}
+use native.Mathlib.Omega.{arith}
+use borrow.Author.Needs.{needs}
+use lib.ListN.{length}
 use Rattle.tables.specs.Rows.{user, file}
+use Rattle.rights.proofs.Lists.{all-there}
 use Rattle.tables.proofs.PartLaws.{part-is, part-length}
 use Rattle.answers.proofs.AmongLaws.{mode-most}
 use Rattle.answers.proofs.ReadyLaws.{room, boxes-within, mode-within, sound-within}
-use native.Mathlib.Omega.{arith}
-use borrow.Author.Needs.{needs}
 use Rattle.rights.proofs.put_mode.Statement.{statement}
 use Rattle.rights.proofs.put_mode.Tie as tie
-use Rattle.rights.proofs.put_mode.Reads as reads
-use Rattle.rights.proofs.put_mode.Lts as lts
-use Rattle.answers.proofs.mode_arrows.Reads as mode-arrows-reads
-use Rattle.rights.proofs.boxes_of.Reads as boxes-of-reads
-use Rattle.rights.proofs.numbers.Reads as numbers-reads
-use Rattle.rights.proofs.put_users.Reads as put-users-reads
-use Rattle.tables.proofs.atoms_of.Reads as atoms-of-reads
 
--- src/main.rt:189:21
 boxes-of-requires : tie.Need-boxes-of-requires
 boxes-of-requires c κs = search needs
 
--- src/main.rt:190:21
 boxes-of-requires-2 : tie.Need-boxes-of-requires-2
 boxes-of-requires-2 c κs = search needs
 
--- src/main.rt:191:19
 numbers-requires : tie.Need-numbers-requires
 numbers-requires c κs = search needs
 
--- src/main.rt:192:18
 numbers-requires-2 : tie.Need-numbers-requires-2
 numbers-requires-2 c κs = search needs
 
--- src/main.rt:193:18
 numbers-requires-3 : tie.Need-numbers-requires-3
 numbers-requires-3 c κs = search needs
 
--- src/main.rt:194:57
 slice-aggregate-atoms-of : tie.Need-slice-aggregate-atoms-of
 slice-aggregate-atoms-of c = search needs
 
--- src/main.rt:194:9
 atoms-of-requires : tie.Need-atoms-of-requires
 atoms-of-requires c κs = search needs
 
--- src/main.rt:195:57
 slice-aggregate-atoms-of-2 : tie.Need-slice-aggregate-atoms-of-2
 slice-aggregate-atoms-of-2 c = search needs
 
--- src/main.rt:195:9
 atoms-of-requires-2 : tie.Need-atoms-of-requires-2
 atoms-of-requires-2 c κs = search needs
 
--- src/main.rt:196:48
 slice-aggregate-mode-arrows : tie.Need-slice-aggregate-mode-arrows
 slice-aggregate-mode-arrows c = search needs
 
--- src/main.rt:196:9
 mode-arrows-requires : tie.Need-mode-arrows-requires
 mode-arrows-requires c κs = search needs
 
--- src/main.rt:198:9
 returns : tie.Need-returns
 returns c = search needs
 
--- src/main.rt:206:9
 array-share-prefix-own : tie.Need-array-share-prefix-own
 array-share-prefix-own c = mode-within _ _ _ _ _ (c .before .before .before .before .before .before .before .before .before .before .before .before .before .before .before .before .before .before .before .before .pre .1 .few-arrows) (c .before .before .before .before .before .before .before .before .before .before .before .before .numbers .ensures) (c .before .before .mode-arrows .ensures)
 
--- src/main.rt:206:9
 slice-aggregate-put-users : tie.Need-slice-aggregate-put-users
 slice-aggregate-put-users c = part-length _ _ _ _ (c .before .before .before .mode-arrows .ensures)
 
--- src/main.rt:207:9
 array-share-prefix-users : tie.Need-array-share-prefix-users
 array-share-prefix-users c = boxes-within _ _ user _ _ _ (c .before .before .before .before .before .before .before .before .before .before .before .before .before .before .before .before .before .before .before .before .before .pre .0) (c .before .before .before .before .before .before .before .before .before .before .before .before .before .before .before .boxes-of .ensures) (c .before .before .before .before .before .before .before .before .before .atoms-of .ensures)
 
--- src/main.rt:207:9
 slice-aggregate-put-users-2 : tie.Need-slice-aggregate-put-users-2
 slice-aggregate-put-users-2 c = part-length _ _ _ _ (c .before .before .before .before .before .before .before .before .before .before .atoms-of .ensures)
 
--- src/main.rt:208:9
 array-share-prefix-files : tie.Need-array-share-prefix-files
 array-share-prefix-files c = boxes-within _ _ file _ _ _ (c .before .before .before .before .before .before .before .before .before .before .before .before .before .before .before .before .before .before .before .before .before .before .pre .0) (c .before .before .before .before .before .before .before .before .before .before .before .before .before .before .before .boxes-of2 .ensures) (c .before .before .before .before .before .before .before .atoms-of2 .ensures)
 
--- src/main.rt:208:9
 slice-aggregate-put-users-3 : tie.Need-slice-aggregate-put-users-3
 slice-aggregate-put-users-3 c = part-length _ _ _ _ (c .before .before .before .before .before .before .before .before .atoms-of2 .ensures)
 
--- src/main.rt:209:9
 slice-aggregate-put-users-4 : tie.Need-slice-aggregate-put-users-4
 slice-aggregate-put-users-4 c = search needs
 
--- src/main.rt:210:9
 slice-aggregate-put-users-5 : tie.Need-slice-aggregate-put-users-5
 slice-aggregate-put-users-5 c = search needs
 
--- src/main.rt:200:5
 put-users-requires : tie.Need-put-users-requires
-put-users-requires c κs =     let start = c .before .before .before .before .before .before .before .before .before .before .before .before .before .before .before .before .before .before .before .before .before .before .before .before .before .before in
+put-users-requires c κs = let start = c .before .before .before .before .before .before .before .before .before .before .before .before .before .before .before .before .before .before .before .before .before .before .before .before .before .before in
     let a = start .args in
     let own = part-is _ _ _ _ (c .before .before .before .before .before .before .before .before .mode-arrows .ensures) in
     let few = ap length own in
@@ -115,11 +87,9 @@ put-users-requires c κs =     let start = c .before .before .before .before .be
       omega (arith, start .pre .1 .few-arrows),
     )
 
--- src/main.rt:186:1
 same-length : tie.Need-same-length
 same-length c = search needs
 
--- src/main.rt:186:1
 returns-2 : tie.Need-returns-2
 returns-2 c = search needs
 

@@ -1,13 +1,9 @@
 use mathlib.Core.Path.{_≡_}
-use Prim.Native.Nat.{ℕ, _-_, _≤_}
-use lib.ListN.{length}
-use native.Mathlib.Omega.{arith}
+use Prim.Native.Nat.{_-_, _≤_}
 use borrow.Author.Needs.{needs}
+use lib.ListN.{length}
 use Rattle.rights.proofs.put_text.Statement.{statement}
 use Rattle.rights.proofs.put_text.Tie as tie
-use Rattle.rights.proofs.put_text.Reads as reads
-use Rattle.rights.proofs.put_text.Lts as lts
-use Rattle.rights.proofs.put.Reads as put-reads
 
 abbrev Inv-loop : tie.InvT-loop
 Inv-loop out₀ from text at₀ i₀ i-end out at i = (i ≤ length text) × (length out ≡ length out₀)
@@ -15,35 +11,27 @@ Inv-loop out₀ from text at₀ i₀ i-end out at i = (i ≤ length text) × (le
 abbrev μ-loop : tie.MeasureT-loop
 μ-loop out₀ from text at₀ i₀ i-end out at i = length text - i
 
--- src/main.rt:33:5
 loop-holds : tie.Need-loop-holds Inv-loop μ-loop
 loop-holds c = search needs
 
--- src/main.rt:34:27
 shared-slice-read-put : tie.Need-shared-slice-read-put Inv-loop μ-loop
 shared-slice-read-put c = search needs
 
--- src/main.rt:34:9
 put-requires : tie.Need-put-requires Inv-loop μ-loop
 put-requires c κs = search needs
 
--- src/main.rt:33:9
 add-i : tie.Need-add-i Inv-loop μ-loop
 add-i c = search needs
 
--- src/main.rt:33:5
 loop-less : tie.Need-loop-less Inv-loop μ-loop
 loop-less c = search needs
 
--- src/main.rt:33:5
 loop-again : tie.Need-loop-again Inv-loop μ-loop
 loop-again c = search needs
 
--- src/main.rt:31:1
 same-length : tie.Need-same-length Inv-loop μ-loop
 same-length c = search needs
 
--- src/main.rt:31:1
 returns : tie.Need-returns Inv-loop μ-loop
 returns c = search needs
 

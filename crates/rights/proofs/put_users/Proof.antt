@@ -1,13 +1,10 @@
-use mathlib.Core.Path.{_≡_, refl, _∙_}
-use Prim.Native.Nat.{ℕ, _-_, _≤_}
-use lib.ListN.{length}
+use mathlib.Core.Path.{_≡_}
+use Prim.Native.Nat.{_-_, _≤_}
 use native.Mathlib.Omega.{arith}
 use borrow.Author.Needs.{needs}
+use lib.ListN.{length}
 use Rattle.rights.proofs.put_users.Statement.{statement}
 use Rattle.rights.proofs.put_users.Tie as tie
-use Rattle.rights.proofs.put_users.Reads as reads
-use Rattle.rights.proofs.put_users.Lts as lts
-use Rattle.rights.proofs.put_user.Reads as put-user-reads
 
 abbrev Inv-loop : tie.InvT-loop
 Inv-loop n rows scratch arrows mode own users files ps₀ ns₀ out₀ from at₀ i₀ i-end ps ns out at i = (i ≤ length users) × (length ps ≡ length ps₀) × (length ns ≡ length ns₀) × (length out ≡ length out₀)
@@ -15,51 +12,40 @@ Inv-loop n rows scratch arrows mode own users files ps₀ ns₀ out₀ from at�
 abbrev μ-loop : tie.MeasureT-loop
 μ-loop n rows scratch arrows mode own users files ps₀ ns₀ out₀ from at₀ i₀ i-end ps ns out at i = length users - i
 
--- src/main.rt:162:5
 loop-holds : tie.Need-loop-holds Inv-loop μ-loop
 loop-holds c = search needs
 
--- src/main.rt:164:50
 mul-put-user : tie.Need-mul-put-user Inv-loop μ-loop
 mul-put-user c = search needs
 
--- src/main.rt:164:50
 shared-slice-read-put-user : tie.Need-shared-slice-read-put-user Inv-loop μ-loop
 shared-slice-read-put-user c = search needs
 
--- src/main.rt:163:9
 put-user-requires : tie.Need-put-user-requires Inv-loop μ-loop
-put-user-requires c κs =     let at = c .before .before .before .before .before in
+put-user-requires c κs = let at = c .before .before .before .before .before in
     let pre = at .before .before .before .before .before .before .before .before .before .before .pre in
     (pre .0, pre .1, pre .2, pre .3 (at .loop .i) (c .before .before .before .before .loop-test .taken), pre .4, omega (arith, pre .5, at .loop .inv .1), omega (arith, pre .6, at .loop .inv .2))
 
--- src/main.rt:162:9
 add-i : tie.Need-add-i Inv-loop μ-loop
-add-i c =     let test = c .before .before .before .before .before .before .before .before .before .before .before in
+add-i c = let test = c .before .before .before .before .before .before .before .before .before .before .before in
     let start = test .before .before .before .before .before .before .before .before .before .before .before in
     omega (arith, test .loop-test .taken, start .good .1 .1 .1 .1 .1 .1 .0 .0)
 
--- src/main.rt:162:5
 loop-less : tie.Need-loop-less Inv-loop μ-loop
 loop-less c = search needs
 
--- src/main.rt:162:5
 loop-again : tie.Need-loop-again Inv-loop μ-loop
 loop-again c = search needs
 
--- src/main.rt:145:1
 same-length : tie.Need-same-length Inv-loop μ-loop
 same-length c = search needs
 
--- src/main.rt:145:1
 same-length-2 : tie.Need-same-length-2 Inv-loop μ-loop
 same-length-2 c = search needs
 
--- src/main.rt:145:1
 same-length-3 : tie.Need-same-length-3 Inv-loop μ-loop
 same-length-3 c = search needs
 
--- src/main.rt:145:1
 returns : tie.Need-returns Inv-loop μ-loop
 returns c = search needs
 
