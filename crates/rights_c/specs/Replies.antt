@@ -10,6 +10,7 @@ use Rattle.lists.specs.declared.Listed.{Listed}
 use Rattle.lists.specs.declared.Listed.the-variants.{Written, Refused as ListRefused}
 use Rattle.blocks.specs.declared.Reading.{Reading}
 use Rattle.blocks.specs.declared.Reading.the-variants.{Tables, Refused as ReadRefused}
+use Rattle.answers.specs.declared.Reply.{Reply as EntryReply}
 use Rattle.rights_c.specs.declared.Reply.{Reply}
 
 abbrev pub reply : ℕ → ℕ → ℕ → ℕ → ℕ → Reply
