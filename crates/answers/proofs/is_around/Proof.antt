@@ -1,6 +1,6 @@
 use borrow.Author.Tests.{eq-eqb, ne-eqb}
 use borrow.Author.Needs.{needs}
-use Rattle.containment.specs.Contains.{around}
+use Rattle.containment.proofs.ContainsLaws.{around-test}
 use Rattle.answers.proofs.is_around.Statement.{statement}
 use Rattle.answers.proofs.is_around.Tie as tie
 
@@ -14,12 +14,10 @@ does-contain-requires : tie.Need-does-contain-requires
 does-contain-requires c κs = search needs
 
 returns : tie.Need-returns
-unfolding around
-returns c = rw (eq-eqb _ _ (c .if1 .taken))
+returns c = rw (around-test, eq-eqb _ _ (c .if1 .taken))
 
 returns-2 : tie.Need-returns-2
-unfolding around
-returns-2 c = rw (c .does-contain .ensures, c .before .wide2 .ensures, c .before .before .wide .ensures, ne-eqb _ _ (c .before .before .before .if1 .left))
+returns-2 c = rw (around-test, c .does-contain .ensures, c .before .wide2 .ensures, c .before .before .wide .ensures, ne-eqb _ _ (c .before .before .before .if1 .left))
 
 pub is-around-spec : {M : Type 1} → statement M
 is-around-spec =
