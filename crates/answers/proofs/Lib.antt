@@ -5,3 +5,5 @@ mod Keep
 pub mod AmongLaws
 pub mod ReadyLaws
 pub mod CallLaws
+pub mod ModeLaws
+pub mod GrantLaws

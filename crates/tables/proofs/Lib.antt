@@ -9,3 +9,4 @@ pub mod RowLaws
 pub mod SelectLaws
 pub mod AtomPlaces
 pub mod PartLaws
+pub mod AtomSides

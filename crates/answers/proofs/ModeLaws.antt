@@ -1,0 +1,19 @@
+-- The mode's arrows as the numbers at which a test holds, and the answer at a place. Assumes nothing.
+use mathlib.Core.Path.{_≡_, refl}
+use mathlib.Core.List.{List}
+use Prim.Native.Nat.{ℕ}
+use lib.Dec.{eqb}
+use Rattle.tables.specs.Search.{select}
+use Rattle.tables.specs.Rows.{arrowCount, arrowAt}
+use Rattle.answers.specs.Meaning.{answer}
+use Rattle.answers.specs.Among.{hasMode, modeArrows}
+use Rattle.answers.specs.Pairs.{userAt, fileAt, answerAt}
+
+pub mode-select : (arrows : List ℕ) (m : ℕ) → modeArrows arrows m ≡ select (λ k. eqb (arrowAt arrows k .mode) m) (arrowCount arrows)
+unfolding modeArrows hasMode
+mode-select arrows m = refl
+
+module _ (boxes rows arrows : List ℕ) (m : ℕ) where
+  pub answer-at : (p : ℕ) → answerAt boxes rows arrows m p ≡ answer rows arrows m (userAt boxes rows p) (fileAt boxes rows p)
+  unfolding answerAt
+  answer-at p = refl

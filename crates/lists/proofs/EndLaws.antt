@@ -1,0 +1,78 @@
+-- How the call ends: at checks 1 to 9, at check 10, or with what follows it. Assumes nothing.
+use mathlib.Core.Path.{_≡_, refl}
+use mathlib.Core.List.{List}
+use mathlib.Core.Option.{Option, none, some}
+use Prim.Native.Nat.{ℕ, _*_, _≤_}
+use lib.ListN.{length}
+use Rattle.tables.specs.Search.{orElse}
+use Rattle.tables.specs.Atoms.{pairCount}
+use Rattle.tables.specs.Refusals.{verdictOf, either}
+use Rattle.tables.specs.Faults.{tableFault, modeFault, roomFault}
+use Rattle.tables.specs.declared.Refusal.{Refusal}
+use Rattle.containment.specs.Contains.{loopFault}
+use Rattle.containment.specs.Scratch.{scratchFault, scratchAfter, filled}
+use Rattle.answers.specs.Calls.{unlessRefused}
+use Rattle.lists.specs.Calls.{listRoom, listEarly, listLate, Listing, Outcome}
+use Rattle.lists.specs.declared.Listed.{Listed}
+use Rattle.lists.specs.declared.Listed.the-variants.{Refused}
+use Rattle.answers.proofs.CallLaws.{chained}
+use Rattle.tables.proofs.TableLaws.{both-none, room-passed}
+use Rattle.containment.proofs.ScratchLaws.{scratch-room}
+
+module _ (boxes rows arrows : List ℕ) (m : ℕ) (s out work : List ℕ) where
+  -- checks 8 and 9
+  abbrev pub rest : Option Refusal
+  rest =
+      orElse (modeFault m)
+      (orElse (scratchFault (length boxes) s)
+      (orElse (roomFault 3 (length out) (listRoom boxes rows arrows m)) (roomFault 4 (length work) (pairCount boxes rows))))
+
+  pub rest-is : either (either (either (verdictOf (modeFault m)) (verdictOf (scratchFault (length boxes) s))) (verdictOf (roomFault 3 (length out) (listRoom boxes rows arrows m)))) (verdictOf (roomFault 4 (length work) (pairCount boxes rows)))
+      ≡ verdictOf rest
+  rest-is = chained (modeFault m) (scratchFault (length boxes) s) (roomFault 3 (length out) (listRoom boxes rows arrows m)) (roomFault 4 (length work) (pairCount boxes rows))
+
+  pub record Rooms : Type 0 where
+    pub scratch-room : length boxes * length boxes ≤ length s
+    pub out-room : listRoom boxes rows arrows m ≤ length out
+    pub work-room : pairCount boxes rows ≤ length work
+
+  pub early-tables : (x : Refusal) → tableFault boxes rows arrows ≡ some x → listEarly boxes rows arrows m s out work ≡ some x
+  unfolding listEarly orElse
+  early-tables x e = rw e
+
+  pub early-rest : tableFault boxes rows arrows ≡ none → listEarly boxes rows arrows m s out work ≡ rest
+  unfolding listEarly orElse
+  early-rest e = rw e
+
+  -- refused by checks 1 to 9
+  pub end-early : (x : Refusal) → listEarly boxes rows arrows m s out work ≡ some x → Outcome boxes rows arrows m s out work (Refused x) s out work
+  unfolding orElse scratchAfter unlessRefused
+  end-early x e = record { answered = rw (e, orElse) (refl, refl); scratch-after = rw e; work-after = rw (e, orElse) }
+
+  module _ (e : listEarly boxes rows arrows m s out work ≡ none) where
+    -- refused by check 10
+    pub end-loops : (x : Refusal) → loopFault boxes rows ≡ some x → Outcome boxes rows arrows m s out work (Refused x) (filled (length boxes) rows s) out work
+    unfolding orElse listLate scratchAfter unlessRefused
+    end-loops x l = record { answered = rw (e, orElse, l, orElse) (refl, refl); scratch-after = rw e; work-after = rw (e, orElse, l, orElse) }
+
+    -- check 12 and what follows it
+    pub end-listing : loopFault boxes rows ≡ none → (r : Listed) (out′ work′ : List ℕ) → Listing boxes rows arrows m out work r out′ work′
+        → Outcome boxes rows arrows m s out work r (filled (length boxes) rows s) out′ work′
+    unfolding orElse listLate scratchAfter
+    end-listing l r out′ work′ g = record {
+      answered = rw (e, orElse, l, orElse) (g .answered);
+      scratch-after = rw e;
+      work-after = rw (e, orElse, l, orElse) (g .work-after);
+    }
+
+  -- where checks 8 and 9 pass, there is room
+  pub rooms : rest ≡ none → Rooms
+  rooms e =
+      let a = both-none (modeFault m) _ e in
+      let b = both-none (scratchFault (length boxes) s) _ (a .1) in
+      let c = both-none (roomFault 3 (length out) (listRoom boxes rows arrows m)) _ (b .1) in
+      record {
+        scratch-room = scratch-room (length boxes) s (b .0);
+        out-room = room-passed 3 (length out) (listRoom boxes rows arrows m) (c .0);
+        work-room = room-passed 4 (length work) (pairCount boxes rows) (c .1);
+      }

@@ -1,0 +1,73 @@
+-- The loop that looks for an unclear pair and notes which pairs are granted. Assumes nothing.
+use mathlib.Core.Path.{_≡_, sym, ap, _∙_}
+use mathlib.Core.Bool.{Bool, true, false, cond}
+use mathlib.Core.List.{List, []}
+use mathlib.Core.Option.{none, some}
+use Prim.Native.Nat.{ℕ, _+_, _<_, _≤_}
+use native.Mathlib.Nat.{add-zero}
+use lib.ListN.{length, set}
+use Rattle.tables.specs.Search.{bit}
+use Rattle.tables.specs.Buffers.{build, written}
+use Rattle.tables.specs.Atoms.{pairCount}
+use Rattle.tables.specs.Refusals.{unclearPair, verdictOf}
+use Rattle.tables.specs.declared.Refusal.{Refusal}
+use Rattle.tables.specs.declared.Verdict.the-variants.{Passed}
+use Rattle.answers.specs.Meaning.{isGranted, isUnclear}
+use Rattle.answers.specs.Pairs.{userAt, fileAt, answerAt, unclearFault}
+use Rattle.answers.specs.declared.Entry.{Entry}
+use Rattle.lists.specs.Order.{anyOf, reached, granted}
+use Rattle.lists.specs.Steps.{Clear, workOf}
+use Rattle.tables.proofs.Tests.{not-false}
+use Rattle.tables.proofs.SearchLaws.{Searched, search-none, search-more, search-here, first-none, given-none}
+use Rattle.tables.proofs.BufferLaws.{written-none, written-build, written-length, build-length}
+use Rattle.answers.proofs.PairLaws.{unclearAt, unclear-is}
+
+module _ (boxes rows arrows : List ℕ) (m : ℕ) where
+  abbrev unclear : ℕ → Bool
+  unclear p = isUnclear (answerAt boxes rows arrows m p)
+
+  abbrev place : ℕ → Refusal
+  place p = unclearPair m (userAt boxes rows p) (fileAt boxes rows p)
+
+  abbrev shown : ℕ → ℕ
+  shown p = bit (granted boxes rows arrows m p) + cond (reached boxes rows arrows [] p) 2 0
+
+  module _ (old : List ℕ) where
+    -- no pair before p is unclear, and the bytes before p are those of the empty list
+    pub record Filling (bytes : List ℕ) (p : ℕ) : Type 0 where
+      pub clear : Searched unclear place p
+      pub filled : bytes ≡ written (build shown p) old
+
+    pub filling-none : Filling old 0
+    unfolding build
+    filling-none = record { clear = search-none unclear place; filled = sym (written-none old) }
+
+    pub filling-length : (bytes : List ℕ) (p : ℕ) → p ≤ length old → Filling bytes p → length bytes ≡ length old
+    filling-length bytes p h f = ap length (f .filled) ∙ written-length (build shown p) old (rw build-length h)
+
+    pub filling-next : (bytes : List ℕ) (p : ℕ) (e : Entry) (b : ℕ) → p < length old → e ≡ answerAt boxes rows arrows m p → isUnclear e ≡ false
+        → b ≡ bit (isGranted e) → Filling bytes p → Filling (set bytes p b) (p + 1)
+    unfolding granted reached anyOf
+    filling-next bytes p e b h i u g f =
+        let same : b ≡ shown p = g ∙ rw i (sym (add-zero (bit (isGranted (answerAt boxes rows arrows m p))))) in
+        record {
+          clear = search-more unclear place p (f .clear) (rw i at u);
+          filled = rw (same, f .filled) (written-build shown p old h);
+        }
+
+    pub filling-unclear : (bytes : List ℕ) (p : ℕ) (e : Entry) → p < pairCount boxes rows → e ≡ answerAt boxes rows arrows m p → isUnclear e ≡ true
+        → Filling bytes p → unclearFault boxes rows arrows m ≡ some (place p)
+    unfolding unclearAt
+    filling-unclear bytes p e h i u f =
+        unclear-is boxes rows arrows m ∙ search-here unclear place (pairCount boxes rows) p (f .clear) (rw i at u) h
+
+    pub filling-done : (bytes : List ℕ) (p : ℕ) → p ≡ pairCount boxes rows → Filling bytes p
+        → (Passed ≡ verdictOf (unclearFault boxes rows arrows m)) × (bytes ≡ written (workOf boxes rows arrows m []) old)
+    unfolding workOf unclearAt
+    filling-done bytes p e f = (rw (unclear-is boxes rows arrows m, ← e, f .clear), rw e at (f .filled))
+
+  -- where check 12 passes, no pair is unclear
+  pub all-clear : unclearFault boxes rows arrows m ≡ none → Clear boxes rows arrows m
+  unfolding unclearAt
+  all-clear e p h =
+      not-false (unclear p) (given-none (unclear p) (place p) (first-none _ (pairCount boxes rows) (sym (unclear-is boxes rows arrows m) ∙ e) p h))

@@ -1,0 +1,206 @@
+-- A list grown by arrows that may follow it stays honest and has no arrow twice; in the end nothing more can be added.
+-- Assumes nothing.
+use mathlib.Core.Path.{_≡_, refl, sym, subst}
+use mathlib.Core.Bool.{Bool, true, false, not, _&&_, _||_}
+use mathlib.Core.List.{List, [], _∷_, _++_}
+use mathlib.Core.Option.{Option, none, some}
+use Prim.Native.Nat.{ℕ, zero, suc, _<_, _≤_}
+use native.Mathlib.Omega.{arith}
+use lib.Dec.{T, T-not, not-T, eqb, ltb, ltb→lt}
+use lib.ListN.{length}
+use Rattle.tables.specs.Search.{every, lowest, select}
+use Rattle.tables.specs.Rows.{arrowCount, arrowAt}
+use Rattle.tables.specs.Atoms.{pairCount}
+use Rattle.lists.specs.Order.{anyOf, allOf, passes, distinct, firstOf, ofMode, meets, reached, right, honest}
+use Rattle.lists.specs.Greedy.{new, fits, addable, grow, greedy}
+use Rattle.tables.proofs.Tests.{T?, and-T, T-and, T-or₁, T-or₂}
+use Rattle.tables.proofs.SearchLaws.{lowest-some, lowest-none, every-at, every-is, some-none}
+use Rattle.tables.proofs.BufferLaws.{select-most}
+use Rattle.lists.proofs.CountLaws.{anyOf-snoc, allOf-snoc, distinct-snoc, anyOf-has, select-fewer}
+use Rattle.lists.proofs.MatchLaws.{Honest, Fits, Full, honest-none, honest-snoc}
+
+-- ---- tests
+
+-- a implies b
+pub implies : (a b : Bool) → (T a → T b) → T (not a || b)
+implies true b g = g tt
+implies false b g = tt
+
+pub implied : (a b : Bool) → T (not a || b) → T a → T b
+implied true b t h = t
+implied false b t h = absurd h
+
+passes-at : (t : ℕ → Bool) (o : Option ℕ) → T (passes t o) → (k : ℕ) → o ≡ some k → T (t k)
+unfolding passes
+passes-at t none h k e = absurd (some-none (sym e))
+passes-at t (some j) h k e = let i : j ≡ k = cc in subst (λ (z : ℕ). T (t z)) i h
+
+passes-is : (t : ℕ → Bool) (o : Option ℕ) → ((k : ℕ) → o ≡ some k → T (t k)) → T (passes t o)
+unfolding passes
+passes-is t none h = tt
+passes-is t (some j) h = h j refl
+
+-- a test that does not fail everywhere holds somewhere
+somewhere : (t : ℕ → Bool) (n : ℕ) → T (not (every (λ p. not (t p)) n)) → (p : ℕ) × (p < n) × T (t p)
+somewhere t n h = go (lowest t n) refl
+  where
+    go : (r : Option ℕ) → lowest t n ≡ r → (p : ℕ) × (p < n) × T (t p)
+    go (some p) e = let f = lowest-some t n p e in (p, f .0, f .1)
+    go none e = absurd (T-not (every (λ p. not (t p)) n) h (every-is (λ p. not (t p)) n (λ p l. not-T (t p) (lowest-none t n e p l))))
+
+pub not-nowhere : (t : ℕ → Bool) (n p : ℕ) → p < n → T (t p) → T (not (every (λ p. not (t p)) n))
+not-nowhere t n p l h = not-T (every (λ p. not (t p)) n) (λ e. T-not (t p) (every-at (λ p. not (t p)) n e p l) h)
+
+pub ofMode-there : (arrows : List ℕ) (m k : ℕ) → T (ofMode arrows m k) → k < arrowCount arrows
+unfolding ofMode
+ofMode-there arrows m k t = ltb→lt k (arrowCount arrows) (and-T (ltb k (arrowCount arrows)) (eqb (arrowAt arrows k .mode) m) t .0)
+
+module _ (boxes rows arrows : List ℕ) (m : ℕ) where
+  abbrev R : ℕ → ℕ → Bool
+  R = meets boxes rows arrows
+
+  abbrev Right : ℕ → ℕ → Bool
+  Right = right boxes rows arrows m
+
+  abbrev pairs : ℕ
+  pairs = pairCount boxes rows
+
+  -- ---- what the tests of lists say
+
+  pub honest-own : (l : List ℕ) → T (honest boxes rows arrows m l) → T (allOf (ofMode arrows m) l)
+  unfolding honest
+  honest-own l t = and-T (allOf (ofMode arrows m) l) _ t .0
+
+  pub honest-right : (l : List ℕ) → T (honest boxes rows arrows m l) → Honest pairs R Right l
+  unfolding honest
+  honest-right l t p k b e =
+      passes-at (Right p) (firstOf (R p) l)
+      (every-at (λ p. passes (Right p) (firstOf (R p) l)) pairs (and-T (allOf (ofMode arrows m) l) _ t .1) p b) k e
+
+  pub honest-is : (l : List ℕ) → T (allOf (ofMode arrows m) l) → Honest pairs R Right l → T (honest boxes rows arrows m l)
+  unfolding honest
+  honest-is l o h =
+      T-and (allOf (ofMode arrows m) l) _ o
+      (every-is (λ p. passes (Right p) (firstOf (R p) l)) pairs (λ p b. passes-is (Right p) (firstOf (R p) l) (λ k e. h p k b e)))
+
+  new-is : (l : List ℕ) (k p : ℕ) → T (new boxes rows arrows l k p) → T (R p k) × (T (anyOf (R p) l) → ⊥)
+  unfolding new reached
+  new-is l k p t = let b = and-T (R p k) _ t in (b .0, T-not (anyOf (R p) l) (b .1))
+
+  is-new : (l : List ℕ) (k p : ℕ) → T (R p k) → (T (anyOf (R p) l) → ⊥) → T (new boxes rows arrows l k p)
+  unfolding new reached
+  is-new l k p t n = T-and (R p k) _ t (not-T (anyOf (R p) l) n)
+
+  fits-at : (l : List ℕ) (k : ℕ) → T (fits boxes rows arrows m l k) → Fits pairs R Right l k
+  unfolding fits
+  fits-at l k t p b r n =
+      implied (new boxes rows arrows l k p) (Right p k)
+      (every-at (λ p. not (new boxes rows arrows l k p) || Right p k) pairs t p b) (is-new l k p r n)
+
+  fits-is : (l : List ℕ) (k : ℕ) → Fits pairs R Right l k → T (fits boxes rows arrows m l k)
+  unfolding fits
+  fits-is l k f =
+      every-is (λ p. not (new boxes rows arrows l k p) || Right p k) pairs
+      (λ p b. implies (new boxes rows arrows l k p) (Right p k) (λ t. let n = new-is l k p t in f p b (n .0) (n .1)))
+
+  -- arrow k would be the first to reach some pair
+  abbrev anyNew : List ℕ → ℕ → Bool
+  anyNew l k = not (every (λ p. not (new boxes rows arrows l k p)) pairs)
+
+  adds : (l : List ℕ) (k : ℕ) → T (addable boxes rows arrows m l k)
+      → T (ofMode arrows m k) × Fits pairs R Right l k × T (anyNew l k)
+  unfolding addable
+  adds l k t =
+      let b = and-T (ofMode arrows m k) (fits boxes rows arrows m l k && anyNew l k) t in
+      let c = and-T (fits boxes rows arrows m l k) (anyNew l k) (b .1) in
+      (b .0, fits-at l k (c .0), c .1)
+
+  pub addable-own : (l : List ℕ) (k : ℕ) → T (addable boxes rows arrows m l k) → T (ofMode arrows m k)
+  addable-own l k t = adds l k t .0
+
+  -- no arrow can be added: the list is full
+  pub full : (l : List ℕ) → ((k : ℕ) → T (ofMode arrows m k) → T (addable boxes rows arrows m l k) → ⊥) → Full pairs R Right (ofMode arrows m) l
+  unfolding addable
+  full l none′ k o f p b r = go (T? (anyOf (R p) l))
+    where
+      go : Dec (T (anyOf (R p) l)) → T (anyOf (R p) l)
+      go (yes c) = c
+      go (no d) =
+          absurd
+          (none′ k o
+          (T-and (ofMode arrows m k) _ o
+          (T-and (fits boxes rows arrows m l k) _ (fits-is l k f) (not-nowhere (new boxes rows arrows l k) pairs p b (is-new l k p r d)))))
+
+  -- ---- one more arrow
+
+  -- honest, and no arrow twice
+  pub record Grown (l : List ℕ) : Type 0 where
+    pub is-honest : T (honest boxes rows arrows m l)
+    pub once : T (distinct l)
+
+  pub grown-none : Grown []
+  unfolding allOf distinct
+  grown-none = record { is-honest = honest-is [] tt (honest-none pairs R Right); once = tt }
+
+  pub grown-more : (l : List ℕ) (k : ℕ) → Grown l → T (addable boxes rows arrows m l k) → Grown (l ++ (k ∷ []))
+  grown-more l k g t =
+      let a = adds l k t in
+      let w = somewhere (new boxes rows arrows l k) pairs (a .2) in
+      let n = new-is l k (w .0) (w .2) in
+      record {
+        is-honest = honest-is (l ++ (k ∷ []))
+            (allOf-snoc (ofMode arrows m) l k (honest-own l (g .is-honest)) (a .0))
+            (honest-snoc pairs R Right l k (honest-right l (g .is-honest)) (a .1));
+        once = distinct-snoc l k (g .once) (λ h. n .1 (anyOf-has (R (w .0)) l k h (n .0)));
+      }
+
+  -- ---- growing comes to an end: fewer arrows would be the first to reach some pair
+
+  fewer : (l : List ℕ) (k n : ℕ) → k < n → T (anyNew l k) → length (select (anyNew (l ++ (k ∷ []))) n) < length (select (anyNew l) n)
+  fewer l k n i t =
+      select-fewer (anyNew (l ++ (k ∷ []))) (anyNew l) n
+      (λ j z h.
+      let w = somewhere (new boxes rows arrows (l ++ (k ∷ [])) j) pairs h in
+      let b = new-is (l ++ (k ∷ [])) j (w .0) (w .2) in
+      not-nowhere (new boxes rows arrows l j) pairs (w .0) (w .1) (is-new l j (w .0) (b .0) (λ c. b .1 (rw anyOf-snoc (T-or₁ (anyOf (R (w .0)) l) _ c)))))
+      k i
+      (λ h.
+      let w = somewhere (new boxes rows arrows (l ++ (k ∷ [])) k) pairs h in
+      let b = new-is (l ++ (k ∷ [])) k (w .0) (w .2) in
+      b .1 (rw anyOf-snoc (T-or₂ (anyOf (R (w .0)) l) _ (b .0))))
+      t
+
+  grow-grown : (n : ℕ) (l : List ℕ) → Grown l → Grown (grow boxes rows arrows m n l)
+  unfolding grow
+  grow-grown zero l g = g
+  grow-grown (suc n) l g = go (lowest (addable boxes rows arrows m l) (arrowCount arrows)) refl (λ k. grow-grown n (l ++ (k ∷ [])))
+    where
+      go : (r : Option ℕ) → lowest (addable boxes rows arrows m l) (arrowCount arrows) ≡ r
+          → ((k : ℕ) → Grown (l ++ (k ∷ [])) → Grown (grow boxes rows arrows m n (l ++ (k ∷ []))))
+          → Grown (elim r [ none ↦ l | some k ↦ grow boxes rows arrows m n (l ++ (k ∷ [])) ])
+      go none e ih = g
+      go (some k) e ih = ih k (grown-more l k g (lowest-some (addable boxes rows arrows m l) (arrowCount arrows) k e .1))
+
+  grow-full : (n : ℕ) (l : List ℕ) → length (select (anyNew l) (arrowCount arrows)) ≤ n
+      → Full pairs R Right (ofMode arrows m) (grow boxes rows arrows m n l)
+  unfolding grow
+  grow-full zero l h =
+      full l
+      (λ k o t. absurd (omega (arith, fewer l k (arrowCount arrows) (ofMode-there arrows m k o) (adds l k t .2))))
+  grow-full (suc n) l h = go (lowest (addable boxes rows arrows m l) (arrowCount arrows)) refl (λ k. grow-full n (l ++ (k ∷ [])))
+    where
+      go : (r : Option ℕ) → lowest (addable boxes rows arrows m l) (arrowCount arrows) ≡ r
+          → ((k : ℕ) → length (select (anyNew (l ++ (k ∷ []))) (arrowCount arrows)) ≤ n → Full pairs R Right (ofMode arrows m) (grow boxes rows arrows m n (l ++ (k ∷ []))))
+          → Full pairs R Right (ofMode arrows m) (elim r [ none ↦ l | some k ↦ grow boxes rows arrows m n (l ++ (k ∷ [])) ])
+      go none e ih = full l (λ k o. lowest-none (addable boxes rows arrows m l) (arrowCount arrows) e k (ofMode-there arrows m k o))
+      go (some k) e ih =
+          let f = lowest-some (addable boxes rows arrows m l) (arrowCount arrows) k e in
+          ih k (omega (arith, fewer l k (arrowCount arrows) (f .0) (adds l k (f .1) .2)))
+
+  pub greedy-grown : Grown (greedy boxes rows arrows m)
+  unfolding greedy
+  greedy-grown = grow-grown (arrowCount arrows) [] grown-none
+
+  pub greedy-full : Full pairs R Right (ofMode arrows m) (greedy boxes rows arrows m)
+  unfolding greedy
+  greedy-full = grow-full (arrowCount arrows) [] (select-most (anyNew []) (arrowCount arrows))

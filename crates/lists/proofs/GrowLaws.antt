@@ -1,0 +1,291 @@
+-- The work bytes show the list: which arrow they let follow, how marking goes on with them, and what they leave. Assumes nothing.
+use mathlib.Core.Path.{_≡_, refl, sym, ap, ap₂, _∙_}
+use mathlib.Core.Bool.{Bool, true, false, not, cond, _&&_, _||_}
+use mathlib.Core.List.{List, [], _∷_, _++_}
+use Prim.Native.Nat.{ℕ, zero, suc, _+_, _<_, _≤_}
+use native.Mathlib.Decide.{decLt, ℕ-discrete}
+use native.Mathlib.Omega.{arith}
+use borrow.Author.Tests.{eq-eqb, ne-eqb}
+use lib.Dec.{T, eqb, ltb, lt→ltb}
+use lib.ListN.{length, getD, length-append}
+use lib.Seq.{ext-getD}
+use Rattle.tables.specs.Search.{every, select, bit}
+use Rattle.tables.specs.Buffers.{build, written, zeros}
+use Rattle.tables.specs.Rows.{arrowCount, arrowAt}
+use Rattle.tables.specs.Atoms.{pairCount}
+use Rattle.tables.specs.declared.Arrow.{Arrow}
+use Rattle.answers.specs.Meaning.{positive, negative, isGranted, isUnclear}
+use Rattle.answers.specs.Pairs.{answerAt}
+use Rattle.answers.specs.Among.{modeArrows}
+use Rattle.answers.specs.declared.Entry.{Entry}
+use Rattle.lists.specs.Order.{anyOf, gives, ofMode, meets, reached, granted, right}
+use Rattle.lists.specs.Greedy.{new, fits, addable, leftBy}
+use Rattle.lists.specs.Steps.{touches, stops, follows, followsAt, marked, Behind, leftIn, Clear, workOf}
+use Rattle.tables.proofs.Tests.{and-T, T-and, T-true}
+use Rattle.tables.proofs.BufferLaws.{written-length, written-at, written-rest, build-length, build-at, zeros-length, zeros-at}
+use Rattle.tables.proofs.SelectLaws.{select-found, select-has}
+use Rattle.answers.proofs.ModeLaws.{mode-select}
+use Rattle.lists.proofs.CountLaws.{anyOf-snoc, select-within, room}
+use Rattle.lists.proofs.GreedyLaws.{Grown, grown-more, honest-own, addable-own, ofMode-there}
+use Rattle.lists.proofs.OrderLaws.{first-same}
+use Rattle.lists.proofs.StepLaws.{stops-same, stops-open}
+
+-- ---- places written twice
+
+-- what is written over at least as many places
+pub written-over : (a b old : List ℕ) → length b ≤ length a → length a ≤ length old → written a (written b old) ≡ written a old
+written-over a b old h l =
+    let lb = written-length b old (omega arith) in
+    let la = written-length a old l in
+    let lab = written-length a (written b old) (omega arith) in
+    ext-getD 0 (written a (written b old)) (written a old) (lab ∙ lb ∙ sym la) (λ p k. go p (decLt p (length a)))
+  where
+    go : (p : ℕ) → Dec (p < length a) → getD (written a (written b old)) p 0 ≡ getD (written a old) p 0
+    go p (yes k) = written-at a (written b old) p k ∙ sym (written-at a old p k)
+    go p (no k) =
+        written-rest a (written b old) p (omega arith) ∙ written-rest b old p (omega arith) ∙ sym (written-rest a old p (omega arith))
+
+pub build-same : (g h : ℕ → ℕ) (n : ℕ) → ((k : ℕ) → k < n → g k ≡ h k) → build g n ≡ build h n
+unfolding build
+build-same g h zero e = refl
+build-same g h (suc n) e = rw (build-same g h n (λ k l. e k (omega arith)), e n (omega arith))
+
+every-same : (s t : ℕ → Bool) (n : ℕ) → ((k : ℕ) → k < n → s k ≡ t k) → every s n ≡ every t n
+unfolding every
+every-same s t zero e = refl
+every-same s t (suc n) e = rw (every-same s t n (λ k l. e k (omega arith)), e n (omega arith))
+
+-- ---- a work byte: granted, reached
+
+byte-open : (g r : Bool) → ltb (bit g + cond r 2 0) 2 ≡ not r
+unfolding bit
+byte-open true true = refl
+byte-open true false = refl
+byte-open false true = refl
+byte-open false false = refl
+
+byte-left : (g r : Bool) → eqb (bit g + cond r 2 0) 1 ≡ (g && not r)
+unfolding bit
+byte-left true true = refl
+byte-left true false = refl
+byte-left false true = refl
+byte-left false false = refl
+
+-- the byte once an arrow that reaches the pair or not, t, is in the list
+byte-marked : (g r t : Bool) → (bit g + cond r 2 0) + cond (t && not r) 2 0 ≡ bit g + cond (r || t) 2 0
+unfolding bit
+byte-marked true true true = refl
+byte-marked true true false = refl
+byte-marked true false true = refl
+byte-marked true false false = refl
+byte-marked false true true = refl
+byte-marked false true false = refl
+byte-marked false false true = refl
+byte-marked false false false = refl
+
+ended : (t b : Bool) → false ≡ ((t && false) && not b)
+ended true b = refl
+ended false b = refl
+
+turned : (t b : Bool) → (not b && t) ≡ ((t && true) && not b)
+turned true true = refl
+turned true false = refl
+turned false true = refl
+turned false false = refl
+
+-- an arrow that reaches the pair or not, t, against a byte to skip: 2, and s
+byte-new : (g r t : Bool) → (ltb (bit g + cond r 2 0) 2 && (not (eqb (bit g + cond r 2 0) 2) && t)) ≡ (t && not r)
+unfolding bit
+byte-new true true true = refl
+byte-new true true false = refl
+byte-new true false true = refl
+byte-new true false false = refl
+byte-new false true true = refl
+byte-new false true false = refl
+byte-new false false true = refl
+byte-new false false false = refl
+
+byte-wrong : (g r t : Bool) (s : ℕ)
+    → (ltb (bit g + cond r 2 0) 2 && (not (eqb (bit g + cond r 2 0) s) && t)) ≡ ((t && not r) && not (eqb (bit g) s))
+unfolding bit
+byte-wrong true true t s = ended t (eqb 1 s)
+byte-wrong false true t s = ended t (eqb 0 s)
+byte-wrong true false t s = turned t (eqb 1 s)
+byte-wrong false false t s = turned t (eqb 0 s)
+
+eqb-turn : (m n : ℕ) → eqb m n ≡ eqb n m
+eqb-turn m n = go (ℕ-discrete m n)
+  where
+    go : Dec (m ≡ n) → eqb m n ≡ eqb n m
+    go (yes e) = rw (eq-eqb m n e, eq-eqb n m (sym e))
+    go (no d) = rw (ne-eqb m n d, ne-eqb n m (λ e. d (sym e)))
+
+-- where the answer is clear, the sign is to be that of the byte
+gives-clear : (s : ℕ) (e : Entry) → isUnclear e ≡ false → gives s e ≡ eqb (bit (isGranted e)) s
+unfolding gives bit
+gives-clear s e u = rw u (go (isGranted e))
+  where
+    flat : (b : Bool) → (b && true) ≡ b
+    flat true = refl
+    flat false = refl
+
+    go : (g : Bool) → cond g (eqb s positive) (eqb s negative && true) ≡ eqb (bit g) s
+    go true = eqb-turn s 1
+    go false = flat (eqb s 0) ∙ eqb-turn s 0
+
+module _ (boxes rows arrows : List ℕ) (m : ℕ) where
+  abbrev pairs : ℕ
+  pairs = pairCount boxes rows
+
+  abbrev shown : List ℕ → ℕ → ℕ
+  shown l p = bit (granted boxes rows arrows m p) + cond (reached boxes rows arrows l p) 2 0
+
+  pub work-length : (l : List ℕ) → length (workOf boxes rows arrows m l) ≡ pairs
+  unfolding workOf
+  work-length l = build-length (shown l) pairs
+
+  -- the byte of a pair
+  byte-at : (l w : List ℕ) (p : ℕ) → p < pairs → getD (written (workOf boxes rows arrows m l) w) p 0 ≡ shown l p
+  unfolding workOf
+  byte-at l w p h = written-at (build (shown l) pairs) w p (rw build-length h) ∙ build-at (shown l) pairs p h
+
+  module _ (l w : List ℕ) where
+    stops-new : (k p : ℕ) → p < pairs → stops boxes rows (arrowAt arrows k) (written (workOf boxes rows arrows m l) w) 2 p ≡ new boxes rows arrows l k p
+    unfolding stops new touches meets
+    stops-new k p h =
+        rw (byte-at l w p h)
+        (byte-new (granted boxes rows arrows m p) (reached boxes rows arrows l p) (meets boxes rows arrows p k))
+
+    stops-wrong : Clear boxes rows arrows m → (k p : ℕ) → p < pairs
+        → stops boxes rows (arrowAt arrows k) (written (workOf boxes rows arrows m l) w) (arrowAt arrows k .sign) p
+        ≡ (new boxes rows arrows l k p && not (right boxes rows arrows m p k))
+    unfolding stops new touches meets right granted
+    stops-wrong c k p h =
+        rw (byte-at l w p h, gives-clear (arrowAt arrows k .sign) (answerAt boxes rows arrows m p) (c p h))
+        (byte-wrong (granted boxes rows arrows m p) (reached boxes rows arrows l p) (meets boxes rows arrows p k) (arrowAt arrows k .sign))
+
+    -- so an arrow of the mode follows by the bytes exactly if it can be added to the list
+    follows-addable : Clear boxes rows arrows m → (k : ℕ) → T (ofMode arrows m k)
+        → follows boxes rows (arrowAt arrows k) (written (workOf boxes rows arrows m l) w) ≡ addable boxes rows arrows m l k
+    unfolding follows addable fits
+    follows-addable c k o =
+        rw (T-true (ofMode arrows m k) o)
+        (ap₂ (λ (a b : Bool). a && not b)
+        (every-same _ _ pairs (λ p h. ap not (stops-wrong c k p h) ∙ unless (new boxes rows arrows l k p) (right boxes rows arrows m p k)))
+        (every-same _ _ pairs (λ p h. ap not (stops-new k p h))))
+      where
+        unless : (a b : Bool) → not (a && not b) ≡ (not a || b)
+        unless true true = refl
+        unless true false = refl
+        unless false b = refl
+
+    -- and the pair that they leave is the one that the list leaves
+    pub left-by : leftIn boxes rows m (written (workOf boxes rows arrows m l) w) ≡ leftBy boxes rows arrows m l
+    unfolding leftIn leftBy
+    left-by =
+        first-same _ _ pairs
+        (λ p h. rw (byte-at l w p h, byte-left (granted boxes rows arrows m p) (reached boxes rows arrows l p)))
+
+    marked-shown : (k p : ℕ) → p < pairs → marked boxes rows (arrowAt arrows k) (written (workOf boxes rows arrows m l) w) p ≡ shown (l ++ (k ∷ [])) p
+    unfolding marked reached new
+    marked-shown k p h =
+        rw (byte-at l w p h, stops-new k p h, anyOf-snoc (meets boxes rows arrows p) l k)
+        (byte-marked (granted boxes rows arrows m p) (anyOf (meets boxes rows arrows p) l) (meets boxes rows arrows p k))
+
+    -- marking the pairs of an arrow goes on to the list with the arrow at its end
+    pub mark-shown : pairs ≤ length w → (k : ℕ)
+        → written (build (marked boxes rows (arrowAt arrows k) (written (workOf boxes rows arrows m l) w)) pairs) (written (workOf boxes rows arrows m l) w)
+        ≡ written (workOf boxes rows arrows m (l ++ (k ∷ []))) w
+    unfolding workOf
+    mark-shown h k =
+        ap (λ (x : List ℕ). written x (written (workOf boxes rows arrows m l) w)) (build-same _ (shown (l ++ (k ∷ []))) pairs (marked-shown k))
+        ∙ written-over (workOf boxes rows arrows m (l ++ (k ∷ []))) (workOf boxes rows arrows m l) w
+        (omega (arith, work-length (l ++ (k ∷ [])), work-length l)) (omega (arith, work-length (l ++ (k ∷ []))))
+
+  -- ---- the arrows of the mode, by their places
+
+  module _ (own : List ℕ) (e : own ≡ modeArrows arrows m) where
+    abbrev hasMode : ℕ → Bool
+    hasMode k = eqb (arrowAt arrows k .mode) m
+
+    pub own-mode : (t : ℕ) → t < length own → T (ofMode arrows m (getD own t 0))
+    unfolding ofMode
+    own-mode t h =
+        let i = e ∙ mode-select arrows m in
+        let f = select-found hasMode (arrowCount arrows) t (rw i at h) in
+        rw i (T-and (ltb (getD (select hasMode (arrowCount arrows)) t 0) (arrowCount arrows)) _ (lt→ltb _ (arrowCount arrows) (f .0)) (f .1))
+
+    own-has : (k : ℕ) → T (ofMode arrows m k) → (t : ℕ) × (t < length own) × (getD own t 0 ≡ k)
+    unfolding ofMode
+    own-has k o =
+        let i = e ∙ mode-select arrows m in
+        rw i (select-has hasMode (arrowCount arrows) k (ofMode-there arrows m k o) (and-T (ltb k (arrowCount arrows)) (hasMode k) o .1))
+
+    -- a list with no arrow twice is no longer
+    pub own-room : (l : List ℕ) → Grown boxes rows arrows m l → length l ≤ length own
+    unfolding ofMode
+    own-room l g =
+        let i = e ∙ mode-select arrows m in
+        let r = room (ofMode arrows m) (arrowCount arrows) l (ofMode-there arrows m) (honest-own boxes rows arrows m l (g .is-honest)) (g .once) in
+        let s = select-within (ofMode arrows m) hasMode (arrowCount arrows) (λ k h o. and-T (ltb k (arrowCount arrows)) (hasMode k) o .1) in
+        omega (arith, ap length i)
+
+    -- ---- the turns of the loop that grows the list
+
+    module _ (c : Clear boxes rows arrows m) (l w : List ℕ) where
+      followsAt-addable : (t : ℕ) → t < length own
+          → followsAt boxes rows arrows own (written (workOf boxes rows arrows m l) w) t ≡ addable boxes rows arrows m l (getD own t 0)
+      unfolding followsAt
+      followsAt-addable t h = follows-addable l w c (getD own t 0) (own-mode t h)
+
+      -- the arrow that was picked is added
+      pub grown-next : (t : ℕ) → t < length own → T (followsAt boxes rows arrows own (written (workOf boxes rows arrows m l) w) t)
+          → Grown boxes rows arrows m l → Grown boxes rows arrows m (l ++ (getD own t 0 ∷ []))
+      grown-next t h f g = grown-more boxes rows arrows m l (getD own t 0) g (rw (followsAt-addable t h) at f)
+
+      pub room-next : (t : ℕ) → t < length own → T (followsAt boxes rows arrows own (written (workOf boxes rows arrows m l) w) t)
+          → Grown boxes rows arrows m l → length l < length own
+      room-next t h f g = omega (arith, length-append l (getD own t 0 ∷ []), own-room (l ++ (getD own t 0 ∷ [])) (grown-next t h f g))
+
+      -- none was picked: nothing can be added
+      pub none-next : (t : ℕ) → length own ≤ t → ((k : ℕ) → k < t → T (followsAt boxes rows arrows own (written (workOf boxes rows arrows m l) w) k) → ⊥)
+          → (k : ℕ) → T (addable boxes rows arrows m l k) → ⊥
+      none-next t g n k a =
+          let i = own-has k (addable-own boxes rows arrows m l k a) in
+          n (i .0) (omega (arith, i .1)) (rw (followsAt-addable (i .0) (i .1), i .2) a)
+
+-- ---- the pointers stay behind while pairs are marked
+
+-- a byte that changes becomes that of a reached pair
+abbrev pub Grew : List ℕ → List ℕ → Type 0
+Grew work work′ = (p : ℕ) → getD work′ p 0 < 2 → getD work′ p 0 ≡ getD work p 0
+
+pub mark-grew : (boxes rows : List ℕ) (a : Arrow) (work : List ℕ) (n : ℕ) → Grew work (written (build (marked boxes rows a work) n) work)
+unfolding marked
+mark-grew boxes rows a work n p l = go (decLt p n)
+  where
+    step : (b : Bool) → getD work p 0 + cond b 2 0 < 2 → getD work p 0 + cond b 2 0 ≡ getD work p 0
+    step true h = absurd (omega arith)
+    step false h = omega arith
+
+    go : Dec (p < n) → getD (written (build (marked boxes rows a work) n) work) p 0 ≡ getD work p 0
+    go (yes h) =
+        let e = written-at (build (marked boxes rows a work) n) work p (rw build-length h) ∙ build-at (marked boxes rows a work) n p h in
+        e ∙ step (stops boxes rows a work 2 p) (rw e at l)
+    go (no h) = written-rest (build (marked boxes rows a work) n) work p (rw build-length (omega arith))
+
+pub behind-grew : (boxes rows arrows own : List ℕ) (skip : Arrow → ℕ) (work work′ pointers : List ℕ) → Grew work work′
+    → Behind boxes rows arrows own skip work pointers → Behind boxes rows arrows own skip work′ pointers
+behind-grew boxes rows arrows own skip work work′ pointers g b = record {
+  room = b .room;
+  passed = λ t h p l s.
+      let a = arrowAt arrows (getD own t 0) in
+      b .passed t h p l (rw (stops-same boxes rows a work′ work (skip a) p (g p (stops-open boxes rows a work′ (skip a) p s))) at s);
+}
+
+pub behind-none : (boxes rows arrows own : List ℕ) (skip : Arrow → ℕ) (work : List ℕ) (n : ℕ) → length own ≤ n
+    → Behind boxes rows arrows own skip work (zeros n)
+behind-none boxes rows arrows own skip work n h = record {
+  room = rw zeros-length h;
+  passed = λ t l p k. absurd (omega (arith, zeros-at n t (omega arith)));
+}

@@ -1,0 +1,13 @@
+-- Laws for the proofs of this crate.
+pub mod CountLaws
+pub mod MatchLaws
+pub mod PlaceLaws
+pub mod GreedyLaws
+pub mod OrderLaws
+pub mod StepLaws
+pub mod GrowLaws
+pub mod TurnLaws
+pub mod FillLaws
+pub mod CallLaws
+pub mod ReadyLaws
+pub mod EndLaws

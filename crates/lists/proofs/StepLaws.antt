@@ -1,0 +1,116 @@
+-- The tests of the steps, and how they go on from turn to turn. Assumes nothing.
+use mathlib.Core.Path.{_≡_, sym, ap, _∙_}
+use mathlib.Core.Logic.{_≢_}
+use mathlib.Core.Bool.{Bool, true, false, not, cond}
+use mathlib.Core.List.{List}
+use Prim.Native.Nat.{ℕ, _+_, _<_, _≤_}
+use native.Mathlib.Decide.{decLt, ℕ-discrete}
+use native.Mathlib.Numerals.{add-one}
+use native.Mathlib.Omega.{arith}
+use borrow.Author.Tests.{le-ltb, lt-ltb, eq-eqb, ne-eqb}
+use lib.Dec.{T, T-not, not-T, ltb, ltb→lt}
+use lib.ListN.{length, getD, set, take, replicate, length-set, length-replicate, replicate-append-replicate}
+use lib.Seq.{getD-set-same, getD-set-other, length-take-le, take-suc}
+use Rattle.tables.specs.Search.{every}
+use Rattle.tables.specs.Buffers.{build, written}
+use Rattle.tables.specs.Rows.{arrowAt}
+use Rattle.tables.specs.Atoms.{pairCount}
+use Rattle.tables.specs.declared.Arrow.{Arrow}
+use Rattle.answers.specs.Among.{FirstAt}
+use Rattle.lists.specs.Steps.{touches, stops, NoStop, follows, marked, Behind}
+use Rattle.tables.proofs.Tests.{and-T, T-true, not-false}
+use Rattle.tables.proofs.SearchLaws.{every-at, every-is}
+use Rattle.tables.proofs.BufferLaws.{written-more, written-rest, build-length, written-build}
+use Rattle.lists.proofs.GreedyLaws.{not-nowhere}
+
+module _ (boxes rows : List ℕ) (a : Arrow) (work : List ℕ) (skip p : ℕ) where
+  pub stop-reached : 2 ≤ getD work p 0 → stops boxes rows a work skip p ≡ false
+  unfolding stops
+  stop-reached h = rw (le-ltb (getD work p 0) 2 h)
+
+  pub stop-skipped : getD work p 0 < 2 → getD work p 0 ≡ skip → stops boxes rows a work skip p ≡ false
+  unfolding stops
+  stop-skipped h e = rw (lt-ltb (getD work p 0) 2 h, eq-eqb (getD work p 0) skip e)
+
+  pub stop-touches : getD work p 0 < 2 → getD work p 0 ≢ skip → stops boxes rows a work skip p ≡ touches boxes rows a p
+  unfolding stops
+  stop-touches h e = rw (lt-ltb (getD work p 0) 2 h, ne-eqb (getD work p 0) skip e)
+
+module _ (boxes rows : List ℕ) (a : Arrow) where
+  -- the test looks at one byte alone, and holds only where it is none of a reached pair
+  pub stops-same : (work work′ : List ℕ) (skip p : ℕ) → getD work p 0 ≡ getD work′ p 0 → stops boxes rows a work skip p ≡ stops boxes rows a work′ skip p
+  unfolding stops
+  stops-same work work′ skip p e = rw e
+
+  pub stops-open : (work : List ℕ) (skip p : ℕ) → T (stops boxes rows a work skip p) → getD work p 0 < 2
+  unfolding stops
+  stops-open work skip p t = ltb→lt (getD work p 0) 2 (and-T (ltb (getD work p 0) 2) _ t .0)
+
+  -- ---- whether the arrow may follow, by its two pointers
+
+  abbrev pairs : ℕ
+  pairs = pairCount boxes rows
+
+  pub blocked-no : (work : List ℕ) (b : ℕ) → b < pairs → T (stops boxes rows a work (a .sign) b) → follows boxes rows a work ≡ false
+  unfolding follows
+  blocked-no work b l t =
+      rw (not-false (every (λ p. not (stops boxes rows a work (a .sign) p)) pairs)
+      (λ e. T-not (stops boxes rows a work (a .sign) b) (every-at (λ p. not (stops boxes rows a work (a .sign) p)) pairs e b l) t))
+
+  -- a test that fails everywhere
+  nowhere : (t : ℕ → Bool) (r : ℕ) → pairs ≤ r → ((p : ℕ) → p < r → T (t p) → ⊥) → every (λ p. not (t p)) pairs ≡ true
+  nowhere t r g n = T-true _ (every-is (λ p. not (t p)) pairs (λ p l. not-T (t p) (n p (omega arith))))
+
+  pub fresh-is : (work : List ℕ) (b f : ℕ) → pairs ≤ b → NoStop boxes rows a work (a .sign) b → FirstAt (stops boxes rows a work 2) pairs f
+      → ltb f pairs ≡ follows boxes rows a work
+  unfolding follows
+  fresh-is work b f g n w = rw (nowhere (stops boxes rows a work (a .sign)) b g n) (go (decLt f pairs))
+    where
+      go : Dec (f < pairs) → ltb f pairs ≡ not (every (λ p. not (stops boxes rows a work 2 p)) pairs)
+      go (yes l) = lt-ltb f pairs l ∙ sym (T-true _ (not-nowhere (stops boxes rows a work 2) pairs f l (w .holds l)))
+      go (no l) = rw (le-ltb f pairs (omega arith), nowhere (stops boxes rows a work 2) f (omega arith) (w .none-before))
+
+-- ---- the pointers
+
+module _ (boxes rows arrows own work : List ℕ) where
+  -- one of them is moved
+  pub behind-set : (skip : Arrow → ℕ) (pointers : List ℕ) (t r : ℕ) → t < length own → Behind boxes rows arrows own skip work pointers
+      → NoStop boxes rows (arrowAt arrows (getD own t 0)) work (skip (arrowAt arrows (getD own t 0))) r
+      → Behind boxes rows arrows own skip work (set pointers t r)
+  behind-set skip pointers t r l h n = record { room = rw length-set (h .room); passed = λ i k. go i k (ℕ-discrete i t) }
+    where
+      go : (i : ℕ) → i < length own → Dec (i ≡ t)
+          → NoStop boxes rows (arrowAt arrows (getD own i 0)) work (skip (arrowAt arrows (getD own i 0))) (getD (set pointers t r) i 0)
+      go i k (yes e) = rw (e, getD-set-same pointers t r 0 (omega (arith, h .room))) n
+      go i k (no e) = rw (getD-set-other pointers t i r 0 e) (h .passed i k)
+
+-- ---- marking
+
+module _ (boxes rows : List ℕ) (a : Arrow) (w : List ℕ) where
+  -- place p of the work bytes is marked
+  pub mark-turn : (p : ℕ) (work : List ℕ) (hit : Bool) (b : ℕ) → p < length w → work ≡ written (build (marked boxes rows a w) p) w
+      → hit ≡ stops boxes rows a work 2 p → b ≡ getD work p 0 + cond hit 2 0
+      → set work p b ≡ written (build (marked boxes rows a w) (p + 1)) w
+  unfolding marked
+  mark-turn p work hit b l e h i =
+      let same : getD work p 0 ≡ getD w p 0 =
+      ap (λ (z : List ℕ). getD z p 0) e ∙ written-rest (build (marked boxes rows a w) p) w p (omega (arith, build-length (marked boxes rows a w) p)) in
+      let to : b ≡ marked boxes rows a w p = i ∙ rw (h ∙ stops-same boxes rows a work w 2 p same, same) in
+      rw (to, e) (written-build (marked boxes rows a w) p w l)
+
+-- ---- a buffer that is filled with one value
+
+pub written-same : (v n : ℕ) (old : List ℕ) → n < length old → set (written (replicate n v) old) n v ≡ written (replicate (n + 1) v) old
+written-same v n old h =
+    ap (λ (k : ℕ). set (written (replicate n v) old) k v) (sym (length-replicate {A = ℕ} n v))
+    ∙ written-more (replicate n v) old v (rw (length-replicate {A = ℕ} n v) h)
+    ∙ ap (λ (l : List ℕ). written l old) (replicate-append-replicate n 1 v)
+
+-- and one that is copied
+pub written-copy : (from old : List ℕ) (p : ℕ) → p < length from → p < length old
+    → set (written (take p from) old) p (getD from p 0) ≡ written (take (p + 1) from) old
+written-copy from old p h l =
+    let len : length (take p from) ≡ p = length-take-le p from (omega arith) in
+    ap (λ (k : ℕ). set (written (take p from) old) k (getD from p 0)) (sym len)
+    ∙ written-more (take p from) old (getD from p 0) (rw len l)
+    ∙ rw (add-one, take-suc from p 0 h)

@@ -1,0 +1,152 @@
+-- `lists::list` meets its contract: each stage refuses, or leaves the next one its facts. Assumes nothing.
+use mathlib.Core.Option.{none}
+use mathlib.Core.Path.{_≡_, sym, _∙_}
+use borrow.Author.Needs.{needs}
+use lib.ListN.{length}
+use Rattle.containment.specs.Contains.{loopFault}
+use Rattle.tables.specs.Faults.{tableFault}
+use Rattle.tables.specs.Refusals.{verdictOf}
+use Rattle.lists.proofs.EndLaws.{rest, rest-is, early-tables, early-rest, end-early, end-loops, end-listing, rooms}
+use Rattle.containment.proofs.ScratchLaws.{filled-says}
+use Rattle.tables.proofs.TableLaws.{sound-rows, sound-arrows}
+use Rattle.tables.proofs.Verdicts.{passed, refused}
+use Rattle.lists.proofs.list.Statement.{statement}
+use Rattle.lists.proofs.list.Tie as tie
+
+-- checks 1 to 7 passed
+sound : (c : tie.After-enum-told) → let a = c .before .before .before .before .before .before .before .before .before .args in tableFault (a .boxes .now) (a .rows .now) (a .arrows .now) ≡ none
+sound c = let a = c .before .before .before .before .before .before .before .before .before .args in passed (tableFault (a .boxes .now) (a .rows .now) (a .arrows .now)) (sym (c .before .before .check .ensures) ∙ c .enum-told .given .1)
+
+-- the verdict of checks 8 and 9
+asked : (c : tie.After-or-else3) → let a = c .before .before .before .before .before .before .before .before .before .before .before .before .before .before .before .before .before .before .before .args in c .or-else3 .result ≡ verdictOf (rest (a .boxes .now) (a .rows .now) (a .arrows .now) (a .mode) (a .scratch .now) (a .out .now) (a .work .now))
+asked c = let a = c .before .before .before .before .before .before .before .before .before .before .before .before .before .before .before .before .before .before .before .args in
+    c .or-else3 .ensures
+    ∙ rw (c .before .before .or-else2 .ensures, c .before .before .before .before .or-else .ensures, c .before .before .before .before .before .before .before .check-mode .ensures, c .before .before .before .before .before .check-scratch .ensures, c .before .before .before .check-room .ensures, c .before .before .before .before .before .before .before .before .mode-count .ensures, c .before .check-room2 .ensures, c .before .before .before .before .before .before .before .before .before .pair-count .ensures)
+    (rest-is (a .boxes .now) (a .rows .now) (a .arrows .now) (a .mode) (a .scratch .now) (a .out .now) (a .work .now))
+
+-- checks 1 to 9 passed
+early : (c : tie.After-enum-told2) → let a = c .before .before .before .before .before .before .before .before .before .before .before .before .before .before .before .before .before .before .before .before .before .args in rest (a .boxes .now) (a .rows .now) (a .arrows .now) (a .mode) (a .scratch .now) (a .out .now) (a .work .now) ≡ none
+early c = let a = c .before .before .before .before .before .before .before .before .before .before .before .before .before .before .before .before .before .before .before .before .before .args in passed (rest (a .boxes .now) (a .rows .now) (a .arrows .now) (a .mode) (a .scratch .now) (a .out .now) (a .work .now)) (sym (asked (c .before .before)) ∙ c .enum-told2 .given .1)
+
+check-requires : tie.Need-check-requires
+check-requires c κs = search needs
+
+enum-known-tables : tie.Need-enum-known-tables
+enum-known-tables c = search needs
+
+returns : tie.Need-returns
+returns c = let a = c .before .before .before .before .before .before .before .before .before .before .args in
+    end-early (a .boxes .now) (a .rows .now) (a .arrows .now) (a .mode) (a .scratch .now) (a .out .now) (a .work .now) _ (early-tables (a .boxes .now) (a .rows .now) (a .arrows .now) (a .mode) (a .scratch .now) (a .out .now) (a .work .now) _ (refused (tableFault (a .boxes .now) (a .rows .now) (a .arrows .now)) _ (sym (c .before .before .before .check .ensures) ∙ c .before .tables .given .1)))
+
+enum-told : tie.Need-enum-told
+enum-told c = search needs
+
+pair-count-requires : tie.Need-pair-count-requires
+pair-count-requires c κs = let a = c .before .before .before .before .before .before .before .before .before .args in
+    sound-rows (a .boxes .now) (a .rows .now) (a .arrows .now) (sound c)
+
+mode-count-requires : tie.Need-mode-count-requires
+mode-count-requires c κs = let a = c .before .before .before .before .before .before .before .before .before .before .args in
+    sound-arrows (a .boxes .now) (a .rows .now) (a .arrows .now) (sound (c .before)) .few-arrows
+
+check-mode-requires : tie.Need-check-mode-requires
+check-mode-requires c κs = search needs
+
+check-scratch-requires : tie.Need-check-scratch-requires
+check-scratch-requires c κs = let a = c .before .before .before .before .before .before .before .before .before .before .before .before .before .args in
+    sound-rows (a .boxes .now) (a .rows .now) (a .arrows .now) (sound (c .before .before .before .before)) .few-boxes
+
+or-else-requires : tie.Need-or-else-requires
+or-else-requires c κs = search needs
+
+check-room-requires : tie.Need-check-room-requires
+check-room-requires c κs = search needs
+
+or-else-requires-2 : tie.Need-or-else-requires-2
+or-else-requires-2 c κs = search needs
+
+check-room-requires-2 : tie.Need-check-room-requires-2
+check-room-requires-2 c κs = search needs
+
+or-else-requires-3 : tie.Need-or-else-requires-3
+or-else-requires-3 c κs = search needs
+
+enum-known-early : tie.Need-enum-known-early
+enum-known-early c = search needs
+
+same-length : tie.Need-same-length
+same-length c = search needs
+
+returns-2 : tie.Need-returns-2
+returns-2 c = let a = c .before .before .before .before .before .before .before .before .before .before .before .before .before .before .before .before .before .before .before .before .before .before .args in
+    end-early (a .boxes .now) (a .rows .now) (a .arrows .now) (a .mode) (a .scratch .now) (a .out .now) (a .work .now) _ (early-rest (a .boxes .now) (a .rows .now) (a .arrows .now) (a .mode) (a .scratch .now) (a .out .now) (a .work .now) (sound (c .before .before .before .before .before .before .before .before .before .before .before .before .before)) ∙ refused (rest (a .boxes .now) (a .rows .now) (a .arrows .now) (a .mode) (a .scratch .now) (a .out .now) (a .work .now)) _ (sym (asked (c .before .before .before)) ∙ c .before .early .given .1))
+
+enum-told-2 : tie.Need-enum-told-2
+enum-told-2 c = search needs
+
+contain-requires : tie.Need-contain-requires
+contain-requires c κs = let a = c .before .before .before .before .before .before .before .before .before .before .before .before .before .before .before .before .before .before .before .before .before .before .args in
+    (sound-rows (a .boxes .now) (a .rows .now) (a .arrows .now) (sound (c .before .before .before .before .before .before .before .before .before .before .before .before .before)), rooms (a .boxes .now) (a .rows .now) (a .arrows .now) (a .mode) (a .scratch .now) (a .out .now) (a .work .now) (early (c .before)) .scratch-room)
+
+enum-known-loops : tie.Need-enum-known-loops
+enum-known-loops c = search needs
+
+same-length-2 : tie.Need-same-length-2
+same-length-2 c = search needs
+
+returns-3 : tie.Need-returns-3
+returns-3 c = let a = c .before .before .before .before .before .before .before .before .before .before .before .before .before .before .before .before .before .before .before .before .before .before .before .before .before .before .before .before .args in
+    rw (c .before .before .before .before .before .contain .ensures .1) (end-loops (a .boxes .now) (a .rows .now) (a .arrows .now) (a .mode) (a .scratch .now) (a .out .now) (a .work .now) (early-rest (a .boxes .now) (a .rows .now) (a .arrows .now) (a .mode) (a .scratch .now) (a .out .now) (a .work .now) (sound (c .before .before .before .before .before .before .before .before .before .before .before .before .before .before .before .before .before .before .before)) ∙ early (c .before .before .before .before .before .before .before)) _ (refused (loopFault (a .boxes .now) (a .rows .now)) _ (sym (c .before .before .before .before .before .contain .ensures .0) ∙ c .before .loops .given .1)))
+
+enum-told-3 : tie.Need-enum-told-3
+enum-told-3 c = search needs
+
+write-list-requires : tie.Need-write-list-requires
+write-list-requires c κs = let a = c .before .before .before .before .before .before .before .before .before .before .before .before .before .before .before .before .before .before .before .before .before .before .before .before .before .before .before .before .before .before .args in
+    let room = rooms (a .boxes .now) (a .rows .now) (a .arrows .now) (a .mode) (a .scratch .now) (a .out .now) (a .work .now) (early (c .before .before .before .before .before .before .before .before .before)) in
+    ((sound-rows (a .boxes .now) (a .rows .now) (a .arrows .now) (sound (c .before .before .before .before .before .before .before .before .before .before .before .before .before .before .before .before .before .before .before .before .before)), sound-arrows (a .boxes .now) (a .rows .now) (a .arrows .now) (sound (c .before .before .before .before .before .before .before .before .before .before .before .before .before .before .before .before .before .before .before .before .before)), rw (c .before .before .before .before .before .before .before .contain .ensures .1) (filled-says (length (a .boxes .now)) (a .rows .now) (a .scratch .now) (room .scratch-room))), (room .out-room, room .work-room))
+
+same-length-3 : tie.Need-same-length-3
+same-length-3 c = search needs
+
+same-length-4 : tie.Need-same-length-4
+same-length-4 c = search needs
+
+same-length-5 : tie.Need-same-length-5
+same-length-5 c = search needs
+
+returns-4 : tie.Need-returns-4
+returns-4 c = let a = c .before .before .before .before .before .before .before .before .before .before .before .before .before .before .before .before .before .before .before .before .before .before .before .before .before .before .before .before .before .before .before .before .before .before .before .args in
+    rw (c .before .before .before .before .before .before .before .before .before .before .before .before .contain .ensures .1) (end-listing (a .boxes .now) (a .rows .now) (a .arrows .now) (a .mode) (a .scratch .now) (a .out .now) (a .work .now) (early-rest (a .boxes .now) (a .rows .now) (a .arrows .now) (a .mode) (a .scratch .now) (a .out .now) (a .work .now) (sound (c .before .before .before .before .before .before .before .before .before .before .before .before .before .before .before .before .before .before .before .before .before .before .before .before .before .before)) ∙ early (c .before .before .before .before .before .before .before .before .before .before .before .before .before .before)) (passed (loopFault (a .boxes .now) (a .rows .now)) (sym (c .before .before .before .before .before .before .before .before .before .before .before .before .contain .ensures .0) ∙ c .before .before .before .before .before .before .before .before .enum-told3 .given .1)) _ _ _ (c .before .before .before .before .write-list .ensures))
+
+pub list-spec : {M : Type 1} → statement M
+list-spec =
+    tie.close
+    (tie.spec
+    check-requires
+    enum-known-tables
+    returns
+    enum-told
+    pair-count-requires
+    mode-count-requires
+    check-mode-requires
+    check-scratch-requires
+    or-else-requires
+    check-room-requires
+    or-else-requires-2
+    check-room-requires-2
+    or-else-requires-3
+    enum-known-early
+    same-length
+    returns-2
+    enum-told-2
+    contain-requires
+    enum-known-loops
+    same-length-2
+    returns-3
+    enum-told-3
+    write-list-requires
+    same-length-3
+    same-length-4
+    same-length-5
+    returns-4)

@@ -1,0 +1,37 @@
+-- `lists::refuse_pair` meets its contract: the pair is read by its place. Assumes nothing.
+use mathlib.Core.Path.{_∙_}
+use borrow.Author.Needs.{needs}
+use Rattle.tables.specs.Search.{given}
+use Rattle.lists.proofs.refuse_pair.Statement.{statement}
+use Rattle.lists.proofs.refuse_pair.Tie as tie
+
+pair-at-requires : tie.Need-pair-at-requires
+pair-at-requires c κs = search needs
+
+wide-requires : tie.Need-wide-requires
+wide-requires c κs = search needs
+
+wide-requires-2 : tie.Need-wide-requires-2
+wide-requires-2 c κs = search needs
+
+wide-requires-3 : tie.Need-wide-requires-3
+wide-requires-3 c κs = search needs
+
+refused-if-requires : tie.Need-refused-if-requires
+refused-if-requires c κs = search needs
+
+returns : tie.Need-returns
+unfolding given
+returns c = let at = c .before .before .before .before .pair-at .ensures in
+    c .refused-if .ensures ∙ rw (c .before .before .before .wide .ensures, c .before .before .wide2 .ensures, at .0, c .before .wide3 .ensures, at .1)
+
+pub refuse-pair-spec : {M : Type 1} → statement M
+refuse-pair-spec =
+    tie.close
+    (tie.spec
+    pair-at-requires
+    wide-requires
+    wide-requires-2
+    wide-requires-3
+    refused-if-requires
+    returns)

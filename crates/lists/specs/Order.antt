@@ -1,0 +1,89 @@
+-- First-match lists of a mode's arrows: the third condition of acceptance, with document 01's words on it. A list is any finite
+-- sequence of arrow numbers of the mode; a pair is given by its place in the matrix (`answers`, specs/Pairs.antt).
+-- Assumes nothing.
+use mathlib.Core.Path.{_≡_}
+use mathlib.Core.Bool.{Bool, true, false, not, cond, _&&_, _||_}
+use mathlib.Core.List.{List, [], _∷_}
+use mathlib.Core.Option.{Option, none, some}
+use Prim.Native.Nat.{ℕ, _<_}
+use lib.Dec.{T, eqb, ltb}
+use Rattle.tables.specs.Search.{every}
+use Rattle.tables.specs.Rows.{arrowCount, arrowAt}
+use Rattle.tables.specs.Atoms.{pairCount}
+use Rattle.answers.specs.Meaning.{positive, negative, reaches, isGranted, isUnclear}
+use Rattle.answers.specs.Pairs.{userAt, fileAt, answerAt}
+use Rattle.answers.specs.declared.Entry.{Entry}
+
+-- a number of the list passes the test
+unfoldable pub anyOf : (ℕ → Bool) → List ℕ → Bool
+anyOf t [] = false
+anyOf t (k ∷ l) = t k || anyOf t l
+
+-- each does
+unfoldable pub allOf : (ℕ → Bool) → List ℕ → Bool
+allOf t [] = true
+allOf t (k ∷ l) = t k && allOf t l
+
+-- the first that does
+unfoldable pub firstOf : (ℕ → Bool) → List ℕ → Option ℕ
+firstOf t [] = none
+firstOf t (k ∷ l) = cond (t k) (some k) (firstOf t l)
+
+-- if there is one, it passes the test
+unfoldable pub passes : (ℕ → Bool) → Option ℕ → Bool
+passes t none = true
+passes t (some k) = t k
+
+-- no number stands twice in the list
+unfoldable pub distinct : List ℕ → Bool
+distinct [] = true
+distinct (k ∷ l) = not (anyOf (eqb k) l) && distinct l
+
+-- a pair gets granted from a positive arrow and denied from a negative one: an arrow of sign s gives the answer e
+unfoldable pub gives : ℕ → Entry → Bool
+gives s e = cond (isGranted e) (eqb s positive) (eqb s negative && not (isUnclear e))
+
+-- k is the number of an arrow of mode m
+unfoldable pub ofMode : List ℕ → ℕ → ℕ → Bool
+ofMode arrows m k = ltb k (arrowCount arrows) && eqb (arrowAt arrows k .mode) m
+
+module _ (boxes rows arrows : List ℕ) where
+  -- arrow k reaches the pair at place p
+  unfoldable pub meets : ℕ → ℕ → Bool
+  meets p k = reaches rows (arrowAt arrows k) (userAt boxes rows p) (fileAt boxes rows p)
+
+  -- the list reaches the pair at place p: one of its arrows does
+  unfoldable pub reached : List ℕ → ℕ → Bool
+  reached l p = anyOf (meets p) l
+
+  module _ (m : ℕ) where
+    -- the pair at place p is granted in the mode
+    unfoldable pub granted : ℕ → Bool
+    granted p = isGranted (answerAt boxes rows arrows m p)
+
+    -- the pair at place p gets the picture's answer from arrow k
+    unfoldable pub right : ℕ → ℕ → Bool
+    right p k = gives (arrowAt arrows k .sign) (answerAt boxes rows arrows m p)
+
+    -- a list of the mode's arrows is honest if each pair that it reaches gets the picture's answer from the first arrow in the list
+    -- that reaches it
+    unfoldable pub honest : List ℕ → Bool
+    honest l = allOf (ofMode arrows m) l && every (λ p. passes (right p) (firstOf (meets p) l)) (pairCount boxes rows)
+
+    -- the list reaches every granted pair
+    unfoldable pub coversAll : List ℕ → Bool
+    coversAll l = every (λ p. not (granted p) || reached l p) (pairCount boxes rows)
+
+    -- what holds of the list that is written: it is honest, has no arrow twice and reaches every granted pair
+    unfoldable pub qualifies : List ℕ → Bool
+    qualifies l = honest l && (distinct l && coversAll l)
+
+    -- (u, f) is the first granted pair, by user, then file, that no honest list whatever reaches
+    pub record FirstMissed (u f : ℕ) : Type 0 where
+      pub place : ℕ
+      pub there : place < pairCount boxes rows
+      pub user-is : userAt boxes rows place ≡ u
+      pub file-is : fileAt boxes rows place ≡ f
+      pub is-granted : T (granted place)
+      pub missed : (l : List ℕ) → T (honest l) → T (reached l place) → ⊥
+      pub before : (q : ℕ) → q < place → T (granted q) → (l : List ℕ) × T (honest l) × T (reached l q)

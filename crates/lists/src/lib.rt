@@ -1,0 +1,697 @@
+// The first-match list of a mode.
+ghost use mathlib.Core.Path.{_≡_};
+ghost use mathlib.Core.Bool.{true, cond};
+ghost use mathlib.Core.List.{[]};
+ghost use mathlib.Core.Option.{none, some};
+ghost use Prim.Native.Nat.{ℕ, _+_, _/_, _%_, _<_, _≤_};
+ghost use lib.ListN.{length, take};
+ghost use Rattle.tables.specs.Buffers.{build, written, zeros};
+ghost use Rattle.tables.specs.Search.{bit};
+ghost use Rattle.tables.specs.Rows.{arrowCount};
+ghost use Rattle.tables.specs.Atoms.{pairCount};
+ghost use Rattle.tables.specs.Faults.{SoundRows, SoundArrows};
+ghost use Rattle.tables.specs.Refusals.{refusal, verdictOf};
+ghost use Rattle.containment.specs.Scratch.{Says};
+ghost use Rattle.answers.specs.Meaning.{isGranted};
+ghost use Rattle.answers.specs.Pairs.{userAt, fileAt, answerAt, unclearFault};
+ghost use Rattle.answers.specs.Among.{modeArrows, FirstAt};
+ghost use Rattle.lists.specs.Greedy.{orderFault};
+ghost use Rattle.lists.specs.Calls.{blanks, Answered, Listing, Outcome};
+ghost use Rattle.lists.specs.Steps.{cellAt, Placed, Drawn, Ends, stops, NoStop, marked, Behind, followsAt, ownSign, nothing, leftIn, Clear, workOf, Ordered};
+use answers::Entry;
+use answers::answer_among;
+use answers::does_reach;
+use answers::is_unclear;
+use answers::mode_arrows;
+use answers::pair_at;
+use answers::pair_count;
+use containment::check_scratch;
+use containment::contain;
+use tables::Arrow;
+use tables::BoxRow;
+use tables::Refusal;
+use tables::Verdict;
+use tables::atoms_of;
+use tables::check_mode;
+use tables::check_room;
+use tables::wide;
+
+// What the call for a list answers.
+pub enum Listed {
+    // So many places of the list are written.
+    Written(usize),
+    Refused(Refusal),
+}
+
+// A place of the matrix, by its row and its column: a walk over the places then divides only where it begins.
+struct Cell {
+    row: usize,
+    col: usize,
+}
+
+impl Cell {
+    // Place p of a table of so many columns.
+    fn at(p: usize, width: usize) -> Self
+        requires { ⌜ 0 < width ⌝ }
+        ensures { λ r. ⌜ r ≡ cellAt width p ⌝ }
+    {
+        Self {
+            row: p / width,
+            col: p % width,
+        }
+    }
+
+    // The place after it.
+    fn next(self, width: usize) -> Self
+        requires { ⌜ (self .col < width) × (self .row < 256) ⌝ }
+        ensures { λ r. ⌜ ((p : ℕ) → self ≡ cellAt width p → r ≡ cellAt width (p + 1)) ⌝ }
+    {
+        if self.col + 1 < width {
+            return Self {
+                row: self.row,
+                col: self.col + 1,
+            };
+        }
+        Self {
+            row: self.row + 1,
+            col: 0,
+        }
+    }
+}
+
+// The sign of an arrow as a byte.
+fn sign_byte(sign: u16) -> u8
+    requires { ⌜ sign ≤ 1 ⌝ }
+    ensures { λ r. ⌜ r ≡ sign ⌝ }
+{
+    (sign % 256) as u8
+}
+
+// Whether the arrow reaches the pair at place p, and the pair's byte says that it is not reached yet and is none to skip.
+fn stops_at(
+    boxes: &[u8],
+    rows: &[u16],
+    scratch: &[u8],
+    users: &[u16],
+    files: &[u16],
+    pairs: usize,
+    a: Arrow,
+    work: &[u8],
+    skip: u8,
+    p: usize,
+    at: Cell,
+) -> bool
+    requires { ⌜ Says (length (now boxes)) (now rows) (now scratch) × Placed (now boxes) (now rows) (now users) (now files) pairs × Ends (now boxes) a ⌝ }
+    requires { ⌜ (p < pairs) × (p < length (now work)) × (at ≡ cellAt (length (now files)) p) ⌝ }
+    ensures { λ r. ⌜ r ≡ stops (now (boxes .entry)) (now (rows .entry)) a (now (work .entry)) skip p ⌝ }
+{
+    let byte = work[p];
+    if 2 <= byte {
+        return false;
+    }
+    if byte == skip {
+        return false;
+    }
+    let i = at.row;
+    let j = at.col;
+    does_reach(boxes.len(), rows, scratch, a, users[i], files[j])
+}
+
+// The first place from `from` on that stops the arrow, or one past the end.
+fn advance(
+    boxes: &[u8],
+    rows: &[u16],
+    scratch: &[u8],
+    users: &[u16],
+    files: &[u16],
+    pairs: usize,
+    a: Arrow,
+    work: &[u8],
+    skip: u8,
+    from: usize,
+) -> usize
+    requires { ⌜ Says (length (now boxes)) (now rows) (now scratch) × Placed (now boxes) (now rows) (now users) (now files) pairs × Ends (now boxes) a × (pairs ≤ length (now work)) ⌝ }
+    requires { ⌜ NoStop (now boxes) (now rows) a (now work) skip from ⌝ }
+    ensures { λ r. ⌜ FirstAt (stops (now (boxes .entry)) (now (rows .entry)) a (now (work .entry)) skip) pairs r ⌝ }
+{
+    if pairs <= from {
+        return from;
+    }
+    let mut at = Cell::at(from, files.len());
+    let mut p = from;
+    while p < pairs {
+        if stops_at(
+            boxes,
+            rows,
+            scratch,
+            users,
+            files,
+            pairs,
+            a,
+            work,
+            skip,
+            p,
+            at,
+        ) {
+            return p;
+        }
+        at = at.next(files.len());
+        p += 1;
+    }
+    p
+}
+
+// Whether the arrow at place t of the numbers may follow the list and would be the first to reach some pair. Each arrow has two
+// pointers, to the first place that may still keep it from following and to the first that it may be the first to reach. What
+// does not stop an arrow never does later, so they only move forward, and cost a step for each pair and arrow in all.
+fn may_follow(
+    boxes: &[u8],
+    rows: &[u16],
+    scratch: &[u8],
+    users: &[u16],
+    files: &[u16],
+    pairs: usize,
+    arrows: &[u16],
+    own: &[u16],
+    work: &[u8],
+    blocked: &mut [usize],
+    fresh: &mut [usize],
+    t: usize,
+) -> bool
+    requires { ⌜ Says (length (now boxes)) (now rows) (now scratch) × Placed (now boxes) (now rows) (now users) (now files) pairs × Drawn (now boxes) (now arrows) (now own) × (pairs ≤ length (now work)) × (t < length (now own)) ⌝ }
+    requires { ⌜ Behind (now boxes) (now rows) (now arrows) (now own) ownSign (now work) (now blocked) × Behind (now boxes) (now rows) (now arrows) (now own) nothing (now work) (now fresh) ⌝ }
+    ensures { λ r. ⌜ r ≡ followsAt (now (boxes .entry)) (now (rows .entry)) (now (arrows .entry)) (now (own .entry)) (now (work .entry)) t ⌝ }
+    ensures { λ _. ⌜ Behind (now (boxes .entry)) (now (rows .entry)) (now (arrows .entry)) (now (own .entry)) ownSign (now (work .entry)) (now (blocked .exit)) × Behind (now (boxes .entry)) (now (rows .entry)) (now (arrows .entry)) (now (own .entry)) nothing (now (work .entry)) (now (fresh .exit)) ⌝ }
+{
+    let a = Arrow::at(arrows, wide(own[t]));
+    let b = advance(
+        boxes,
+        rows,
+        scratch,
+        users,
+        files,
+        pairs,
+        a,
+        work,
+        sign_byte(a.sign),
+        blocked[t],
+    );
+    blocked[t] = b;
+    if b < pairs {
+        return false;
+    }
+    let f = advance(
+        boxes,
+        rows,
+        scratch,
+        users,
+        files,
+        pairs,
+        a,
+        work,
+        2,
+        fresh[t],
+    );
+    fresh[t] = f;
+    f < pairs
+}
+
+// The first place of the numbers whose arrow may follow, or one past the end.
+fn pick(
+    boxes: &[u8],
+    rows: &[u16],
+    scratch: &[u8],
+    users: &[u16],
+    files: &[u16],
+    pairs: usize,
+    arrows: &[u16],
+    own: &[u16],
+    work: &[u8],
+    blocked: &mut [usize],
+    fresh: &mut [usize],
+) -> usize
+    requires { ⌜ Says (length (now boxes)) (now rows) (now scratch) × Placed (now boxes) (now rows) (now users) (now files) pairs × Drawn (now boxes) (now arrows) (now own) × (pairs ≤ length (now work)) ⌝ }
+    requires { ⌜ Behind (now boxes) (now rows) (now arrows) (now own) ownSign (now work) (now blocked) × Behind (now boxes) (now rows) (now arrows) (now own) nothing (now work) (now fresh) ⌝ }
+    ensures { λ r. ⌜ FirstAt (followsAt (now (boxes .entry)) (now (rows .entry)) (now (arrows .entry)) (now (own .entry)) (now (work .entry))) (length (now (own .entry))) r ⌝ }
+    ensures { λ _. ⌜ Behind (now (boxes .entry)) (now (rows .entry)) (now (arrows .entry)) (now (own .entry)) ownSign (now (work .entry)) (now (blocked .exit)) × Behind (now (boxes .entry)) (now (rows .entry)) (now (arrows .entry)) (now (own .entry)) nothing (now (work .entry)) (now (fresh .exit)) ⌝ }
+{
+    for t in 0..own.len() {
+        if may_follow(
+            boxes,
+            rows,
+            scratch,
+            users,
+            files,
+            pairs,
+            arrows,
+            own,
+            work,
+            blocked,
+            fresh,
+            t,
+        ) {
+            return t;
+        }
+    }
+    own.len()
+}
+
+// A pair's byte once it is reached.
+fn marked_byte(byte: u8, hit: bool) -> u8
+    requires { ⌜ (hit ≡ true → byte < 2) ⌝ }
+    ensures { λ r. ⌜ r ≡ byte + cond hit 2 0 ⌝ }
+{
+    if hit {
+        return byte + 2;
+    }
+    byte
+}
+
+// Marks the pairs that the arrow is the first to reach.
+fn mark(
+    boxes: &[u8],
+    rows: &[u16],
+    scratch: &[u8],
+    users: &[u16],
+    files: &[u16],
+    pairs: usize,
+    a: Arrow,
+    work: &mut [u8],
+)
+    requires { ⌜ Says (length (now boxes)) (now rows) (now scratch) × Placed (now boxes) (now rows) (now users) (now files) pairs × Ends (now boxes) a × (pairs ≤ length (now work)) ⌝ }
+    ensures { λ _. ⌜ now (work .exit) ≡ written (build (marked (now (boxes .entry)) (now (rows .entry)) a (now (work .entry))) pairs) (now (work .entry)) ⌝ }
+{
+    if pairs == 0 {
+        return;
+    }
+    let mut at = Cell::at(0, files.len());
+    for p in 0..pairs {
+        let hit = stops_at(boxes, rows, scratch, users, files, pairs, a, work, 2, p, at);
+        work[p] = marked_byte(work[p], hit);
+        at = at.next(files.len());
+    }
+}
+
+// A refusal that names the mode and the pair at place p.
+fn refuse_pair(
+    boxes: &[u8],
+    rows: &[u16],
+    users: &[u16],
+    files: &[u16],
+    pairs: usize,
+    number: u8,
+    mode: u16,
+    p: usize,
+) -> Verdict
+    requires { ⌜ Placed (now boxes) (now rows) (now users) (now files) pairs × (p < pairs) ⌝ }
+    ensures { λ r. ⌜ r ≡ verdictOf (some (refusal number mode (userAt (now (boxes .entry)) (now (rows .entry)) p) (fileAt (now (boxes .entry)) (now (rows .entry)) p))) ⌝ }
+{
+    let pair = pair_at(boxes, rows, users, files, p);
+    Verdict::refused_if(true, number, wide(mode), wide(pair.user), wide(pair.file))
+}
+
+// The first granted pair that is not reached, by the work bytes: refusal 13 names it.
+fn check_left(
+    boxes: &[u8],
+    rows: &[u16],
+    users: &[u16],
+    files: &[u16],
+    pairs: usize,
+    mode: u16,
+    work: &[u8],
+) -> Verdict
+    requires { ⌜ Placed (now boxes) (now rows) (now users) (now files) pairs × (pairs ≤ length (now work)) ⌝ }
+    ensures { λ r. ⌜ r ≡ verdictOf (leftIn (now (boxes .entry)) (now (rows .entry)) mode (now (work .entry))) ⌝ }
+{
+    for p in 0..pairs {
+        if work[p] == 1 {
+            return refuse_pair(boxes, rows, users, files, pairs, 13, mode, p);
+        }
+    }
+    Verdict::Passed
+}
+
+// Sets the first `count` work bytes to 0.
+fn clear(work: &mut [u8], count: usize)
+    requires { ⌜ count ≤ length (now work) ⌝ }
+    ensures { λ _. ⌜ now (work .exit) ≡ written (zeros count) (now (work .entry)) ⌝ }
+{
+    for p in 0..count {
+        work[p] = 0;
+    }
+}
+
+// Sets the first `count` list places to 65,535.
+fn blank(out: &mut [u16], count: usize)
+    requires { ⌜ count ≤ length (now out) ⌝ }
+    ensures { λ _. ⌜ now (out .exit) ≡ written (blanks count) (now (out .entry)) ⌝ }
+{
+    for p in 0..count {
+        out[p] = 65535;
+    }
+}
+
+// Room for a pointer for each arrow.
+fn no_places() -> [usize; 512]
+    ensures { λ r. ⌜ r ≡ zeros 512 ⌝ }
+{
+    [0usize; 512]
+}
+
+// Finds an honest list with no arrow twice to which nothing can be added: the lowest arrow that may follow, until there is none.
+// The work bytes are those of the empty list. Costs a few steps for each pair and arrow.
+fn order(
+    boxes: &[u8],
+    rows: &[u16],
+    scratch: &[u8],
+    users: &[u16],
+    files: &[u16],
+    pairs: usize,
+    arrows: &[u16],
+    mode: u16,
+    own: &[u16],
+    out: &mut [u16],
+    work: &mut [u8],
+) -> usize
+    requires { ⌜ Says (length (now boxes)) (now rows) (now scratch) × Placed (now boxes) (now rows) (now users) (now files) pairs × Drawn (now boxes) (now arrows) (now own) × (now own ≡ modeArrows (now arrows) mode) ⌝ }
+    requires { ⌜ Clear (now boxes) (now rows) (now arrows) mode × (length (now own) ≤ length (now out)) × (pairs ≤ length (now work)) × (now work ≡ written (workOf (now boxes) (now rows) (now arrows) mode []) (now work)) ⌝ }
+    ensures { λ r. ⌜ Ordered (now (boxes .entry)) (now (rows .entry)) (now (arrows .entry)) mode (now (out .entry)) (now (work .entry)) r (now (out .exit)) (now (work .exit)) ⌝ }
+{
+    let mut blocked = no_places();
+    let mut fresh = no_places();
+    let mut count = 0;
+    loop {
+        let t = pick(
+            boxes,
+            rows,
+            scratch,
+            users,
+            files,
+            pairs,
+            arrows,
+            own,
+            work,
+            &mut blocked,
+            &mut fresh,
+        );
+        if own.len() <= t {
+            return count;
+        }
+        let k = own[t];
+        out[count] = k;
+        count += 1;
+        let a = Arrow::at(arrows, wide(k));
+        mark(boxes, rows, scratch, users, files, pairs, a, work);
+    }
+}
+
+// 1 if the answer grants, else 0: the granting arrow is taken out, and the other three answers are turned away.
+fn granted_byte(e: Entry) -> u8
+    ensures { λ r. ⌜ r ≡ bit (isGranted e) ⌝ }
+{
+    let Entry::Granted(_) = e else {
+        return 0;
+    };
+    1
+}
+
+// The answer for the pair at place p. The last two buffers are for the arrows that reach it.
+fn answer_at(
+    boxes: &[u8],
+    rows: &[u16],
+    scratch: &[u8],
+    users: &[u16],
+    files: &[u16],
+    pairs: usize,
+    arrows: &[u16],
+    mode: u16,
+    own: &[u16],
+    p: usize,
+    ps: &mut [u16],
+    ns: &mut [u16],
+) -> Entry
+    requires { ⌜ Says (length (now boxes)) (now rows) (now scratch) × Placed (now boxes) (now rows) (now users) (now files) pairs × Drawn (now boxes) (now arrows) (now own) × (now own ≡ modeArrows (now arrows) mode) ⌝ }
+    requires { ⌜ (p < pairs) × (length (now own) ≤ length (now ps)) × (length (now own) ≤ length (now ns)) ⌝ }
+    ensures { λ r. ⌜ r ≡ answerAt (now (boxes .entry)) (now (rows .entry)) (now (arrows .entry)) mode p ⌝ }
+{
+    let pair = pair_at(boxes, rows, users, files, p);
+    answer_among(
+        boxes.len(),
+        rows,
+        scratch,
+        arrows,
+        mode,
+        own,
+        pair.user,
+        pair.file,
+        ps,
+        ns,
+    )
+}
+
+// Check 12, and a byte for each pair, 1 if it is granted. They are no work bytes yet: check 12 leaves those untouched.
+fn fill_granted(
+    boxes: &[u8],
+    rows: &[u16],
+    scratch: &[u8],
+    users: &[u16],
+    files: &[u16],
+    pairs: usize,
+    arrows: &[u16],
+    mode: u16,
+    own: &[u16],
+    ps: &mut [u16],
+    ns: &mut [u16],
+    bytes: &mut [u8],
+) -> Verdict
+    requires { ⌜ Says (length (now boxes)) (now rows) (now scratch) × Placed (now boxes) (now rows) (now users) (now files) pairs × Drawn (now boxes) (now arrows) (now own) × (now own ≡ modeArrows (now arrows) mode) ⌝ }
+    requires { ⌜ (length (now own) ≤ length (now ps)) × (length (now own) ≤ length (now ns)) × (pairs ≤ length (now bytes)) ⌝ }
+    ensures { λ r. ⌜ r ≡ verdictOf (unclearFault (now (boxes .entry)) (now (rows .entry)) (now (arrows .entry)) mode) ⌝ }
+    ensures { λ r. ⌜ (r ≡ Verdict.Passed → now (bytes .exit) ≡ written (workOf (now (boxes .entry)) (now (rows .entry)) (now (arrows .entry)) mode []) (now (bytes .entry))) ⌝ }
+{
+    for p in 0..pairs {
+        let e = answer_at(
+            boxes,
+            rows,
+            scratch,
+            users,
+            files,
+            pairs,
+            arrows,
+            mode,
+            own,
+            p,
+            ps,
+            ns,
+        );
+        if is_unclear(e) {
+            return refuse_pair(boxes, rows, users, files, pairs, 12, mode, p);
+        }
+        bytes[p] = granted_byte(e);
+    }
+    Verdict::Passed
+}
+
+// Copies the first `count` bytes.
+fn copy(bytes: &[u8], work: &mut [u8], count: usize)
+    requires { ⌜ (count ≤ length (now bytes)) × (count ≤ length (now work)) ⌝ }
+    ensures { λ _. ⌜ now (work .exit) ≡ written (take count (now (bytes .entry))) (now (work .entry)) ⌝ }
+{
+    for p in 0..count {
+        work[p] = bytes[p];
+    }
+}
+
+// Writes the list of a clear mode, or 65,535 into each needed place where it leaves a granted pair. The work bytes are those of
+// the empty list, and 0 afterwards.
+fn finish(
+    boxes: &[u8],
+    rows: &[u16],
+    scratch: &[u8],
+    users: &[u16],
+    files: &[u16],
+    pairs: usize,
+    arrows: &[u16],
+    mode: u16,
+    own: &[u16],
+    out: &mut [u16],
+    work: &mut [u8],
+) -> Listed
+    requires { ⌜ Says (length (now boxes)) (now rows) (now scratch) × Placed (now boxes) (now rows) (now users) (now files) pairs × Drawn (now boxes) (now arrows) (now own) × (now own ≡ modeArrows (now arrows) mode) ⌝ }
+    requires { ⌜ Clear (now boxes) (now rows) (now arrows) mode × (length (now own) ≤ length (now out)) × (pairs ≤ length (now work)) × (now work ≡ written (workOf (now boxes) (now rows) (now arrows) mode []) (now work)) ⌝ }
+    ensures { λ r. ⌜ Answered (now (boxes .entry)) (now (rows .entry)) (now (arrows .entry)) mode none (orderFault (now (boxes .entry)) (now (rows .entry)) (now (arrows .entry)) mode) r (now (out .entry)) (now (out .exit)) ⌝ }
+    ensures { λ _. ⌜ now (work .exit) ≡ written (zeros pairs) (now (work .entry)) ⌝ }
+{
+    let count = order(
+        boxes,
+        rows,
+        scratch,
+        users,
+        files,
+        pairs,
+        arrows,
+        mode,
+        own,
+        out,
+        work,
+    );
+    let left = check_left(boxes, rows, users, files, pairs, mode, work);
+    clear(work, pairs);
+    if let Verdict::Refused(r) = left {
+        blank(out, own.len());
+        return Listed::Refused(r);
+    }
+    Listed::Written(count)
+}
+
+// Room for a byte for each pair: 256 boxes make at most 128 × 128.
+fn no_bytes() -> [u8; 16384]
+    ensures { λ r. ⌜ r ≡ zeros 16384 ⌝ }
+{
+    [0u8; 16384]
+}
+
+// Room for arrow numbers.
+fn no_numbers() -> [u16; 512]
+    ensures { λ r. ⌜ r ≡ zeros 512 ⌝ }
+{
+    [0u16; 512]
+}
+
+// Room for box numbers.
+fn no_boxes() -> [u16; 256]
+    ensures { λ r. ⌜ r ≡ zeros 256 ⌝ }
+{
+    [0u16; 256]
+}
+
+// Check 12, then the list, by the mode's arrows and the atomic boxes.
+fn list_pairs(
+    boxes: &[u8],
+    rows: &[u16],
+    scratch: &[u8],
+    users: &[u16],
+    files: &[u16],
+    pairs: usize,
+    arrows: &[u16],
+    mode: u16,
+    own: &[u16],
+    out: &mut [u16],
+    work: &mut [u8],
+) -> Listed
+    requires { ⌜ Says (length (now boxes)) (now rows) (now scratch) × Placed (now boxes) (now rows) (now users) (now files) pairs × Drawn (now boxes) (now arrows) (now own) × (now own ≡ modeArrows (now arrows) mode) × (length (now own) ≤ length (now out)) × (pairs ≤ length (now work)) ⌝ }
+    ensures { λ r. ⌜ Listing (now (boxes .entry)) (now (rows .entry)) (now (arrows .entry)) mode (now (out .entry)) (now (work .entry)) r (now (out .exit)) (now (work .exit)) ⌝ }
+{
+    let mut bytes = no_bytes();
+    let mut ps = no_numbers();
+    let mut ns = no_numbers();
+    let clear = fill_granted(
+        boxes,
+        rows,
+        scratch,
+        users,
+        files,
+        pairs,
+        arrows,
+        mode,
+        own,
+        &mut ps,
+        &mut ns,
+        &mut bytes,
+    );
+    if let Verdict::Refused(r) = clear {
+        return Listed::Refused(r);
+    }
+    copy(&bytes, work, pairs);
+    finish(
+        boxes,
+        rows,
+        scratch,
+        users,
+        files,
+        pairs,
+        arrows,
+        mode,
+        own,
+        out,
+        work,
+    )
+}
+
+// Check 12, then the list, by a filled scratch.
+fn write_list(
+    boxes: &[u8],
+    rows: &[u16],
+    scratch: &[u8],
+    arrows: &[u16],
+    mode: u16,
+    out: &mut [u16],
+    work: &mut [u8],
+) -> Listed
+    requires { ⌜ SoundRows (now boxes) (now rows) × SoundArrows (now boxes) (now arrows) × Says (length (now boxes)) (now rows) (now scratch) ⌝ }
+    requires { ⌜ (length (modeArrows (now arrows) mode) ≤ length (now out)) × (pairCount (now boxes) (now rows) ≤ length (now work)) ⌝ }
+    ensures { λ r. ⌜ Listing (now (boxes .entry)) (now (rows .entry)) (now (arrows .entry)) mode (now (out .entry)) (now (work .entry)) r (now (out .exit)) (now (work .exit)) ⌝ }
+{
+    let mut users = no_boxes();
+    let mut files = no_boxes();
+    let mut own = no_numbers();
+    let u = atoms_of(boxes, rows, BoxRow::USER, &mut users);
+    let f = atoms_of(boxes, rows, BoxRow::FILE, &mut files);
+    let m = mode_arrows(arrows, mode, &mut own);
+    list_pairs(
+        boxes,
+        rows,
+        scratch,
+        &users[..u],
+        &files[..f],
+        u * f,
+        arrows,
+        mode,
+        &own[..m],
+        out,
+        work,
+    )
+}
+
+// How many arrows the mode has.
+fn mode_count(arrows: &[u16], mode: u16) -> usize
+    requires { ⌜ arrowCount (now arrows) ≤ 512 ⌝ }
+    ensures { λ r. ⌜ r ≡ length (modeArrows (now (arrows .entry)) mode) ⌝ }
+{
+    let mut own = no_numbers();
+    mode_arrows(arrows, mode, &mut own)
+}
+
+// The first-match list of a mode (document 01, "What may be asked"): how many places of `out` hold it, or the refusal. Checks 1 to
+// 10, 12 in this mode, and 13. The scratch needs a byte for each pair of boxes, `out` a place for each arrow of the mode, and `work`
+// a byte for each pair. Costs a few steps for each pair and arrow of the mode, besides the answers of all pairs.
+pub fn list(
+    boxes: &[u8],
+    rows: &[u16],
+    arrows: &[u16],
+    scratch: &mut [u8],
+    mode: u16,
+    out: &mut [u16],
+    work: &mut [u8],
+) -> Listed
+    ensures { λ r. ⌜ Outcome (now (boxes .entry)) (now (rows .entry)) (now (arrows .entry)) mode (now (scratch .entry)) (now (out .entry)) (now (work .entry)) r (now (scratch .exit)) (now (out .exit)) (now (work .exit)) ⌝ }
+{
+    let tables = tables::check(boxes, rows, arrows);
+    if let Verdict::Refused(r) = tables {
+        return Listed::Refused(r);
+    }
+    let pairs = pair_count(boxes, rows);
+    let count = mode_count(arrows, mode);
+    let early = check_mode(mode)
+        .or_else(check_scratch(boxes, scratch))
+        .or_else(check_room(3, out.len(), count))
+        .or_else(check_room(4, work.len(), pairs));
+    if let Verdict::Refused(r) = early {
+        return Listed::Refused(r);
+    }
+    let loops = contain(boxes, rows, scratch);
+    if let Verdict::Refused(r) = loops {
+        return Listed::Refused(r);
+    }
+    write_list(boxes, rows, scratch, arrows, mode, out, work)
+}
