@@ -92,9 +92,6 @@ module _ (rows arrows : List ℕ) (m u f : ℕ) where
   hit-rest s k t =
       and-T (eqb (arrowAt arrows k .sign) s) (reaches rows (arrowAt arrows k) u f) (and-T (eqb (arrowAt arrows k .mode) m) _ t .1)
 
-  pub hit-sign : (s k : ℕ) → T (hits rows arrows m s u f k) → arrowAt arrows k .sign ≡ s
-  hit-sign s k t = eqb→eq (arrowAt arrows k .sign) s (hit-rest s k t .0)
-
   pub hit-reaches : (s k : ℕ) → T (hits rows arrows m s u f k) → T (reaches rows (arrowAt arrows k) u f)
   hit-reaches s k t = hit-rest s k t .1
 

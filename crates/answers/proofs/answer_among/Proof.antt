@@ -1,3 +1,4 @@
+-- `answers::answer_among` meets its contract: the two buffers hold the arrows that reach the pair, and `settle` answers by them. Assumes nothing.
 use mathlib.Core.Path.{ap}
 use Prim.Native.Nat.{ℕ, _≤_}
 use native.Mathlib.Omega.{arith}

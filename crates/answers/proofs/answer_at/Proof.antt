@@ -1,3 +1,4 @@
+-- `answers::answer_at` meets its contract: the pair at the place is asked. Assumes nothing.
 use borrow.Author.Needs.{needs}
 use Rattle.tables.specs.Rows.{user, file}
 use Rattle.tables.proofs.AtomPlaces.{atom-there}

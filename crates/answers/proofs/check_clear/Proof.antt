@@ -1,3 +1,4 @@
+-- `answers::check_clear` meets its contract: the local arrays hold the atomic boxes and the mode's arrows. Assumes nothing.
 use borrow.Author.Needs.{needs}
 use Rattle.tables.specs.Rows.{user, file}
 use Rattle.tables.proofs.PartLaws.{part-is, part-length}

@@ -1,3 +1,4 @@
+-- `answers::check_modes` meets its contract: no mode before m has an unclear pair. Assumes nothing.
 use mathlib.Core.Option.{none}
 use mathlib.Core.Path.{_≡_, sym, ap, _∙_}
 use Prim.Native.Nat.{_-_, _≤_}

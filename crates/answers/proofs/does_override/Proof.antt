@@ -1,3 +1,4 @@
+-- `answers::does_override` meets its contract: "overrides" by tests of nesting alone. Assumes nothing.
 use mathlib.Core.Path.{sym, _∙_}
 use borrow.Author.Needs.{needs}
 use Rattle.answers.proofs.AnswerLaws.{outer-tail, outer-head, no-outer}

@@ -1,3 +1,4 @@
+-- `answers::does_reach` meets its contract: both ends are tested. Assumes nothing.
 use borrow.Author.Needs.{needs}
 use Rattle.answers.specs.Meaning.{reaches}
 use Rattle.answers.proofs.does_reach.Statement.{statement}

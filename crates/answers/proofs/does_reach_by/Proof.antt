@@ -1,3 +1,4 @@
+-- `answers::does_reach_by` meets its contract: the sign, then the ends. Assumes nothing.
 use borrow.Author.Tests.{eq-eqb, ne-eqb}
 use borrow.Author.Needs.{needs}
 use Rattle.answers.specs.Among.{reachesBy}

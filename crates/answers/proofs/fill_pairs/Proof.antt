@@ -1,3 +1,4 @@
+-- `answers::fill_pairs` meets its contract: the places before p of both buffers are written. Assumes nothing.
 use mathlib.Core.Path.{_≡_, refl, sym, _∙_}
 use Prim.Native.Nat.{_*_, _-_, _≤_, _<_}
 use native.Mathlib.Omega.{arith}

@@ -1,3 +1,4 @@
+-- `answers::first_unclear` meets its contract: no place before p has an unclear pair. Assumes nothing.
 use mathlib.Core.Option.{none}
 use mathlib.Core.Path.{_≡_, refl, sym, _∙_}
 use Prim.Native.Nat.{_*_, _-_, _≤_}

@@ -1,3 +1,4 @@
+-- `answers::gather` meets its contract: of the arrows before t those that reach the pair by the sign are written and counted. Assumes nothing.
 use mathlib.Core.Logic.{⊎-elim}
 use mathlib.Core.Path.{_≡_, sym, _∙_}
 use Prim.Native.Nat.{_-_, _≤_, _<_}

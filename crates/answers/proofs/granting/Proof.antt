@@ -1,3 +1,4 @@
+-- `answers::granting` meets its contract: the first case has the arrow, the other three have none. Assumes nothing.
 use mathlib.Core.Logic.{⊎-elim}
 use mathlib.Core.List.{[], _∷_}
 use mathlib.Core.Path.{_≡_, refl}

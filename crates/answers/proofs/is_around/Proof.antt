@@ -1,3 +1,4 @@
+-- `answers::is_around` meets its contract: the same box, or the scratch says it. Assumes nothing.
 use borrow.Author.Tests.{eq-eqb, ne-eqb}
 use borrow.Author.Needs.{needs}
 use Rattle.containment.proofs.ContainsLaws.{around-test}

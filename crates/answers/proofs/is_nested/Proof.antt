@@ -1,3 +1,4 @@
+-- `answers::is_nested` meets its contract: the scratch says it. Assumes nothing.
 use borrow.Author.Needs.{needs}
 use Rattle.answers.specs.Meaning.{nests}
 use Rattle.answers.proofs.is_nested.Statement.{statement}

@@ -1,3 +1,4 @@
+-- `answers::is_pair` meets its contract: both boxes are tested. Assumes nothing.
 use borrow.Author.Needs.{needs}
 use Rattle.answers.proofs.is_pair.Statement.{statement}
 use Rattle.answers.proofs.is_pair.Tie as tie

@@ -1,3 +1,4 @@
+-- `answers::is_unclear` meets its contract: case by case. Assumes nothing.
 use borrow.Author.Needs.{needs}
 use Rattle.answers.specs.Meaning.{isUnclear}
 use Rattle.answers.proofs.is_unclear.Statement.{statement}

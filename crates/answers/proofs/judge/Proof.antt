@@ -1,3 +1,4 @@
+-- `answers::judge` meets its contract: a refusal by `prepare` comes first, then the modes. Assumes nothing.
 use mathlib.Core.Path.{_≡_, sym, _∙_}
 use borrow.Author.Needs.{needs}
 use Rattle.tables.specs.declared.Verdict.the-variants.{Passed}

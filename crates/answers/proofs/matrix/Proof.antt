@@ -1,3 +1,4 @@
+-- `answers::matrix` meets its contract: each stage refuses, or leaves the next one its facts. Assumes nothing.
 use mathlib.Core.Path.{_≡_, sym, _∙_}
 use borrow.Author.Needs.{needs}
 use lib.ListN.{length}

@@ -1,3 +1,4 @@
+-- `answers::mode_arrows` meets its contract: of the arrows before k those of the mode are written and counted. Assumes nothing.
 use mathlib.Core.Logic.{⊎-elim}
 use mathlib.Core.Path.{_≡_, _∙_}
 use Prim.Native.Nat.{_-_, _≤_, _<_}

@@ -1,3 +1,4 @@
+-- `answers::no_boxes` meets its contract: 256 zeros. Assumes nothing.
 use mathlib.Core.Path.{refl}
 use Rattle.tables.specs.Buffers.{zeros}
 use Rattle.answers.proofs.no_boxes.Statement.{statement}

@@ -1,3 +1,4 @@
+-- `answers::no_numbers` meets its contract: 512 zeros. Assumes nothing.
 use mathlib.Core.Path.{refl}
 use Rattle.tables.specs.Buffers.{zeros}
 use Rattle.answers.proofs.no_numbers.Statement.{statement}

@@ -1,3 +1,4 @@
+-- `answers::number_of` meets its contract: case by case. Assumes nothing.
 use borrow.Author.Needs.{needs}
 use Rattle.answers.specs.Meaning.{numberOf}
 use Rattle.answers.proofs.number_of.Statement.{statement}

@@ -1,3 +1,4 @@
+-- `answers::one_entry` meets its contract: each stage refuses, or leaves the next one its facts. Assumes nothing.
 use mathlib.Core.Path.{_≡_, sym, ap, _∙_}
 use borrow.Author.Needs.{needs}
 use lib.ListN.{length}

@@ -1,3 +1,4 @@
+-- `answers::overrides_all` meets its contract: each arrow before i is overridden. Assumes nothing.
 use mathlib.Core.Path.{_≡_, sym, _∙_}
 use Prim.Native.Nat.{ℕ, _-_, _≤_, _<_}
 use native.Mathlib.Omega.{arith}

@@ -1,3 +1,4 @@
+-- `answers::pair_at` meets its contract: row and column of the place are within the two lists. Assumes nothing.
 use Prim.Native.Nat.{_/_, _%_, _<_}
 use native.Mathlib.Omega.{arith}
 use lib.ListN.{length}

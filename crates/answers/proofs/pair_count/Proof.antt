@@ -1,3 +1,4 @@
+-- `answers::pair_count` meets its contract: the counts of both sides. Assumes nothing.
 use native.Mathlib.Omega.{arith}
 use borrow.Author.Needs.{needs}
 use Rattle.tables.specs.Atoms.{pairCount}

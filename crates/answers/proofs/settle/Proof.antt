@@ -1,3 +1,4 @@
+-- `answers::settle` meets its contract: what the two searches find decides the answer. Assumes nothing.
 use mathlib.Core.Path.{sym}
 use native.Mathlib.Omega.{arith}
 use borrow.Author.Needs.{needs}

@@ -1,3 +1,4 @@
+-- `answers::strike` meets its contract: no place before i in the first list, and none before j in the second, has a certificate. Assumes nothing.
 use mathlib.Core.Path.{_≡_, sym, _∙_}
 use Prim.Native.Nat.{_+_, _-_, _≤_}
 use native.Mathlib.Omega.{arith}
