@@ -1,5 +1,5 @@
 -- The code's lists of arrow numbers, and how the answer follows from them. Assumes nothing.
-use mathlib.Core.Path.{_≡_, refl, sym, ap, subst, _∙_}
+use mathlib.Core.Path.{_≡_, refl, subst}
 use mathlib.Core.Bool.{Bool, true, false, _&&_}
 use mathlib.Core.List.{List}
 use mathlib.Core.Option.{Option, none, some}
@@ -8,16 +8,15 @@ use native.Mathlib.Omega.{arith}
 use borrow.Author.Count.{below-more}
 use lib.Dec.{T, eqb}
 use lib.ListN.{length, getD}
-use Rattle.tables.specs.Search.{every, lowest, select}
+use Rattle.tables.specs.Search.{lowest}
 use Rattle.tables.specs.Rows.{arrowCount, arrowAt}
 use Rattle.tables.specs.declared.Arrow.{Arrow}
-use Rattle.tables.proofs.Tests.{and-T, T-and, T-same, T-true, true-T, not-false, false-not}
+use Rattle.tables.proofs.Tests.{T-true, true-T, not-false, false-not}
 use Rattle.tables.proofs.SearchLaws.{every-at, every-is}
 use Rattle.tables.proofs.BufferLaws.{select-most}
 use Rattle.tables.proofs.SelectLaws.{select-found, select-has, selected-lowest, selected-nothing}
 use Rattle.answers.specs.Meaning.{positive, negative, reaches, overrides, hits, certifies, settle, answer}
 use Rattle.answers.specs.Among.{hasMode, modeArrows, reachesBy, reaching, overridesAll, wins, Numbers, NoneBefore, FirstAt}
-use Rattle.answers.specs.declared.Entry.{Entry}
 use Rattle.answers.specs.declared.Entry.the-variants.{Granted, Denied, Default, Unclear}
 use Rattle.answers.proofs.Keep.{keep, keep-most, select-keep}
 use Rattle.answers.proofs.AnswerLaws.{overrides-asym, certifies-hits, certifies-over, certifies-is}

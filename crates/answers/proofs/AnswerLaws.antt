@@ -7,14 +7,14 @@ use mathlib.Core.List.{List}
 use mathlib.Core.Option.{Option, none, some}
 use Prim.Native.Nat.{ℕ, _<_, _≤_}
 use native.Mathlib.Omega.{arith}
-use lib.Dec.{T, T-not, not-T, eqb, eqb→eq}
-use Rattle.tables.specs.Search.{every, lowest}
+use lib.Dec.{T, T-not, eqb, eqb→eq}
+use Rattle.tables.specs.Search.{lowest}
 use Rattle.tables.specs.Rows.{arrowCount, arrowAt}
 use Rattle.tables.specs.declared.Arrow.{Arrow}
 use Rattle.tables.proofs.Tests.{or-T, and-T, T-and, T-eqb, true-T}
 use Rattle.tables.proofs.SearchLaws.{every-at, every-is, lowest-some, lowest-none}
 use Rattle.answers.specs.Meaning.{positive, negative, reaches, nests, level, overrides, settle, hits, certifies, answer}
-use Rattle.answers.specs.declared.Entry.the-variants.{Granted, Denied, Default, Unclear}
+use Rattle.answers.specs.declared.Entry.the-variants.{Default}
 
 -- "p overrides n unless ..", both ways: c, d say whether a tail or a head is nested in the other, e, s whether they are the same box
 asym : (c c′ d d′ e e′ s s′ : Bool)

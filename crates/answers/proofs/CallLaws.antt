@@ -25,7 +25,6 @@ use Rattle.containment.specs.Scratch.{filled, scratchFault, scratchAfter}
 use Rattle.answers.specs.Meaning.{answer}
 use Rattle.answers.specs.Pairs.{matrixBytes, matrixNumbers}
 use Rattle.answers.specs.Calls.{askedFault, replyOf, unlessRefused, entryEarly, entryFault, matrixEarly, matrixFault, bytesAfter, numbersAfter}
-use Rattle.answers.specs.declared.Entry.{Entry}
 use Rattle.answers.specs.declared.Reply.{Reply}
 use Rattle.answers.specs.declared.Reply.the-variants.{Answered, Refused}
 
@@ -62,11 +61,11 @@ module _ (boxes rows arrows s : List ℕ) (m : ℕ) where
         × (t ≡ scratchAfter (entryEarly boxes rows arrows s m) boxes rows s)
 
     pub entry-tables : (r : Refusal) → Tables (Stopped r) → EntryEnds (Refused r) s
-    unfolding orElse entryEarly entryFault replyOf scratchAfter
+    unfolding orElse entryEarly entryFault replyOf
     entry-tables r t = let e = refused (tableFault boxes rows arrows) r t in (rw (e, orElse), rw (e, orElse))
 
     pub entry-early : (r : Refusal) → Tables Passed → verdictOf early ≡ Stopped r → EntryEnds (Refused r) s
-    unfolding orElse entryEarly entryFault replyOf scratchAfter
+    unfolding orElse entryEarly entryFault replyOf
     entry-early r t v =
         let e = passed (tableFault boxes rows arrows) t in
         let g = refused early r v in
@@ -74,7 +73,7 @@ module _ (boxes rows arrows s : List ℕ) (m : ℕ) where
 
     module _ (t : Tables Passed) (v : verdictOf early ≡ Passed) where
       scratch-is : filled (length boxes) rows s ≡ scratchAfter (entryEarly boxes rows arrows s m) boxes rows s
-      unfolding orElse entryEarly scratchAfter
+      unfolding orElse entryEarly
       scratch-is = rw (passed (tableFault boxes rows arrows) t, orElse, passed early v)
 
       fault-is : entryFault boxes rows arrows s m u f ≡ late
@@ -125,13 +124,13 @@ module _ (boxes rows arrows s : List ℕ) (m : ℕ) where
     ends o e p q = (rw p, rw q, rw p, rw p)
 
     pub matrix-tables : (r : Refusal) → Tables (Stopped r) → MatrixEnds (Stopped r) s bytes numbers
-    unfolding orElse matrixEarly matrixFault scratchAfter unlessRefused
+    unfolding orElse matrixEarly matrixFault
     matrix-tables r t =
         let e = refused (tableFault boxes rows arrows) r t in
         ends (some r) (some r) (rw (e, orElse)) (rw (e, orElse))
 
     pub matrix-early : (r : Refusal) → Tables Passed → verdictOf rest ≡ Stopped r → MatrixEnds (Stopped r) s bytes numbers
-    unfolding orElse matrixEarly matrixFault scratchAfter unlessRefused
+    unfolding orElse matrixEarly matrixFault
     matrix-early r t v =
         let e = passed (tableFault boxes rows arrows) t in
         let g = refused rest r v in
@@ -147,10 +146,8 @@ module _ (boxes rows arrows s : List ℕ) (m : ℕ) where
       loops-is = rw (early-none, orElse)
 
       pub matrix-loops : (r : Refusal) → verdictOf (loopFault boxes rows) ≡ Stopped r → MatrixEnds (Stopped r) (filled (length boxes) rows s) bytes numbers
-      unfolding scratchAfter unlessRefused
       matrix-loops r w = ends (some r) none (loops-is ∙ refused (loopFault boxes rows) r w) early-none
 
       pub matrix-filled : verdictOf (loopFault boxes rows) ≡ Passed
           → MatrixEnds Passed (filled (length boxes) rows s) (written (matrixBytes boxes rows arrows m) bytes) (written (matrixNumbers boxes rows arrows m) numbers)
-      unfolding scratchAfter unlessRefused
       matrix-filled w = ends none none (loops-is ∙ passed (loopFault boxes rows) w) early-none

@@ -28,7 +28,7 @@ replyOf none e = Answered e
 replyOf (some r) e = Refused r
 
 -- a lent buffer at the end: the new places, or after a refusal the old ones
-unfoldable pub unlessRefused : Option Refusal → List ℕ → List ℕ → List ℕ
+abbrev pub unlessRefused : Option Refusal → List ℕ → List ℕ → List ℕ
 unlessRefused none new old = new
 unlessRefused (some r) new old = old
 

@@ -497,7 +497,7 @@ pub fn check_clear(boxes: &[u8], rows: &[u16], scratch: &[u8], arrows: &[u16], m
 }
 
 // Check 12 for all modes. Each arrow is of one mode, so this costs about pairs × arrows in all.
-fn check_modes(boxes: &[u8], rows: &[u16], scratch: &[u8], arrows: &[u16]) -> Verdict
+pub fn check_modes(boxes: &[u8], rows: &[u16], scratch: &[u8], arrows: &[u16]) -> Verdict
     requires { ⌜ SoundRows (now boxes) (now rows) × SoundArrows (now boxes) (now arrows) × Says (length (now boxes)) (now rows) (now scratch) ⌝ }
     ensures { λ r. ⌜ r ≡ verdictOf (anyUnclear (now (boxes .entry)) (now (rows .entry)) (now (arrows .entry))) ⌝ }
 {

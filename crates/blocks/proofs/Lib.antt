@@ -3,6 +3,7 @@ pub mod Product
 pub mod Parts
 pub mod Placing
 pub mod Heads
+pub mod Held
 pub mod Searches
 pub mod Counting
 pub mod Order

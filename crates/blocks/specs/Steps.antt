@@ -10,6 +10,10 @@ use Rattle.blocks.specs.Reads.{countsOf}
 use Rattle.blocks.specs.declared.Head.{Head}
 use Rattle.blocks.specs.declared.Counts.{Counts}
 
+-- a head of zeros
+abbrev pub noHead : Head
+noHead = record { kind = 0; byte1 = 0; number = 0; count = 0; byte6 = 0; byte7 = 0 }
+
 -- no rows
 abbrev pub noCounts : Counts
 noCounts = record { boxes = 0; containments = 0; arrows = 0 }

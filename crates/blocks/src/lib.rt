@@ -9,8 +9,9 @@ ghost use Rattle.tables.specs.Refusals.{verdictOf};
 ghost use Rattle.blocks.specs.Fnv.{fnvStart, fnvStep, fnvFold, fnv1a};
 ghost use Rattle.blocks.specs.Blocks.{number16, number32, headOf, byKind, capacity, recordsEnd, boxAt, containmentAt, arrowAt, boxRow, containmentRow, arrowRow, countOf, joined, boxesSaid, containmentsSaid, arrowsSaid, wrongHead, allZero, wrongFiller, blockFault};
 ghost use Rattle.blocks.specs.Files.{blockAt, blockCount, kindBefore, blocksFault, lengthFault, boxesOf, containmentsOf, arrowsOf};
+ghost use Rattle.blocks.specs.Reader.{seenAt, nextBlock};
 ghost use Rattle.blocks.specs.Reads.{countsOf, tablesFault, answerOf, ReadDone};
-ghost use Rattle.blocks.specs.Steps.{countsWith, noCounts, BlockFits, Fitting};
+ghost use Rattle.blocks.specs.Steps.{noHead, countsWith, noCounts, BlockFits, Fitting};
 use tables::Refusal;
 use tables::Verdict;
 
@@ -210,8 +211,8 @@ pub struct Head {
 }
 
 impl Head {
-    // The head of a block.
-    pub fn of(file: &[u8], block: usize) -> Self
+    // The bytes of a block's head.
+    fn from_bytes(file: &[u8], block: usize) -> Self
         requires { ⌜ block < blockCount (now file) ⌝ }
         ensures { λ r. ⌜ r ≡ headOf (blockAt (now (file .entry)) block) ⌝ }
     {
@@ -222,6 +223,32 @@ impl Head {
             count: number_of(file, block, 4),
             byte6: byte_of(file, block, 6),
             byte7: byte_of(file, block, 7),
+        }
+    }
+
+    // The head of a block, as the block's reader sees it.
+    fn of(file: &[u8], block: usize) -> Self
+        requires { ⌜ block < blockCount (now file) ⌝ }
+        ensures { λ r. ⌜ r ≡ headOf (blockAt (now (file .entry)) block) ⌝ }
+    {
+        let seen = head_at(file, block);
+        let Seen::Block(head) = seen else {
+            return Self::none();
+        };
+        head
+    }
+
+    // The head that stands for no block.
+    fn none() -> Self
+        ensures { λ r. ⌜ r ≡ noHead ⌝ }
+    {
+        Self {
+            kind: 0,
+            byte1: 0,
+            number: 0,
+            count: 0,
+            byte6: 0,
+            byte7: 0,
         }
     }
 
@@ -267,6 +294,71 @@ impl Head {
             | (wide(self.number) != place)
             | (capacity < wide(self.count))
     }
+}
+
+// What stands at a block number: a block, of which the head is shown, or none.
+pub enum Seen {
+    Block(Head),
+    NoBlock,
+}
+
+// What stands at a block number of a file.
+fn seen_at(file: &[u8], block: usize) -> Seen
+    ensures { λ r. ⌜ r ≡ seenAt (now (file .entry)) block ⌝ }
+{
+    if block < file.len() / BLOCK_SIZE {
+        return Seen::Block(Head::from_bytes(file, block));
+    }
+    Seen::NoBlock
+}
+
+// The number after a block's; where a file has no such block, the number itself.
+fn next_block(file: &[u8], block: usize) -> usize
+    ensures { λ r. ⌜ r ≡ nextBlock (now (file .entry)) block ⌝ }
+{
+    if block < file.len() / BLOCK_SIZE {
+        return block + 1;
+    }
+    block
+}
+
+// The caller's bytes together with a place among them, a block number.
+pub struct BlockReader<'a> {
+    pub file: &'a [u8],
+    pub block: usize,
+}
+
+impl<'a> BlockReader<'a> {
+    // The reader of a file at a block number.
+    pub fn at(file: &'a [u8], block: usize) -> BlockReader<'a>
+        ensures { λ r. ⌜ (r .file ≡ file .entry) × (r .block ≡ block) ⌝ }
+    {
+        BlockReader { file, block }
+    }
+
+    // What stands in the reader's block.
+    pub fn seen(self) -> Seen
+        ensures { λ r. ⌜ r ≡ seenAt (now (self .entry .file)) (self .entry .block) ⌝ }
+    {
+        seen_at(self.file, self.block)
+    }
+
+    // The reader of the next block; behind the last block it stays.
+    pub fn next(self) -> BlockReader<'a>
+        ensures { λ r. ⌜ (r .file ≡ self .entry .file) × (r .block ≡ nextBlock (now (self .entry .file)) (self .entry .block)) ⌝ }
+    {
+        BlockReader {
+            file: self.file,
+            block: next_block(self.file, self.block),
+        }
+    }
+}
+
+// What the reader at a block number sees. With plain parameters: its callers hold no reader.
+pub fn head_at(file: &[u8], block: usize) -> Seen
+    ensures { λ r. ⌜ r ≡ seenAt (now (file .entry)) block ⌝ }
+{
+    BlockReader::at(file, block).seen()
 }
 
 // The check of a block's bytes 0 to 507.

@@ -1,7 +1,7 @@
 -- `contains` is the chain of one or more rows; it is transitive; and what it has to do with rows and atomic boxes. Assumes nothing.
-use mathlib.Core.Path.{_≡_, sym, subst}
+use mathlib.Core.Path.{_≡_, refl, sym, subst}
 use mathlib.Core.Logic.{_⊎_, inl, inr, ⊎-map, ⊎-elim, _↔_}
-use mathlib.Core.Bool.{_&&_}
+use mathlib.Core.Bool.{_&&_, _||_}
 use mathlib.Core.List.{List, [], _∷_}
 use mathlib.Core.Option.{none}
 use Prim.Native.Nat.{ℕ, _<_}
@@ -34,6 +34,10 @@ unfolding contains around
 via x y rows a b t u = T-or₂ (contains rows a b) (around rows a x && around rows y b) (T-and (around rows a x) (around rows y b) t u)
 
 -- ---- `around`
+
+pub around-test : (rows : List ℕ) (a b : ℕ) → around rows a b ≡ (eqb a b || contains rows a b)
+unfolding around
+around-test rows a b = refl
 
 pub around-cases : (rows : List ℕ) (a b : ℕ) → T (around rows a b) → (a ≡ b) ⊎ T (contains rows a b)
 unfolding around

@@ -25,7 +25,6 @@ prepared boxes rows arrows s t r = record {
 
 -- the scratch is filled where checks 1 to 9 found nothing
 pub scratch-filled : (boxes rows s : List ℕ) {fault : Option Refusal} → fault ≡ none → scratchAfter fault boxes rows s ≡ filled (length boxes) rows s
-unfolding scratchAfter
 scratch-filled boxes rows s e = rw e
 
 pub picture-prepared : (boxes rows arrows s : List ℕ) → pictureFault boxes rows arrows s ≡ none → Prepared boxes rows arrows s × (earlyFault boxes rows arrows s ≡ none)

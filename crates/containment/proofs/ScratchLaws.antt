@@ -68,11 +68,11 @@ module _ (boxes rows arrows s : List ℕ) where
   Ends v t = (v ≡ verdictOf (pictureFault boxes rows arrows s)) × (t ≡ scratchAfter (earlyFault boxes rows arrows s) boxes rows s)
 
   pub ends-tables : (r : Refusal) → verdictOf (tableFault boxes rows arrows) ≡ Refused r → Ends (Refused r) s
-  unfolding orElse pictureFault earlyFault scratchAfter
+  unfolding orElse pictureFault earlyFault
   ends-tables r e = let f = refused (tableFault boxes rows arrows) r e in (rw (f, orElse), rw (f, orElse))
 
   pub ends-room : (r : Refusal) → verdictOf (tableFault boxes rows arrows) ≡ Passed → verdictOf (scratchFault (length boxes) s) ≡ Refused r → Ends (Refused r) s
-  unfolding orElse pictureFault earlyFault scratchAfter
+  unfolding orElse pictureFault earlyFault
   ends-room r p e =
       let f = passed (tableFault boxes rows arrows) p in
       let g = refused (scratchFault (length boxes) s) r e in
@@ -80,7 +80,7 @@ module _ (boxes rows arrows s : List ℕ) where
 
   pub ends-filled : verdictOf (tableFault boxes rows arrows) ≡ Passed → verdictOf (scratchFault (length boxes) s) ≡ Passed
       → Ends (verdictOf (loopFault boxes rows)) (filled (length boxes) rows s)
-  unfolding orElse pictureFault earlyFault scratchAfter
+  unfolding orElse pictureFault earlyFault
   ends-filled p q =
       let f = passed (tableFault boxes rows arrows) p in
       let g = passed (scratchFault (length boxes) s) q in

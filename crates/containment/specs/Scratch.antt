@@ -24,7 +24,7 @@ unfoldable pub scratchFault : ℕ → List ℕ → Option Refusal
 scratchFault n s = roomFault 0 (length s) (n * n)
 
 -- the scratch is filled whenever checks 1 to 9 pass; else it is as it was
-unfoldable pub scratchAfter : Option Refusal → List ℕ → List ℕ → List ℕ → List ℕ
+abbrev pub scratchAfter : Option Refusal → List ℕ → List ℕ → List ℕ → List ℕ
 scratchAfter none boxes rows s = filled (length boxes) rows s
 scratchAfter (some r) boxes rows s = s
 

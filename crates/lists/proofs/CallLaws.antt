@@ -69,7 +69,6 @@ module _ (boxes rows arrows : List ℕ) (m : ℕ) (out work : List ℕ) (count :
 module _ (boxes rows arrows : List ℕ) (m : ℕ) (out work : List ℕ) where
   -- check 12 refuses
   pub listing-refused : (x : Refusal) → unclearFault boxes rows arrows m ≡ some x → Listing boxes rows arrows m out work (Refused x) out work
-  unfolding unlessRefused
   listing-refused x e = record { answered = rw e (refl, refl); work-after = rw e }
 
   -- the bytes of the empty list are copied
@@ -89,7 +88,6 @@ module _ (boxes rows arrows : List ℕ) (m : ℕ) (out work : List ℕ) where
     pub listing-done : unclearFault boxes rows arrows m ≡ none → (r : Listed) (out′ work′ : List ℕ)
         → Answered boxes rows arrows m none (orderFault boxes rows arrows m) r out out′
         → (n : ℕ) → n ≡ pairCount boxes rows → work′ ≡ written (zeros n) work₁ → Listing boxes rows arrows m out work r out′ work′
-    unfolding unlessRefused
     listing-done u r out′ work′ a n p z = record {
       answered = rw u a;
       work-after =

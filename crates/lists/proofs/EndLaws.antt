@@ -46,19 +46,19 @@ module _ (boxes rows arrows : List ℕ) (m : ℕ) (s out work : List ℕ) where
 
   -- refused by checks 1 to 9
   pub end-early : (x : Refusal) → listEarly boxes rows arrows m s out work ≡ some x → Outcome boxes rows arrows m s out work (Refused x) s out work
-  unfolding orElse scratchAfter unlessRefused
+  unfolding orElse
   end-early x e = record { answered = rw (e, orElse) (refl, refl); scratch-after = rw e; work-after = rw (e, orElse) }
 
   module _ (e : listEarly boxes rows arrows m s out work ≡ none) where
     -- refused by check 10
     pub end-loops : (x : Refusal) → loopFault boxes rows ≡ some x → Outcome boxes rows arrows m s out work (Refused x) (filled (length boxes) rows s) out work
-    unfolding orElse listLate scratchAfter unlessRefused
+    unfolding orElse listLate
     end-loops x l = record { answered = rw (e, orElse, l, orElse) (refl, refl); scratch-after = rw e; work-after = rw (e, orElse, l, orElse) }
 
     -- check 12 and what follows it
     pub end-listing : loopFault boxes rows ≡ none → (r : Listed) (out′ work′ : List ℕ) → Listing boxes rows arrows m out work r out′ work′
         → Outcome boxes rows arrows m s out work r (filled (length boxes) rows s) out′ work′
-    unfolding orElse listLate scratchAfter
+    unfolding orElse listLate
     end-listing l r out′ work′ g = record {
       answered = rw (e, orElse, l, orElse) (g .answered);
       scratch-after = rw e;

@@ -1,9 +1,15 @@
-// Runs `containment::prepare` on test pictures. Standard input holds them as decimal numbers: for each picture the three tables,
-// each as its length and its numbers, and the length of the scratch that is lent. A line is written for each picture: the
-// verdict; how many places of the scratch buffer, which holds 7 in each at first, then hold 0, 1 and 7; and its first 16 places.
+// Runs the calls on test pictures. Standard input holds them as decimal numbers: for each picture the three tables, each as its
+// length and its numbers, the length of the scratch that is lent, and a question: mode, user, file, and how many places of the two
+// matrix buffers are lent. Every place of every buffer holds 7 before each call. Lines are written for each picture:
+//   prepare   the verdict; how many places of the scratch buffer then hold 0, 1 and 7; its first 16 places
+//   judge     the verdict, and the same three counts
+//   entry     the reply, and the counts
+//   matrix    the verdict, the first 16 lent places of both buffers, and the counts
 ghost use Prim.Native.Nat.{_<_, _≤_};
 ghost use mathlib.Core.Path.{_≡_};
 ghost use lib.ListN.{length};
+use answers::Entry;
+use answers::Reply;
 use libc::STDIN_FILENO;
 use libc::STDOUT_FILENO;
 use tables::Verdict;
@@ -138,17 +144,64 @@ fn show_verdict(v: Verdict) {
     }
 }
 
-fn show_scratch(s: &[u8]) {
+fn show_entry(e: Entry) {
+    match e {
+        Entry::Granted(k) => {
+            io::write_all(STDOUT_FILENO, b"granted");
+            print(tables::wide(k));
+        }
+        Entry::Denied(k) => {
+            io::write_all(STDOUT_FILENO, b"denied");
+            print(tables::wide(k));
+        }
+        Entry::Default => {
+            io::write_all(STDOUT_FILENO, b"default");
+        }
+        Entry::Unclear(p, n) => {
+            io::write_all(STDOUT_FILENO, b"unclear");
+            print(tables::wide(p));
+            print(tables::wide(n));
+        }
+    }
+}
+
+fn show_reply(r: Reply) {
+    match r {
+        Reply::Answered(e) => {
+            show_entry(e);
+        }
+        Reply::Refused(refusal) => {
+            show_verdict(Verdict::Refused(refusal));
+        }
+    }
+}
+
+fn show_counts(s: &[u8]) {
     io::write_all(STDOUT_FILENO, b" :");
     print(count_of(s, 0));
     print(count_of(s, 1));
     print(count_of(s, 7));
+}
+
+fn show_bytes(s: &[u8]) {
     io::write_all(STDOUT_FILENO, b" :");
     let mut i = 0;
     while i < 16 && i < s.len() {
         print(wide(s[i]));
         i += 1;
     }
+}
+
+fn show_numbers(s: &[u16]) {
+    io::write_all(STDOUT_FILENO, b" :");
+    let mut i = 0;
+    while i < 16 && i < s.len() {
+        print(tables::wide(s[i]));
+        i += 1;
+    }
+}
+
+fn end_line() {
     io::write_all(STDOUT_FILENO, b"\n");
 }
 
@@ -157,8 +210,122 @@ fn run(boxes: &[u8], rows: &[u16], arrows: &[u16], scratch: &mut [u8], lent: usi
     fill(scratch, 7);
     if lent <= scratch.len() {
         show_verdict(containment::prepare(boxes, rows, arrows, &mut scratch[..lent]));
-        show_scratch(scratch);
+        show_counts(scratch);
+        show_bytes(scratch);
+        end_line();
     }
+}
+
+fn run_judge(boxes: &[u8], rows: &[u16], arrows: &[u16], scratch: &mut [u8], lent: usize) {
+    fill(scratch, 7);
+    if lent <= scratch.len() {
+        show_verdict(answers::judge(boxes, rows, arrows, &mut scratch[..lent]));
+        show_counts(scratch);
+        end_line();
+    }
+}
+
+// A question of the text, and the place after it.
+struct Question {
+    mode: u16,
+    user: u16,
+    file: u16,
+    bytes: usize,
+    numbers: usize,
+    at: usize,
+}
+
+fn read_question(text: &[u8], from: usize) -> Question {
+    let mode = number(text, from);
+    let user = number(text, mode.at);
+    let file = number(text, user.at);
+    let bytes = number(text, file.at);
+    let numbers = number(text, bytes.at);
+    Question {
+        mode: (mode.value % 65536) as u16,
+        user: (user.value % 65536) as u16,
+        file: (file.value % 65536) as u16,
+        bytes: bytes.value,
+        numbers: numbers.value,
+        at: numbers.at,
+    }
+}
+
+fn run_entry(
+    boxes: &[u8],
+    rows: &[u16],
+    arrows: &[u16],
+    scratch: &mut [u8],
+    lent: usize,
+    q: Question,
+) {
+    fill(scratch, 7);
+    if lent <= scratch.len() {
+        show_reply(answers::one_entry(
+            boxes,
+            rows,
+            arrows,
+            &mut scratch[..lent],
+            q.user,
+            q.file,
+            q.mode,
+        ));
+        show_counts(scratch);
+        end_line();
+    }
+}
+
+fn run_matrix(
+    boxes: &[u8],
+    rows: &[u16],
+    arrows: &[u16],
+    scratch: &mut [u8],
+    mode: u16,
+    bytes: &mut [u8],
+    numbers: &mut [u16],
+) {
+    show_verdict(answers::matrix(boxes, rows, arrows, scratch, mode, bytes, numbers));
+    show_bytes(bytes);
+    show_numbers(numbers);
+}
+
+// All calls on a picture.
+fn run_all(
+    boxes: &[u8],
+    rows: &[u16],
+    arrows: &[u16],
+    scratch: &mut [u8],
+    lent: usize,
+    q: Question,
+) {
+    run(boxes, rows, arrows, scratch, lent);
+    run_judge(boxes, rows, arrows, scratch, lent);
+    run_entry(boxes, rows, arrows, scratch, lent, q);
+    let nb = q.bytes;
+    let nn = q.numbers;
+    if scratch.len() < lent {
+        return;
+    }
+    if 40 < nb {
+        return;
+    }
+    if 40 < nn {
+        return;
+    }
+    fill(scratch, 7);
+    let mut b = [7u8; 40];
+    let mut n = [7u16; 40];
+    run_matrix(
+        boxes,
+        rows,
+        arrows,
+        &mut scratch[..lent],
+        q.mode,
+        &mut b[..nb],
+        &mut n[..nn],
+    );
+    show_counts(scratch);
+    end_line();
 }
 
 // One picture of the text; answers the place after it.
@@ -174,11 +341,19 @@ fn picture(
     let r = table(text, b.at, rows);
     let a = table(text, r.at, arrows);
     let s = number(text, a.at);
+    let q = read_question(text, s.at);
     let nb = b.value;
     let nr = r.value;
     let na = a.value;
-    run(&boxes[..nb], &rows[..nr], &arrows[..na], scratch, s.value);
-    s.at
+    run_all(
+        &boxes[..nb],
+        &rows[..nr],
+        &arrows[..na],
+        scratch,
+        s.value,
+        q,
+    );
+    q.at
 }
 
 fn pictures(

@@ -1,24 +1,17 @@
-use Rattle.answers.proofs.AmongLaws.{reaching-most, reaching-numbers}
+use mathlib.Core.Path.{ap}
+use Prim.Native.Nat.{ℕ, _≤_}
+use native.Mathlib.Omega.{arith}
+use lib.ListN.{length}
+use Rattle.tables.proofs.PartLaws.{part-is, part-length, part-within, wrote-length}
 use Rattle.answers.specs.Among.{reaching}
 use Rattle.answers.specs.Meaning.{positive, negative}
-use Rattle.tables.proofs.PartLaws.{part-is, part-length, part-within, wrote-length}
-use lib.ListN.{length}
-use Prim.Native.Nat.{ℕ, _≤_}
-use mathlib.Core.Path.{_≡_, refl, ap}
-use native.Mathlib.Omega.{arith}
-use borrow.Author.Needs.{needs}
+use Rattle.answers.proofs.AmongLaws.{reaching-most, reaching-numbers}
 use Rattle.answers.proofs.answer_among.Statement.{statement}
 use Rattle.answers.proofs.answer_among.Tie as tie
-use Rattle.answers.proofs.answer_among.Reads as reads
-use Rattle.answers.proofs.answer_among.Lts as lts
-use Rattle.answers.proofs.gather.Reads as gather-reads
-use Rattle.answers.proofs.settle.Reads as settle-reads
 
--- src/lib.rt:312:9
 gather-requires : tie.Need-gather-requires
 gather-requires c κs = let p = c .before .before .before .before .before .before .before .pre in (p .0, p .1, p .2, p .3, p .4, p .5)
 
--- src/lib.rt:313:9
 gather-requires-2 : tie.Need-gather-requires-2
 gather-requires-2 c κs = let p = c .before .before .before .before .before .before .before .before .before .before .before .pre in (p .0, p .1, p .2, p .3, p .4, p .6)
 
@@ -26,23 +19,18 @@ gather-requires-2 c κs = let p = c .before .before .before .before .before .bef
 few : (c : tie.Start) (s : ℕ) → let a = c .args in length (reaching (a .rows .now) (a .arrows .now) (a .mode) s (a .u) (a .f)) ≤ length (a .own .now)
 few c s = let a = c .args in omega (arith, reaching-most (a .rows .now) (a .arrows .now) (a .mode) s (a .u) (a .f), ap length (c .pre .2))
 
--- src/lib.rt:314:38
 slice-reshare-prefix-settle : tie.Need-slice-reshare-prefix-settle
 slice-reshare-prefix-settle c = part-within _ _ _ _ (c .before .before .before .before .before .before .gather .ensures) (omega (arith, few (c .before .before .before .before .before .before .before .before .before .before .before .before .before .before) positive, c .before .before .before .before .before .before .before .before .before .before .before .before .before .before .pre .5))
 
--- src/lib.rt:314:38
 slice-aggregate-settle : tie.Need-slice-aggregate-settle
 slice-aggregate-settle c = part-length _ _ _ _ (c .before .before .before .before .before .before .before .gather .ensures)
 
--- src/lib.rt:314:48
 slice-reshare-prefix-settle-2 : tie.Need-slice-reshare-prefix-settle-2
 slice-reshare-prefix-settle-2 c = part-within _ _ _ _ (c .before .before .before .gather2 .ensures) (omega (arith, few (c .before .before .before .before .before .before .before .before .before .before .before .before .before .before .before) negative, c .before .before .before .before .before .before .before .before .before .before .before .before .before .before .before .pre .6))
 
--- src/lib.rt:314:48
 slice-aggregate-settle-2 : tie.Need-slice-aggregate-settle-2
 slice-aggregate-settle-2 c = part-length _ _ _ _ (c .before .before .before .before .gather2 .ensures)
 
--- src/lib.rt:314:5
 settle-requires : tie.Need-settle-requires
 settle-requires c κs = let start = c .before .before .before .before .before .before .before .before .before .before .before .before .before .before .before .before in
     let a = start .args in
@@ -53,15 +41,12 @@ settle-requires c κs = let start = c .before .before .before .before .before .b
       reaching-numbers (a .rows .now) (a .arrows .now) (a .mode) negative (a .u) (a .f),
     )
 
--- src/lib.rt:297:1
 same-length : tie.Need-same-length
 same-length c = wrote-length _ _ _ _ (c .before .before .before .before .before .before .before .before .before .gather .ensures) (omega (arith, few (c .before .before .before .before .before .before .before .before .before .before .before .before .before .before .before .before .before) positive, c .before .before .before .before .before .before .before .before .before .before .before .before .before .before .before .before .before .pre .5))
 
--- src/lib.rt:297:1
 same-length-2 : tie.Need-same-length-2
 same-length-2 c = wrote-length _ _ _ _ (c .before .before .before .before .before .gather2 .ensures) (omega (arith, few (c .before .before .before .before .before .before .before .before .before .before .before .before .before .before .before .before .before) negative, c .before .before .before .before .before .before .before .before .before .before .before .before .before .before .before .before .before .pre .6))
 
--- src/lib.rt:297:1
 returns : tie.Need-returns
 returns c = let a = c .before .before .before .before .before .before .before .before .before .before .before .before .before .before .before .before .before .args in (
   c .settle .ensures (a .mode) (a .u) (a .f) (part-is _ _ _ _ (c .before .before .before .before .before .before .before .before .before .gather .ensures)) (part-is _ _ _ _ (c .before .before .before .before .before .gather2 .ensures)),

@@ -1,21 +1,14 @@
-use Rattle.answers.proofs.PairLaws.{userAt-atom, fileAt-atom}
-use Rattle.tables.proofs.AtomPlaces.{atom-there}
-use Rattle.tables.specs.Rows.{user, file}
-use Rattle.answers.specs.Pairs.{answerAt}
-use native.Mathlib.Omega.{arith}
 use borrow.Author.Needs.{needs}
+use Rattle.tables.specs.Rows.{user, file}
+use Rattle.tables.proofs.AtomPlaces.{atom-there}
+use Rattle.answers.specs.Pairs.{answerAt}
+use Rattle.answers.proofs.PairLaws.{userAt-atom, fileAt-atom}
 use Rattle.answers.proofs.answer_at.Statement.{statement}
 use Rattle.answers.proofs.answer_at.Tie as tie
-use Rattle.answers.proofs.answer_at.Reads as reads
-use Rattle.answers.proofs.answer_at.Lts as lts
-use Rattle.answers.proofs.answer_among.Reads as answer-among-reads
-use Rattle.answers.proofs.pair_at.Reads as pair-at-reads
 
--- src/lib.rt:418:9
 pair-at-requires : tie.Need-pair-at-requires
 pair-at-requires c κs = let p = c .before .before .before .before .before .before .before .before .before .pre in (p .0 .users-are, p .0 .files-are, p .1)
 
--- src/lib.rt:419:5
 answer-among-requires : tie.Need-answer-among-requires
 answer-among-requires c κs = let start = c .before .before .before .before .before .before .before .before .before .before .before .before in
     let a = start .args in
@@ -30,15 +23,12 @@ answer-among-requires c κs = let start = c .before .before .before .before .bef
       r .negative-room,
     )
 
--- src/lib.rt:402:1
 same-length : tie.Need-same-length
 same-length c = search needs
 
--- src/lib.rt:402:1
 same-length-2 : tie.Need-same-length-2
 same-length-2 c = search needs
 
--- src/lib.rt:402:1
 returns : tie.Need-returns
 unfolding answerAt
 returns c = rw (c .before .before .before .before .answer-among .ensures .0, c .before .before .before .before .before .before .before .pair-at .ensures .0, c .before .before .before .before .before .before .before .pair-at .ensures .1)

@@ -1,60 +1,45 @@
-use Rattle.answers.proofs.AmongLaws.{mode-most}
-use Rattle.answers.specs.Among.{modeArrows}
-use Rattle.tables.proofs.PartLaws.{part-is, part-length, part-within}
-use Rattle.tables.proofs.BufferLaws.{zeros-length}
-use lib.ListN.{length}
-use Prim.Native.Nat.{ℕ, _≤_}
 use mathlib.Core.Path.{refl, ap, _∙_}
+use Prim.Native.Nat.{_≤_}
 use native.Mathlib.Omega.{arith}
 use borrow.Author.Needs.{needs}
+use lib.ListN.{length}
+use Rattle.tables.proofs.PartLaws.{part-is, part-length, part-within}
+use Rattle.tables.proofs.BufferLaws.{zeros-length}
+use Rattle.answers.specs.Among.{modeArrows}
+use Rattle.answers.proofs.AmongLaws.{mode-most}
 use Rattle.answers.proofs.answer_pair.Statement.{statement}
 use Rattle.answers.proofs.answer_pair.Tie as tie
-use Rattle.answers.proofs.answer_pair.Reads as reads
-use Rattle.answers.proofs.answer_pair.Lts as lts
-use Rattle.answers.proofs.answer_among.Reads as answer-among-reads
-use Rattle.answers.proofs.mode_arrows.Reads as mode-arrows-reads
-use Rattle.answers.proofs.no_numbers.Reads as no-numbers-reads
 
 few : (c : tie.Start) → length (modeArrows (c .args .arrows .now) (c .args .mode)) ≤ 512
 few c = omega (arith, mode-most (c .args .arrows .now) (c .args .mode), c .pre .2)
 
--- src/lib.rt:330:19
 no-numbers-requires : tie.Need-no-numbers-requires
 no-numbers-requires c κs = search needs
 
--- src/lib.rt:331:18
 no-numbers-requires-2 : tie.Need-no-numbers-requires-2
 no-numbers-requires-2 c κs = search needs
 
--- src/lib.rt:332:18
 no-numbers-requires-3 : tie.Need-no-numbers-requires-3
 no-numbers-requires-3 c κs = search needs
 
--- src/lib.rt:333:39
 slice-aggregate-mode-arrows : tie.Need-slice-aggregate-mode-arrows
 slice-aggregate-mode-arrows c = search needs
 
--- src/lib.rt:333:9
 mode-arrows-requires : tie.Need-mode-arrows-requires
 mode-arrows-requires c κs = search needs
 
--- src/lib.rt:340:9
 array-share-prefix-own : tie.Need-array-share-prefix-own
 array-share-prefix-own c = part-within _ _ _ _ (c .before .mode-arrows .ensures) (omega (arith, few (c .before .before .before .before .before .before .before .before .before), ap length (c .before .before .before .before .before .no-numbers .ensures) ∙ zeros-length 512))
 
--- src/lib.rt:340:9
 slice-aggregate-answer-among : tie.Need-slice-aggregate-answer-among
 slice-aggregate-answer-among c = part-length _ _ _ _ (c .before .before .mode-arrows .ensures)
 
--- src/lib.rt:343:9
 slice-aggregate-answer-among-2 : tie.Need-slice-aggregate-answer-among-2
 slice-aggregate-answer-among-2 c = search needs
 
--- src/lib.rt:344:9
 slice-aggregate-answer-among-3 : tie.Need-slice-aggregate-answer-among-3
 slice-aggregate-answer-among-3 c = search needs
 
--- src/lib.rt:334:5
 answer-among-requires : tie.Need-answer-among-requires
 answer-among-requires c κs = let start = c .before .before .before .before .before .before .before .before .before .before .before .before in
     let p = start .pre in
@@ -68,7 +53,6 @@ answer-among-requires c κs = let start = c .before .before .before .before .bef
       omega (arith, few start, ap length (c .before .before .before .before .before .before .no-numbers3 .ensures) ∙ zeros-length 512),
     )
 
--- src/lib.rt:318:1
 returns : tie.Need-returns
 returns c = c .before .before .answer-among .ensures .0
 

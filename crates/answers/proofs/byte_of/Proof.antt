@@ -1,43 +1,32 @@
-use Rattle.answers.specs.Meaning.{byteOf}
-use native.Mathlib.Omega.{arith}
 use borrow.Author.Needs.{needs}
+use Rattle.answers.specs.Meaning.{byteOf}
 use Rattle.answers.proofs.byte_of.Statement.{statement}
 use Rattle.answers.proofs.byte_of.Tie as tie
-use Rattle.answers.proofs.byte_of.Reads as reads
-use Rattle.answers.proofs.byte_of.Lts as lts
 
--- src/lib.rt:52:30
 enum-told : tie.Need-enum-told
 enum-told c = search needs
 
--- src/lib.rt:53:29
 enum-told-2 : tie.Need-enum-told-2
 enum-told-2 c = search needs
 
--- src/lib.rt:54:27
 enum-told-3 : tie.Need-enum-told-3
 enum-told-3 c = search needs
 
--- src/lib.rt:55:33
 enum-told-4 : tie.Need-enum-told-4
 enum-told-4 c = search needs
 
--- src/lib.rt:48:1
 returns : tie.Need-returns
 unfolding byteOf
 returns c = rw (c .enum-told .given .1)
 
--- src/lib.rt:48:1
 returns-2 : tie.Need-returns-2
 unfolding byteOf
 returns-2 c = rw (c .enum-told2 .given .1)
 
--- src/lib.rt:48:1
 returns-3 : tie.Need-returns-3
 unfolding byteOf
 returns-3 c = rw (c .enum-told3 .given .1)
 
--- src/lib.rt:48:1
 returns-4 : tie.Need-returns-4
 unfolding byteOf
 returns-4 c = rw (c .enum-told4 .given .1)

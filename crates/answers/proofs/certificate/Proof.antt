@@ -1,18 +1,13 @@
-use Rattle.tables.proofs.Tests.{true-T, false-not}
-use borrow.Author.Count.{below-more}
-use Rattle.answers.specs.Among.{NoneBefore, FirstAt, wins}
-use Rattle.tables.specs.Rows.{arrowAt}
-use lib.ListN.{length, getD}
 use mathlib.Core.Path.{_≡_, sym, _∙_}
-use Prim.Native.Nat.{_-_, _≤_}
+use Prim.Native.Nat.{_-_}
 use native.Mathlib.Omega.{arith}
+use borrow.Author.Count.{below-more}
 use borrow.Author.Needs.{needs}
+use lib.ListN.{length, getD}
+use Rattle.tables.proofs.Tests.{true-T, false-not}
+use Rattle.answers.specs.Among.{NoneBefore, wins}
 use Rattle.answers.proofs.certificate.Statement.{statement}
 use Rattle.answers.proofs.certificate.Tie as tie
-use Rattle.answers.proofs.certificate.Reads as reads
-use Rattle.answers.proofs.certificate.Lts as lts
-use Rattle.answers.proofs.arrow_at.Reads as arrow-at-reads
-use Rattle.answers.proofs.overrides_all.Reads as overrides-all-reads
 
 abbrev Inv-loop : tie.InvT-loop
 Inv-loop n rows scratch arrows own from opposite i₀ i = NoneBefore rows arrows own opposite i
@@ -20,23 +15,18 @@ Inv-loop n rows scratch arrows own from opposite i₀ i = NoneBefore rows arrows
 abbrev μ-loop : tie.MeasureT-loop
 μ-loop n rows scratch arrows own from opposite i₀ i = length own - i
 
--- src/lib.rt:210:5
 loop-holds : tie.Need-loop-holds Inv-loop μ-loop
 loop-holds c = c .before .before .before .before .before .pre .4
 
--- src/lib.rt:211:69
 mul-arrow-at : tie.Need-mul-arrow-at Inv-loop μ-loop
 mul-arrow-at c = search needs
 
--- src/lib.rt:211:69
 shared-slice-read-arrow-at : tie.Need-shared-slice-read-arrow-at Inv-loop μ-loop
 shared-slice-read-arrow-at c = search needs
 
--- src/lib.rt:211:52
 arrow-at-requires : tie.Need-arrow-at-requires Inv-loop μ-loop
 arrow-at-requires c κs = c .before .before .before .before .before .before .before .before .pre .2 (c .before .before .loop .i) (c .before .loop-test .taken)
 
--- src/lib.rt:211:12
 overrides-all-requires : tie.Need-overrides-all-requires Inv-loop μ-loop
 overrides-all-requires c κs = let start = c .before .before .before .before .before .before .before .before .before in
     let l = c .before .before .before .loop in
@@ -49,23 +39,18 @@ tried : (c : tie.After-overrides-all Inv-loop μ-loop) → let a = c .before .be
 unfolding wins
 tried c = rw (← c .before .arrow-at .ensures) (sym (c .overrides-all .ensures))
 
--- src/lib.rt:212:13
 returns : tie.Need-returns Inv-loop μ-loop
 returns c = record { none-before = c .before .before .before .before .before .loop .inv; holds = λ h. true-T _ (tried (c .before) ∙ c .if1 .taken) }
 
--- src/lib.rt:214:9
 add-i : tie.Need-add-i Inv-loop μ-loop
 add-i c = search needs
 
--- src/lib.rt:210:5
 loop-less : tie.Need-loop-less Inv-loop μ-loop
 loop-less c = search needs
 
--- src/lib.rt:210:5
 loop-again : tie.Need-loop-again Inv-loop μ-loop
 loop-again c = below-more _ _ (c .before .before .before .before .before .loop .inv) (false-not _ (tried (c .before) ∙ c .if1 .left))
 
--- src/lib.rt:197:1
 returns-2 : tie.Need-returns-2 Inv-loop μ-loop
 returns-2 c = record { none-before = c .before .loop .inv; holds = λ h. absurd (omega arith) }
 

@@ -1,31 +1,20 @@
-use Rattle.answers.specs.Calls.{askedFault}
-use native.Mathlib.Omega.{arith}
 use borrow.Author.Needs.{needs}
+use Rattle.answers.specs.Calls.{askedFault}
 use Rattle.answers.proofs.check_asked.Statement.{statement}
 use Rattle.answers.proofs.check_asked.Tie as tie
-use Rattle.answers.proofs.check_asked.Reads as reads
-use Rattle.answers.proofs.check_asked.Lts as lts
-use Rattle.answers.proofs.is_pair.Reads as is-pair-reads
-use Rattle.tables.proofs.Verdict.refused_if.Reads as refused-if-reads
-use Rattle.tables.proofs.wide.Reads as wide-reads
 
--- src/lib.rt:537:18
 is-pair-requires : tie.Need-is-pair-requires
 is-pair-requires c κs = search needs
 
--- src/lib.rt:538:36
 wide-requires : tie.Need-wide-requires
 wide-requires c κs = search needs
 
--- src/lib.rt:538:45
 wide-requires-2 : tie.Need-wide-requires-2
 wide-requires-2 c κs = search needs
 
--- src/lib.rt:538:5
 refused-if-requires : tie.Need-refused-if-requires
 refused-if-requires c κs = search needs
 
--- src/lib.rt:533:1
 returns : tie.Need-returns
 unfolding askedFault
 returns c = rw (c .refused-if .ensures, c .before .before .before .is-pair .ensures, c .before .before .wide .ensures, c .before .wide2 .ensures)

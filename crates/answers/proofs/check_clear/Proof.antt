@@ -1,102 +1,73 @@
-use Rattle.answers.proofs.ReadyLaws.{room, boxes-within, mode-within, ready}
-use Rattle.tables.proofs.PartLaws.{part-is, part-length}
-use Rattle.tables.specs.Rows.{user, file}
-use native.Mathlib.Omega.{arith}
 use borrow.Author.Needs.{needs}
+use Rattle.tables.specs.Rows.{user, file}
+use Rattle.tables.proofs.PartLaws.{part-is, part-length}
+use Rattle.answers.proofs.ReadyLaws.{room, boxes-within, mode-within, ready}
 use Rattle.answers.proofs.check_clear.Statement.{statement}
 use Rattle.answers.proofs.check_clear.Tie as tie
-use Rattle.answers.proofs.check_clear.Reads as reads
-use Rattle.answers.proofs.check_clear.Lts as lts
-use Rattle.answers.proofs.first_unclear.Reads as first-unclear-reads
-use Rattle.answers.proofs.mode_arrows.Reads as mode-arrows-reads
-use Rattle.answers.proofs.no_boxes.Reads as no-boxes-reads
-use Rattle.answers.proofs.no_numbers.Reads as no-numbers-reads
-use Rattle.tables.proofs.atoms_of.Reads as atoms-of-reads
 
--- src/lib.rt:477:21
 no-boxes-requires : tie.Need-no-boxes-requires
 no-boxes-requires c κs = search needs
 
--- src/lib.rt:478:21
 no-boxes-requires-2 : tie.Need-no-boxes-requires-2
 no-boxes-requires-2 c κs = search needs
 
--- src/lib.rt:479:19
 no-numbers-requires : tie.Need-no-numbers-requires
 no-numbers-requires c κs = search needs
 
--- src/lib.rt:480:18
 no-numbers-requires-2 : tie.Need-no-numbers-requires-2
 no-numbers-requires-2 c κs = search needs
 
--- src/lib.rt:481:18
 no-numbers-requires-3 : tie.Need-no-numbers-requires-3
 no-numbers-requires-3 c κs = search needs
 
--- src/lib.rt:482:49
 slice-aggregate-atoms-of : tie.Need-slice-aggregate-atoms-of
 slice-aggregate-atoms-of c = search needs
 
--- src/lib.rt:482:9
 atoms-of-requires : tie.Need-atoms-of-requires
 atoms-of-requires c κs = search needs
 
--- src/lib.rt:483:49
 slice-aggregate-atoms-of-2 : tie.Need-slice-aggregate-atoms-of-2
 slice-aggregate-atoms-of-2 c = search needs
 
--- src/lib.rt:483:9
 atoms-of-requires-2 : tie.Need-atoms-of-requires-2
 atoms-of-requires-2 c κs = search needs
 
--- src/lib.rt:484:39
 slice-aggregate-mode-arrows : tie.Need-slice-aggregate-mode-arrows
 slice-aggregate-mode-arrows c = search needs
 
--- src/lib.rt:484:9
 mode-arrows-requires : tie.Need-mode-arrows-requires
 mode-arrows-requires c κs = search needs
 
--- src/lib.rt:491:9
 array-share-prefix-own : tie.Need-array-share-prefix-own
 array-share-prefix-own c = mode-within _ _ _ _ _ (c .before .before .before .before .before .before .before .before .before .before .before .before .before .before .before .before .before .before .pre .1 .few-arrows) (c .before .before .before .before .before .before .before .before .before .before .before .no-numbers .ensures) (c .before .mode-arrows .ensures)
 
--- src/lib.rt:491:9
 slice-aggregate-first-unclear : tie.Need-slice-aggregate-first-unclear
 slice-aggregate-first-unclear c = part-length _ _ _ _ (c .before .before .mode-arrows .ensures)
 
--- src/lib.rt:492:9
 array-share-prefix-users : tie.Need-array-share-prefix-users
 array-share-prefix-users c = boxes-within _ _ user _ _ _ (c .before .before .before .before .before .before .before .before .before .before .before .before .before .before .before .before .before .before .before .pre .0) (c .before .before .before .before .before .before .before .before .before .before .before .before .before .before .no-boxes .ensures) (c .before .before .before .before .before .before .before .before .atoms-of .ensures)
 
--- src/lib.rt:492:9
 slice-aggregate-first-unclear-2 : tie.Need-slice-aggregate-first-unclear-2
 slice-aggregate-first-unclear-2 c = part-length _ _ _ _ (c .before .before .before .before .before .before .before .before .before .atoms-of .ensures)
 
--- src/lib.rt:493:9
 array-share-prefix-files : tie.Need-array-share-prefix-files
 array-share-prefix-files c = boxes-within _ _ file _ _ _ (c .before .before .before .before .before .before .before .before .before .before .before .before .before .before .before .before .before .before .before .before .pre .0) (c .before .before .before .before .before .before .before .before .before .before .before .before .before .before .no-boxes2 .ensures) (c .before .before .before .before .before .before .atoms-of2 .ensures)
 
--- src/lib.rt:493:9
 slice-aggregate-first-unclear-3 : tie.Need-slice-aggregate-first-unclear-3
 slice-aggregate-first-unclear-3 c = part-length _ _ _ _ (c .before .before .before .before .before .before .before .atoms-of2 .ensures)
 
--- src/lib.rt:494:9
 slice-aggregate-first-unclear-4 : tie.Need-slice-aggregate-first-unclear-4
 slice-aggregate-first-unclear-4 c = search needs
 
--- src/lib.rt:495:9
 slice-aggregate-first-unclear-5 : tie.Need-slice-aggregate-first-unclear-5
 slice-aggregate-first-unclear-5 c = search needs
 
--- src/lib.rt:485:5
 first-unclear-requires : tie.Need-first-unclear-requires
 first-unclear-requires c κs = let start = c .before .before .before .before .before .before .before .before .before .before .before .before .before .before .before .before .before .before .before .before .before .before .before in
     ready (start .pre .0) (start .pre .1) (start .pre .2)
     (part-is _ _ _ _ (c .before .before .before .before .before .before .mode-arrows .ensures)) (part-is _ _ _ _ (c .before .before .before .before .before .before .before .before .before .before .before .before .atoms-of .ensures)) (part-is _ _ _ _ (c .before .before .before .before .before .before .before .before .before .atoms-of2 .ensures))
     _ _ (room 512 (c .before .before .before .before .before .before .before .before .before .before .before .before .before .before .before .no-numbers2 .ensures)) (room 512 (c .before .before .before .before .before .before .before .before .before .before .before .before .before .before .no-numbers3 .ensures))
 
--- src/lib.rt:473:1
 returns : tie.Need-returns
 returns c = c .before .before .first-unclear .ensures
 

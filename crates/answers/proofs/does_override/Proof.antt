@@ -1,38 +1,27 @@
 use mathlib.Core.Path.{sym, _∙_}
-use Rattle.answers.proofs.AnswerLaws.{outer-tail, outer-head, no-outer}
-use native.Mathlib.Omega.{arith}
 use borrow.Author.Needs.{needs}
+use Rattle.answers.proofs.AnswerLaws.{outer-tail, outer-head, no-outer}
 use Rattle.answers.proofs.does_override.Statement.{statement}
 use Rattle.answers.proofs.does_override.Tie as tie
-use Rattle.answers.proofs.does_override.Reads as reads
-use Rattle.answers.proofs.does_override.Lts as lts
-use Rattle.answers.proofs.is_nested.Reads as is-nested-reads
 
--- src/lib.rt:72:8
 is-nested-requires : tie.Need-is-nested-requires
 is-nested-requires c κs = search needs
 
--- src/lib.rt:73:9
 returns : tie.Need-returns
 returns c = sym (outer-tail _ _ _ (sym (c .before .is-nested .ensures) ∙ c .if1 .taken))
 
--- src/lib.rt:75:8
 is-nested-requires-2 : tie.Need-is-nested-requires-2
 is-nested-requires-2 c κs = search needs
 
--- src/lib.rt:76:9
 returns-2 : tie.Need-returns-2
 returns-2 c = sym (outer-head _ _ _ (sym (c .before .before .before .is-nested .ensures) ∙ c .before .before .if1 .left) (sym (c .before .is-nested2 .ensures) ∙ c .if2 .taken))
 
--- src/lib.rt:78:5
 is-nested-requires-3 : tie.Need-is-nested-requires-3
 is-nested-requires-3 c κs = search needs
 
--- src/lib.rt:78:52
 is-nested-requires-4 : tie.Need-is-nested-requires-4
 is-nested-requires-4 c κs = search needs
 
--- src/lib.rt:68:1
 returns-3 : tie.Need-returns-3
 returns-3 c = let a = c .before .before .before .before .before .before .before .before .args in
     rw (
@@ -43,7 +32,6 @@ returns-3 c = let a = c .before .before .before .before .before .before .before 
       c .if3 .taken,
     )
 
--- src/lib.rt:68:1
 returns-4 : tie.Need-returns-4
 returns-4 c = let a = c .before .before .before .before .before .before .before .before .before .args in
     rw (

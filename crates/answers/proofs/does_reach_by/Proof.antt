@@ -1,23 +1,16 @@
 use borrow.Author.Tests.{eq-eqb, ne-eqb}
-use Rattle.answers.specs.Among.{reachesBy}
-use native.Mathlib.Omega.{arith}
 use borrow.Author.Needs.{needs}
+use Rattle.answers.specs.Among.{reachesBy}
 use Rattle.answers.proofs.does_reach_by.Statement.{statement}
 use Rattle.answers.proofs.does_reach_by.Tie as tie
-use Rattle.answers.proofs.does_reach_by.Reads as reads
-use Rattle.answers.proofs.does_reach_by.Lts as lts
-use Rattle.answers.proofs.does_reach.Reads as does-reach-reads
 
--- src/lib.rt:86:23
 does-reach-requires : tie.Need-does-reach-requires
 does-reach-requires c κs = search needs
 
--- src/lib.rt:82:1
 returns : tie.Need-returns
 unfolding reachesBy
 returns c = rw (c .does-reach .ensures, eq-eqb _ _ (c .before .if1 .taken))
 
--- src/lib.rt:82:1
 returns-2 : tie.Need-returns-2
 unfolding reachesBy
 returns-2 c = rw (ne-eqb _ _ (c .if1 .left))

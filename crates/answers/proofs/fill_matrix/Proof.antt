@@ -1,95 +1,67 @@
-use Rattle.answers.proofs.ReadyLaws.{room, boxes-within, mode-within, ready}
-use Rattle.tables.proofs.PartLaws.{part-is, part-length}
-use Rattle.tables.specs.Rows.{user, file}
-use native.Mathlib.Omega.{arith}
 use borrow.Author.Needs.{needs}
+use Rattle.tables.specs.Rows.{user, file}
+use Rattle.tables.proofs.PartLaws.{part-is, part-length}
+use Rattle.answers.proofs.ReadyLaws.{room, boxes-within, mode-within, ready}
 use Rattle.answers.proofs.fill_matrix.Statement.{statement}
 use Rattle.answers.proofs.fill_matrix.Tie as tie
-use Rattle.answers.proofs.fill_matrix.Reads as reads
-use Rattle.answers.proofs.fill_matrix.Lts as lts
-use Rattle.answers.proofs.fill_pairs.Reads as fill-pairs-reads
-use Rattle.answers.proofs.mode_arrows.Reads as mode-arrows-reads
-use Rattle.answers.proofs.no_boxes.Reads as no-boxes-reads
-use Rattle.answers.proofs.no_numbers.Reads as no-numbers-reads
-use Rattle.tables.proofs.atoms_of.Reads as atoms-of-reads
 
--- src/lib.rt:618:21
 no-boxes-requires : tie.Need-no-boxes-requires
 no-boxes-requires c κs = search needs
 
--- src/lib.rt:619:21
 no-boxes-requires-2 : tie.Need-no-boxes-requires-2
 no-boxes-requires-2 c κs = search needs
 
--- src/lib.rt:620:19
 no-numbers-requires : tie.Need-no-numbers-requires
 no-numbers-requires c κs = search needs
 
--- src/lib.rt:621:18
 no-numbers-requires-2 : tie.Need-no-numbers-requires-2
 no-numbers-requires-2 c κs = search needs
 
--- src/lib.rt:622:18
 no-numbers-requires-3 : tie.Need-no-numbers-requires-3
 no-numbers-requires-3 c κs = search needs
 
--- src/lib.rt:623:49
 slice-aggregate-atoms-of : tie.Need-slice-aggregate-atoms-of
 slice-aggregate-atoms-of c = search needs
 
--- src/lib.rt:623:9
 atoms-of-requires : tie.Need-atoms-of-requires
 atoms-of-requires c κs = search needs
 
--- src/lib.rt:624:49
 slice-aggregate-atoms-of-2 : tie.Need-slice-aggregate-atoms-of-2
 slice-aggregate-atoms-of-2 c = search needs
 
--- src/lib.rt:624:9
 atoms-of-requires-2 : tie.Need-atoms-of-requires-2
 atoms-of-requires-2 c κs = search needs
 
--- src/lib.rt:625:39
 slice-aggregate-mode-arrows : tie.Need-slice-aggregate-mode-arrows
 slice-aggregate-mode-arrows c = search needs
 
--- src/lib.rt:625:9
 mode-arrows-requires : tie.Need-mode-arrows-requires
 mode-arrows-requires c κs = search needs
 
--- src/lib.rt:632:9
 array-share-prefix-own : tie.Need-array-share-prefix-own
 array-share-prefix-own c = mode-within _ _ _ _ _ (c .before .before .before .before .before .before .before .before .before .before .before .before .before .before .before .before .before .before .before .before .pre .1 .few-arrows) (c .before .before .before .before .before .before .before .before .before .before .before .no-numbers .ensures) (c .before .mode-arrows .ensures)
 
--- src/lib.rt:632:9
 slice-aggregate-fill-pairs : tie.Need-slice-aggregate-fill-pairs
 slice-aggregate-fill-pairs c = part-length _ _ _ _ (c .before .before .mode-arrows .ensures)
 
--- src/lib.rt:633:9
 array-share-prefix-users : tie.Need-array-share-prefix-users
 array-share-prefix-users c = boxes-within _ _ user _ _ _ (c .before .before .before .before .before .before .before .before .before .before .before .before .before .before .before .before .before .before .before .before .before .pre .0) (c .before .before .before .before .before .before .before .before .before .before .before .before .before .before .no-boxes .ensures) (c .before .before .before .before .before .before .before .before .atoms-of .ensures)
 
--- src/lib.rt:633:9
 slice-aggregate-fill-pairs-2 : tie.Need-slice-aggregate-fill-pairs-2
 slice-aggregate-fill-pairs-2 c = part-length _ _ _ _ (c .before .before .before .before .before .before .before .before .before .atoms-of .ensures)
 
--- src/lib.rt:634:9
 array-share-prefix-files : tie.Need-array-share-prefix-files
 array-share-prefix-files c = boxes-within _ _ file _ _ _ (c .before .before .before .before .before .before .before .before .before .before .before .before .before .before .before .before .before .before .before .before .before .before .pre .0) (c .before .before .before .before .before .before .before .before .before .before .before .before .before .before .no-boxes2 .ensures) (c .before .before .before .before .before .before .atoms-of2 .ensures)
 
--- src/lib.rt:634:9
 slice-aggregate-fill-pairs-3 : tie.Need-slice-aggregate-fill-pairs-3
 slice-aggregate-fill-pairs-3 c = part-length _ _ _ _ (c .before .before .before .before .before .before .before .atoms-of2 .ensures)
 
--- src/lib.rt:635:9
 slice-aggregate-fill-pairs-4 : tie.Need-slice-aggregate-fill-pairs-4
 slice-aggregate-fill-pairs-4 c = search needs
 
--- src/lib.rt:636:9
 slice-aggregate-fill-pairs-5 : tie.Need-slice-aggregate-fill-pairs-5
 slice-aggregate-fill-pairs-5 c = search needs
 
--- src/lib.rt:626:5
 fill-pairs-requires : tie.Need-fill-pairs-requires
 fill-pairs-requires c κs = let start = c .before .before .before .before .before .before .before .before .before .before .before .before .before .before .before .before .before .before .before .before .before .before .before .before .before .before .before in (
   ready (start .pre .0) (start .pre .1) (start .pre .2)
@@ -99,15 +71,12 @@ fill-pairs-requires c κs = let start = c .before .before .before .before .befor
   start .pre .4,
 )
 
--- src/lib.rt:606:1
 same-length : tie.Need-same-length
 same-length c = c .before .before .before .before .before .before .fill-pairs .kept .1 .1 .1 .1 .1 .1 .1 .1 .1 .1 .0
 
--- src/lib.rt:606:1
 same-length-2 : tie.Need-same-length-2
 same-length-2 c = c .before .before .before .before .before .before .fill-pairs .kept .1 .1 .1 .1 .1 .1 .1 .1 .1 .1 .1 .0
 
--- src/lib.rt:606:1
 returns : tie.Need-returns
 returns c = c .before .before .before .before .before .before .fill-pairs .ensures
 

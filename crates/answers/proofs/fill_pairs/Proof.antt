@@ -1,21 +1,16 @@
-use Rattle.answers.proofs.PairLaws.{pairs-are, pairs-fit, still-ready}
-use Rattle.answers.specs.Pairs.{byteAt, numberAt, matrixBytes, matrixNumbers}
-use Rattle.tables.proofs.BufferLaws.{written-none}
-use Rattle.tables.proofs.PartLaws.{built-length, built-more}
-use Rattle.tables.specs.Atoms.{pairCount}
-use Rattle.tables.specs.Buffers.{build, written}
-use lib.ListN.{length}
-use Prim.Native.Nat.{_*_, _-_, _≤_, _<_}
 use mathlib.Core.Path.{_≡_, refl, sym, _∙_}
+use Prim.Native.Nat.{_*_, _-_, _≤_, _<_}
 use native.Mathlib.Omega.{arith}
 use borrow.Author.Needs.{needs}
+use lib.ListN.{length}
+use Rattle.tables.specs.Atoms.{pairCount}
+use Rattle.tables.specs.Buffers.{build, written}
+use Rattle.tables.proofs.BufferLaws.{written-none}
+use Rattle.tables.proofs.PartLaws.{built-length, built-more}
+use Rattle.answers.specs.Pairs.{byteAt, numberAt, matrixBytes, matrixNumbers}
+use Rattle.answers.proofs.PairLaws.{pairs-are, pairs-fit, still-ready}
 use Rattle.answers.proofs.fill_pairs.Statement.{statement}
 use Rattle.answers.proofs.fill_pairs.Tie as tie
-use Rattle.answers.proofs.fill_pairs.Reads as reads
-use Rattle.answers.proofs.fill_pairs.Lts as lts
-use Rattle.answers.proofs.answer_at.Reads as answer-at-reads
-use Rattle.answers.proofs.byte_of.Reads as byte-of-reads
-use Rattle.answers.proofs.number_of.Reads as number-of-reads
 
 abbrev Inv-loop : tie.InvT-loop
 Inv-loop boxes rows scratch arrows mode own users files ps₀ ns₀ bytes₀ numbers₀ p₀ p-end ps ns bytes numbers p =
@@ -35,21 +30,17 @@ counted c = let a = c .args in let r = c .pre .0 in (
   pairs-fit (a .boxes .now) (a .rows .now) (a .users .now) (a .files .now) (r .users-are) (r .files-are) 0 (r .few-boxes),
 )
 
--- src/lib.rt:578:17
 mul-p-end : tie.Need-mul-p-end Inv-loop μ-loop
 mul-p-end c = omega (arith, counted (c .before .before .before .before .before .before .before .before .before .before .before))
 
--- src/lib.rt:578:5
 loop-holds : tie.Need-loop-holds Inv-loop μ-loop
 unfolding build
 loop-holds c = let a = c .before .before .before .before .before .before .before .before .before .before .before .args in (search needs, refl, refl, sym (written-none (a .bytes .now)), sym (written-none (a .numbers .now)))
 
--- src/lib.rt:579:13
 answer-at-requires : tie.Need-answer-at-requires Inv-loop μ-loop
 answer-at-requires c κs = let l = c .before .before .before .loop in
     (still-ready (c .before .before .before .before .before .before .before .before .before .before .before .before .before .before .before .pre .0) (l .inv .1) (l .inv .2), omega (arith, counted (c .before .before .before .before .before .before .before .before .before .before .before .before .before .before .before), c .before .before .loop-test .taken))
 
--- src/lib.rt:592:20
 byte-of-requires : tie.Need-byte-of-requires Inv-loop μ-loop
 byte-of-requires c κs = search needs
 
@@ -62,31 +53,24 @@ numbers-long : (c : tie.In-loop Inv-loop μ-loop) → let a = c .before .before 
 numbers-long c = let a = c .before .before .before .before .before .before .before .before .before .before .before .before .before .args in let l = c .before .loop in
     built-length (numberAt (a .boxes .now) (a .rows .now) (a .arrows .now) (a .mode)) (a .numbers .now) (l .p) (l .numbers) (l .inv .4) (omega (arith, c .before .before .before .before .before .before .before .before .before .before .before .before .before .pre .2))
 
--- src/lib.rt:592:9
 slice-write-bytes : tie.Need-slice-write-bytes Inv-loop μ-loop
 slice-write-bytes c = omega (arith, bytes-long (c .before .before .before .before .before .before .before .before), counted (c .before .before .before .before .before .before .before .before .before .before .before .before .before .before .before .before .before .before .before .before .before), c .before .before .before .before .before .before .before .before .before .before .before .before .before .before .before .before .before .before .before .before .before .pre .1, c .before .before .before .before .before .before .before .before .loop-test .taken)
 
--- src/lib.rt:593:22
 number-of-requires : tie.Need-number-of-requires Inv-loop μ-loop
 number-of-requires c κs = search needs
 
--- src/lib.rt:593:9
 mul-numbers : tie.Need-mul-numbers Inv-loop μ-loop
 mul-numbers c = omega (arith, counted (c .before .before .before .before .before .before .before .before .before .before .before .before .before .before .before .before .before .before .before .before .before .before), c .before .before .before .before .before .before .before .before .before .loop-test .taken)
 
--- src/lib.rt:593:9
 slice-write-numbers : tie.Need-slice-write-numbers Inv-loop μ-loop
 slice-write-numbers c = omega (arith, numbers-long (c .before .before .before .before .before .before .before .before .before), counted (c .before .before .before .before .before .before .before .before .before .before .before .before .before .before .before .before .before .before .before .before .before .before), c .before .before .before .before .before .before .before .before .before .before .before .before .before .before .before .before .before .before .before .before .before .before .pre .2, c .before .before .before .before .before .before .before .before .before .loop-test .taken)
 
--- src/lib.rt:578:9
 add-p : tie.Need-add-p Inv-loop μ-loop
 add-p c = omega (arith, counted (c .before .before .before .before .before .before .before .before .before .before .before .before .before .before .before .before .before .before .before .before .before .before), c .before .before .before .before .before .before .before .before .before .loop-test .taken)
 
--- src/lib.rt:578:5
 loop-less : tie.Need-loop-less Inv-loop μ-loop
 loop-less c = omega (arith, counted (c .before .before .before .before .before .before .before .before .before .before .before .before .before .before .before .before .before .before .before .before .before .before), c .before .before .before .before .before .before .before .before .before .loop-test .taken)
 
--- src/lib.rt:578:5
 loop-again : tie.Need-loop-again Inv-loop μ-loop
 unfolding byteAt numberAt
 loop-again c = let a = c .before .before .before .before .before .before .before .before .before .before .before .before .before .before .before .before .before .before .before .before .before .before .args in
@@ -100,27 +84,22 @@ loop-again c = let a = c .before .before .before .before .before .before .before
       built-more (numberAt (a .boxes .now) (a .rows .now) (a .arrows .now) (a .mode)) (a .numbers .now) (l .p) (l .numbers) (l .inv .4) _ in-numbers (rw (c .number-of .ensures, c .before .before .before .before .before .before .answer-at .ensures)),
     )
 
--- src/lib.rt:561:1
 same-length : tie.Need-same-length Inv-loop μ-loop
 same-length c = c .before .loop .inv .1
 
--- src/lib.rt:561:1
 same-length-2 : tie.Need-same-length-2 Inv-loop μ-loop
 same-length-2 c = c .before .loop .inv .2
 
--- src/lib.rt:561:1
 same-length-3 : tie.Need-same-length-3 Inv-loop μ-loop
 same-length-3 c = let a = c .before .before .before .before .before .before .before .before .before .before .before .before .before .args in
     let l = c .before .loop in
     built-length (byteAt (a .boxes .now) (a .rows .now) (a .arrows .now) (a .mode)) (a .bytes .now) (l .p) (l .bytes) (l .inv .3) (omega (arith, c .before .before .before .before .before .before .before .before .before .before .before .before .before .pre .1))
 
--- src/lib.rt:561:1
 same-length-4 : tie.Need-same-length-4 Inv-loop μ-loop
 same-length-4 c = let a = c .before .before .before .before .before .before .before .before .before .before .before .before .before .args in
     let l = c .before .loop in
     built-length (numberAt (a .boxes .now) (a .rows .now) (a .arrows .now) (a .mode)) (a .numbers .now) (l .p) (l .numbers) (l .inv .4) (omega (arith, c .before .before .before .before .before .before .before .before .before .before .before .before .before .pre .2))
 
--- src/lib.rt:561:1
 returns : tie.Need-returns Inv-loop μ-loop
 unfolding matrixBytes matrixNumbers
 returns c = let a = c .before .before .before .before .before .before .before .before .before .before .before .before .before .args in

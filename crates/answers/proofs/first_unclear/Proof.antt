@@ -1,26 +1,17 @@
-use Rattle.answers.specs.Pairs.{answerAt}
-use Rattle.answers.specs.Meaning.{isUnclear}
-use Rattle.tables.specs.Refusals.{verdictOf}
-use Rattle.tables.specs.Search.{given, first}
-use Rattle.answers.proofs.PairLaws.{pairs-fit, still-ready}
-use Rattle.answers.proofs.PairLaws.{pairs-are, unclearAt, unclear-none, unclear-some, unclear-is}
-use Rattle.tables.proofs.SearchLaws.{first-zero, first-more, first-here}
-use Rattle.tables.specs.Atoms.{pairCount}
-use lib.ListN.{length}
-use Prim.Native.Nat.{_*_, _-_, _≤_}
 use mathlib.Core.Option.{none}
-use mathlib.Core.Path.{_≡_, refl, sym, ap, _∙_}
+use mathlib.Core.Path.{_≡_, refl, sym, _∙_}
+use Prim.Native.Nat.{_*_, _-_, _≤_}
 use native.Mathlib.Omega.{arith}
 use borrow.Author.Needs.{needs}
+use lib.ListN.{length}
+use Rattle.tables.specs.Search.{given, first}
+use Rattle.tables.specs.Atoms.{pairCount}
+use Rattle.tables.proofs.SearchLaws.{first-zero, first-more, first-here}
+use Rattle.answers.specs.Pairs.{answerAt}
+use Rattle.answers.specs.Meaning.{isUnclear}
+use Rattle.answers.proofs.PairLaws.{pairs-fit, still-ready, pairs-are, unclearAt, unclear-none, unclear-some, unclear-is}
 use Rattle.answers.proofs.first_unclear.Statement.{statement}
 use Rattle.answers.proofs.first_unclear.Tie as tie
-use Rattle.answers.proofs.first_unclear.Reads as reads
-use Rattle.answers.proofs.first_unclear.Lts as lts
-use Rattle.answers.proofs.answer_at.Reads as answer-at-reads
-use Rattle.answers.proofs.is_unclear.Reads as is-unclear-reads
-use Rattle.answers.proofs.pair_at.Reads as pair-at-reads
-use Rattle.tables.proofs.Verdict.refused_if.Reads as refused-if-reads
-use Rattle.tables.proofs.wide.Reads as wide-reads
 
 abbrev Inv-loop : tie.InvT-loop
 Inv-loop boxes rows scratch arrows mode own users files ps₀ ns₀ p₀ p-end ps ns p = (p ≤ pairCount boxes rows) × (length ps ≡ length ps₀) × (length ns ≡ length ns₀) × (first (unclearAt boxes rows arrows mode) p ≡ none)
@@ -35,20 +26,16 @@ counted c = let a = c .args in let r = c .pre in (
   pairs-fit (a .boxes .now) (a .rows .now) (a .users .now) (a .files .now) (r .users-are) (r .files-are) 0 (r .few-boxes),
 )
 
--- src/lib.rt:449:17
 mul-p-end : tie.Need-mul-p-end Inv-loop μ-loop
 mul-p-end c = omega (arith, counted (c .before .before .before .before .before .before .before .before .before))
 
--- src/lib.rt:449:5
 loop-holds : tie.Need-loop-holds Inv-loop μ-loop
 loop-holds c = let a = c .before .before .before .before .before .before .before .before .before .args in (search needs, refl, refl, first-zero (unclearAt (a .boxes .now) (a .rows .now) (a .arrows .now) (a .mode)))
 
--- src/lib.rt:450:13
 answer-at-requires : tie.Need-answer-at-requires Inv-loop μ-loop
 answer-at-requires c κs = let l = c .before .before .before .loop in
     (still-ready (c .before .before .before .before .before .before .before .before .before .before .before .before .before .pre) (l .inv .1) (l .inv .2), omega (arith, counted (c .before .before .before .before .before .before .before .before .before .before .before .before .before), c .before .before .loop-test .taken))
 
--- src/lib.rt:463:12
 is-unclear-requires : tie.Need-is-unclear-requires Inv-loop μ-loop
 is-unclear-requires c κs = search needs
 
@@ -56,36 +43,28 @@ seen : (c : tie.After-is-unclear Inv-loop μ-loop) → let a = c .before .before
     isUnclear (answerAt (a .boxes .now) (a .rows .now) (a .arrows .now) (a .mode) (c .before .before .before .before .before .before .before .before .before .loop .p)) ≡ c .is-unclear .result
 seen c = rw (← c .before .before .before .before .before .answer-at .ensures) (sym (c .is-unclear .ensures))
 
--- src/lib.rt:464:17
 pair-at-requires : tie.Need-pair-at-requires Inv-loop μ-loop
 pair-at-requires c κs = let start = c .before .before .before .before .before .before .before .before .before .before .before .before .before .before .before .before .before .before .before .before in
     (start .pre .users-are, start .pre .files-are, omega (arith, counted start, c .before .before .before .before .before .before .before .before .before .loop-test .taken))
 
--- src/lib.rt:465:50
 wide-requires : tie.Need-wide-requires Inv-loop μ-loop
 wide-requires c κs = search needs
 
--- src/lib.rt:465:62
 wide-requires-2 : tie.Need-wide-requires-2 Inv-loop μ-loop
 wide-requires-2 c κs = search needs
 
--- src/lib.rt:465:79
 wide-requires-3 : tie.Need-wide-requires-3 Inv-loop μ-loop
 wide-requires-3 c κs = search needs
 
--- src/lib.rt:465:13
 refused-if-requires : tie.Need-refused-if-requires Inv-loop μ-loop
 refused-if-requires c κs = search needs
 
--- src/lib.rt:465:13
 same-length : tie.Need-same-length Inv-loop μ-loop
 same-length c = c .before .before .before .before .before .before .before .before .before .before .before .answer-at .kept .1 .1 .1 .1 .1 .1 .1 .1 .1 .0 ∙ c .before .before .before .before .before .before .before .before .before .before .before .before .before .before .before .loop .inv .1
 
--- src/lib.rt:465:13
 same-length-2 : tie.Need-same-length-2 Inv-loop μ-loop
 same-length-2 c = c .before .before .before .before .before .before .before .before .before .before .before .answer-at .kept .1 .1 .1 .1 .1 .1 .1 .1 .1 .1 .0 ∙ c .before .before .before .before .before .before .before .before .before .before .before .before .before .before .before .loop .inv .2
 
--- src/lib.rt:465:13
 returns : tie.Need-returns Inv-loop μ-loop
 unfolding given
 returns c = let a = c .before .before .before .before .before .before .before .before .before .before .before .before .before .before .before .before .before .before .before .before .before .before .before .before .before .args in
@@ -101,15 +80,12 @@ returns c = let a = c .before .before .before .before .before .before .before .b
       first-here (unclearAt (a .boxes .now) (a .rows .now) (a .arrows .now) (a .mode)) (pairCount (a .boxes .now) (a .rows .now)) (l .p) _ (l .inv .3) (unclear-some (a .boxes .now) (a .rows .now) (a .arrows .now) (a .mode) (l .p) (seen (c .before .before .before .before .before .before) ∙ c .before .before .before .before .before .if1 .taken)) (omega (arith, counted (c .before .before .before .before .before .before .before .before .before .before .before .before .before .before .before .before .before .before .before .before .before .before .before .before .before), c .before .before .before .before .before .before .before .before .before .before .before .before .before .before .loop-test .taken)),
     )
 
--- src/lib.rt:449:9
 add-p : tie.Need-add-p Inv-loop μ-loop
 add-p c = omega (arith, counted (c .before .before .before .before .before .before .before .before .before .before .before .before .before .before .before .before .before .before .before .before), c .before .before .before .before .before .before .before .before .before .loop-test .taken)
 
--- src/lib.rt:449:5
 loop-less : tie.Need-loop-less Inv-loop μ-loop
 loop-less c = omega (arith, counted (c .before .before .before .before .before .before .before .before .before .before .before .before .before .before .before .before .before .before .before .before), c .before .before .before .before .before .before .before .before .before .loop-test .taken)
 
--- src/lib.rt:449:5
 loop-again : tie.Need-loop-again Inv-loop μ-loop
 loop-again c = let a = c .before .before .before .before .before .before .before .before .before .before .before .before .before .before .before .before .before .before .before .before .args in
     let l = c .before .before .before .before .before .before .before .before .before .before .loop in (
@@ -119,15 +95,12 @@ loop-again c = let a = c .before .before .before .before .before .before .before
       first-more (unclearAt (a .boxes .now) (a .rows .now) (a .arrows .now) (a .mode)) (l .p) (l .inv .3) (unclear-none (a .boxes .now) (a .rows .now) (a .arrows .now) (a .mode) (l .p) (seen (c .before) ∙ c .if1 .left)),
     )
 
--- src/lib.rt:434:1
 same-length-3 : tie.Need-same-length-3 Inv-loop μ-loop
 same-length-3 c = c .before .loop .inv .1
 
--- src/lib.rt:434:1
 same-length-4 : tie.Need-same-length-4 Inv-loop μ-loop
 same-length-4 c = c .before .loop .inv .2
 
--- src/lib.rt:434:1
 returns-2 : tie.Need-returns-2 Inv-loop μ-loop
 returns-2 c = let a = c .before .before .before .before .before .before .before .before .before .before .before .args in
     let l = c .before .loop in

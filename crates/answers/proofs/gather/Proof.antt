@@ -1,19 +1,14 @@
-use Rattle.answers.specs.Among.{Numbers}
-use Rattle.answers.proofs.Keep.{Kept, kept-none, kept-most, kept-length, kept-yes, kept-no, kept-all}
-use Rattle.answers.proofs.AmongLaws.{reachesAt, reaching-keep, mode-numbers}
 use mathlib.Core.Logic.{⊎-elim}
 use mathlib.Core.Path.{_≡_, sym, _∙_}
-use Rattle.tables.specs.Rows.{arrowAt}
-use lib.ListN.{length, getD}
 use Prim.Native.Nat.{_-_, _≤_, _<_}
 use native.Mathlib.Omega.{arith}
 use borrow.Author.Needs.{needs}
+use lib.ListN.{length, getD}
+use Rattle.answers.specs.Among.{Numbers}
+use Rattle.answers.proofs.Keep.{Kept, kept-none, kept-most, kept-length, kept-yes, kept-no, kept-all}
+use Rattle.answers.proofs.AmongLaws.{reachesAt, reaching-keep, mode-numbers}
 use Rattle.answers.proofs.gather.Statement.{statement}
 use Rattle.answers.proofs.gather.Tie as tie
-use Rattle.answers.proofs.gather.Reads as reads
-use Rattle.answers.proofs.gather.Lts as lts
-use Rattle.answers.proofs.arrow_at.Reads as arrow-at-reads
-use Rattle.answers.proofs.does_reach_by.Reads as does-reach-by-reads
 
 abbrev Inv-loop : tie.InvT-loop
 Inv-loop n rows scratch arrows mode own sign u f out₀ count₀ t₀ t-end out count t = (t ≤ length own) × Kept (reachesAt rows arrows sign u f) own out₀ t count out
@@ -21,7 +16,6 @@ Inv-loop n rows scratch arrows mode own sign u f out₀ count₀ t₀ t-end out 
 abbrev μ-loop : tie.MeasureT-loop
 μ-loop n rows scratch arrows mode own sign u f out₀ count₀ t₀ t-end out count t = length own - t
 
--- src/lib.rt:133:5
 loop-holds : tie.Need-loop-holds Inv-loop μ-loop
 loop-holds c = let a = c .before .before .before .before .before .args in
     (search needs, kept-none (reachesAt (a .rows .now) (a .arrows .now) (a .sign) (a .u) (a .f)) (a .own .now) (a .out .now))
@@ -29,19 +23,15 @@ loop-holds c = let a = c .before .before .before .before .before .args in
 numbered : (c : tie.Start Inv-loop μ-loop) → Numbers (c .args .arrows .now) (c .args .own .now)
 numbered c = rw (c .pre .2) (mode-numbers (c .args .arrows .now) (c .args .mode))
 
--- src/lib.rt:134:17
 mul-k : tie.Need-mul-k Inv-loop μ-loop
 mul-k c = search needs
 
--- src/lib.rt:134:17
 shared-slice-read-k : tie.Need-shared-slice-read-k Inv-loop μ-loop
 shared-slice-read-k c = search needs
 
--- src/lib.rt:135:50
 arrow-at-requires : tie.Need-arrow-at-requires Inv-loop μ-loop
 arrow-at-requires c κs = numbered (c .before .before .before .before .before .before .before .before) (c .before .before .loop .t) (c .before .loop-test .taken)
 
--- src/lib.rt:135:12
 does-reach-by-requires : tie.Need-does-reach-by-requires Inv-loop μ-loop
 does-reach-by-requires c κs = let start = c .before .before .before .before .before .before .before .before .before in
     let k = getD (start .args .own .now) (c .before .before .before .loop .t) 0 in
@@ -58,23 +48,18 @@ room c =
     let len = kept-length p (a .own .now) (a .out .now) (l .t) (l .count) (l .out) (omega arith) (l .inv .1) in
     (omega arith, omega arith)
 
--- src/lib.rt:136:13
 mul-out : tie.Need-mul-out Inv-loop μ-loop
 mul-out c = omega (arith, room c)
 
--- src/lib.rt:136:13
 slice-write-out : tie.Need-slice-write-out Inv-loop μ-loop
 slice-write-out c = room c .0
 
--- src/lib.rt:137:13
 add-count : tie.Need-add-count Inv-loop μ-loop
 add-count c = omega (arith, room c)
 
--- src/lib.rt:133:9
 add-t : tie.Need-add-t Inv-loop μ-loop
 add-t c = search needs
 
--- src/lib.rt:133:5
 loop-less : tie.Need-loop-less Inv-loop μ-loop
 loop-less c = search needs
 
@@ -83,7 +68,6 @@ tested : (c : tie.After-does-reach-by Inv-loop μ-loop) → let a = c .before .b
 unfolding reachesAt
 tested c = rw (← c .before .arrow-at .ensures) (sym (c .does-reach-by .ensures))
 
--- src/lib.rt:133:5
 loop-again : tie.Need-loop-again Inv-loop μ-loop
 loop-again c = let a = c .before .before .before .before .before .before .before .before .before .before .before .args in
     let l = c .before .before .before .before .before .loop in
@@ -95,13 +79,11 @@ loop-again c = let a = c .before .before .before .before .before .before .before
           (c .if1 .came),
     )
 
--- src/lib.rt:118:1
 same-length : tie.Need-same-length Inv-loop μ-loop
 same-length c = let a = c .before .before .before .before .before .before .before .args in
     let l = c .before .loop in
     kept-length (reachesAt (a .rows .now) (a .arrows .now) (a .sign) (a .u) (a .f)) (a .own .now) (a .out .now) (l .t) (l .count) (l .out) (omega arith) (l .inv .1)
 
--- src/lib.rt:118:1
 returns : tie.Need-returns Inv-loop μ-loop
 returns c = let start = c .before .before .before .before .before .before .before in
     let a = start .args in

@@ -1,18 +1,16 @@
-use Rattle.answers.proofs.Entry.{the-type}
-use Rattle.answers.specs.declared.Entry.the-variants.{Granted, Denied, Default, Unclear}
-use Rattle.answers.specs.declared.Entry.{Entry}
-use denote.Enum.Declared.{tagOf}
-use types.Run.{OneOf}
 use mathlib.Core.Logic.{⊎-elim}
 use mathlib.Core.List.{[], _∷_}
 use mathlib.Core.Path.{_≡_, refl}
-use Rattle.answers.specs.Meaning.{grantingOf}
 use native.Mathlib.Omega.{arith}
 use borrow.Author.Needs.{needs}
+use denote.Enum.Declared.{tagOf}
+use types.Run.{OneOf}
+use Rattle.answers.specs.declared.Entry.the-variants.{Granted, Denied, Default, Unclear}
+use Rattle.answers.specs.declared.Entry.{Entry}
+use Rattle.answers.specs.Meaning.{grantingOf}
+use Rattle.answers.proofs.Entry.{the-type}
 use Rattle.answers.proofs.granting.Statement.{statement}
 use Rattle.answers.proofs.granting.Tie as tie
-use Rattle.answers.proofs.granting.Reads as reads
-use Rattle.answers.proofs.granting.Lts as lts
 
 -- an entry whose tag is not that of the first variant grants nothing
 others : (e : Entry) → OneOf (1 ∷ 2 ∷ 3 ∷ []) (tagOf the-type e) → 65535 ≡ grantingOf e
@@ -22,15 +20,12 @@ others (Denied k) h = refl
 others Default h = refl
 others (Unclear p n) h = refl
 
--- src/lib.rt:41:24
 enum-known-e : tie.Need-enum-known-e
 enum-known-e c = search needs
 
--- src/lib.rt:42:9
 returns : tie.Need-returns
 returns c = others (c .before .args .e) (c .match .keys2)
 
--- src/lib.rt:38:1
 returns-2 : tie.Need-returns-2
 unfolding grantingOf
 returns-2 c = rw (c .before .e .given .1)

@@ -1,33 +1,22 @@
-use native.Mathlib.Omega.{arith}
 use borrow.Author.Needs.{needs}
 use Rattle.answers.proofs.is_pair.Statement.{statement}
 use Rattle.answers.proofs.is_pair.Tie as tie
-use Rattle.answers.proofs.is_pair.Reads as reads
-use Rattle.answers.proofs.is_pair.Lts as lts
-use Rattle.tables.proofs.is_atom.Reads as is-atom-reads
-use Rattle.tables.proofs.wide.Reads as wide-reads
 
--- src/lib.rt:529:40
 wide-requires : tie.Need-wide-requires
 wide-requires c κs = search needs
 
--- src/lib.rt:529:5
 is-atom-requires : tie.Need-is-atom-requires
 is-atom-requires c κs = search needs
 
--- src/lib.rt:529:87
 wide-requires-2 : tie.Need-wide-requires-2
 wide-requires-2 c κs = search needs
 
--- src/lib.rt:529:52
 is-atom-requires-2 : tie.Need-is-atom-requires-2
 is-atom-requires-2 c κs = search needs
 
--- src/lib.rt:525:1
 returns : tie.Need-returns
 returns c = rw (c .is-atom2 .ensures, c .before .wide2 .ensures, ← c .before .before .before .before .wide .ensures, ← c .before .before .before .is-atom .ensures, c .before .before .if1 .taken)
 
--- src/lib.rt:525:1
 returns-2 : tie.Need-returns-2
 returns-2 c = rw (← c .before .before .wide .ensures, ← c .before .is-atom .ensures, c .if1 .left)
 

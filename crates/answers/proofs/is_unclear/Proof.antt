@@ -1,43 +1,32 @@
-use Rattle.answers.specs.Meaning.{isUnclear}
-use native.Mathlib.Omega.{arith}
 use borrow.Author.Needs.{needs}
+use Rattle.answers.specs.Meaning.{isUnclear}
 use Rattle.answers.proofs.is_unclear.Statement.{statement}
 use Rattle.answers.proofs.is_unclear.Tie as tie
-use Rattle.answers.proofs.is_unclear.Reads as reads
-use Rattle.answers.proofs.is_unclear.Lts as lts
 
--- src/lib.rt:76:30
 enum-told : tie.Need-enum-told
 enum-told c = search needs
 
--- src/lib.rt:77:29
 enum-told-2 : tie.Need-enum-told-2
 enum-told-2 c = search needs
 
--- src/lib.rt:78:27
 enum-told-3 : tie.Need-enum-told-3
 enum-told-3 c = search needs
 
--- src/lib.rt:79:33
 enum-told-4 : tie.Need-enum-told-4
 enum-told-4 c = search needs
 
--- src/lib.rt:72:1
 returns : tie.Need-returns
 unfolding isUnclear
 returns c = rw (c .enum-told .given .1)
 
--- src/lib.rt:72:1
 returns-2 : tie.Need-returns-2
 unfolding isUnclear
 returns-2 c = rw (c .enum-told2 .given .1)
 
--- src/lib.rt:72:1
 returns-3 : tie.Need-returns-3
 unfolding isUnclear
 returns-3 c = rw (c .enum-told3 .given .1)
 
--- src/lib.rt:72:1
 returns-4 : tie.Need-returns-4
 unfolding isUnclear
 returns-4 c = rw (c .enum-told4 .given .1)

@@ -1,32 +1,23 @@
+use mathlib.Core.Path.{_≡_, sym, _∙_}
+use borrow.Author.Needs.{needs}
 use Rattle.tables.specs.declared.Verdict.the-variants.{Passed}
 use Rattle.tables.specs.Refusals.{verdictOf}
-use Rattle.answers.specs.Calls.{judgeFault}
 use Rattle.tables.proofs.Verdicts.{passed, refuses, passes}
-use Rattle.containment.proofs.PictureLaws.{picture-prepared, scratch-filled}
 use Rattle.containment.specs.Scratch.{pictureFault}
-use mathlib.Core.Path.{_≡_, sym, _∙_}
-use native.Mathlib.Omega.{arith}
-use borrow.Author.Needs.{needs}
+use Rattle.containment.proofs.PictureLaws.{picture-prepared, scratch-filled}
+use Rattle.answers.specs.Calls.{judgeFault}
 use Rattle.answers.proofs.judge.Statement.{statement}
 use Rattle.answers.proofs.judge.Tie as tie
-use Rattle.answers.proofs.judge.Reads as reads
-use Rattle.answers.proofs.judge.Lts as lts
-use Rattle.answers.proofs.check_modes.Reads as check-modes-reads
-use Rattle.containment.proofs.prepare.Reads as prepare-reads
 
--- src/lib.rt:517:9
 prepare-requires : tie.Need-prepare-requires
 prepare-requires c κs = search needs
 
--- src/lib.rt:518:29
 enum-known-picture : tie.Need-enum-known-picture
 enum-known-picture c = search needs
 
--- src/lib.rt:519:9
 same-length : tie.Need-same-length
 same-length c = search needs
 
--- src/lib.rt:519:9
 returns : tie.Need-returns
 unfolding judgeFault
 returns c = (refuses _ _ _ (sym (c .before .before .before .before .before .prepare .ensures .0) ∙ c .before .picture .given .1), c .before .before .before .before .before .prepare .ensures .1)
@@ -37,17 +28,14 @@ enum-told c = search needs
 clean : (c : tie.After-enum-told) → let a = c .before .before .before .before .before .before .before .before .before .before .args in verdictOf (pictureFault (a .boxes .now) (a .rows .now) (a .arrows .now) (a .scratch .now)) ≡ Passed
 clean c = sym (c .before .before .before .before .prepare .ensures .0) ∙ c .enum-told .given .1
 
--- src/lib.rt:521:5
 check-modes-requires : tie.Need-check-modes-requires
 check-modes-requires c κs = let a = c .before .before .before .before .before .before .before .before .before .before .before .args in
     let ready = picture-prepared (a .boxes .now) (a .rows .now) (a .arrows .now) (a .scratch .now) (passed _ (clean (c .before))) in
     (ready .0 .rows-sound, ready .0 .arrows-sound, rw (c .before .before .before .before .before .prepare .ensures .1, scratch-filled (a .boxes .now) (a .rows .now) (a .scratch .now) (ready .1)) (ready .0 .says))
 
--- src/lib.rt:514:1
 same-length-2 : tie.Need-same-length-2
 same-length-2 c = search needs
 
--- src/lib.rt:514:1
 returns-2 : tie.Need-returns-2
 unfolding judgeFault
 returns-2 c = (c .check-modes .ensures ∙ passes _ _ (clean (c .before .before)), c .before .before .before .before .before .before .prepare .ensures .1)

@@ -1,29 +1,18 @@
-use Rattle.answers.proofs.CallLaws.{chained, rest, rest-rooms, matrix-tables, matrix-early, matrix-loops, matrix-filled}
-use Rattle.containment.proofs.PictureLaws.{Prepared, prepared}
+use mathlib.Core.Path.{_≡_, sym, _∙_}
+use borrow.Author.Needs.{needs}
+use lib.ListN.{length}
 use Rattle.tables.specs.Atoms.{pairCount}
-use Rattle.containment.specs.Scratch.{scratchFault}
-use Rattle.containment.proofs.ScratchLaws.{scratch-room}
-use Rattle.tables.proofs.TableLaws.{sound-rows}
-use Rattle.tables.proofs.Verdicts.{passed}
 use Rattle.tables.specs.declared.Verdict.the-variants.{Passed}
 use Rattle.tables.specs.Faults.{tableFault, modeFault, roomFault}
 use Rattle.tables.specs.Refusals.{verdictOf}
-use lib.ListN.{length}
-use mathlib.Core.Path.{_≡_, sym, _∙_}
-use native.Mathlib.Omega.{arith}
-use borrow.Author.Needs.{needs}
+use Rattle.tables.proofs.TableLaws.{sound-rows}
+use Rattle.tables.proofs.Verdicts.{passed}
+use Rattle.containment.specs.Scratch.{scratchFault}
+use Rattle.containment.proofs.PictureLaws.{Prepared, prepared}
+use Rattle.containment.proofs.ScratchLaws.{scratch-room}
+use Rattle.answers.proofs.CallLaws.{chained, rest, rest-rooms, matrix-tables, matrix-early, matrix-loops, matrix-filled}
 use Rattle.answers.proofs.matrix.Statement.{statement}
 use Rattle.answers.proofs.matrix.Tie as tie
-use Rattle.answers.proofs.matrix.Reads as reads
-use Rattle.answers.proofs.matrix.Lts as lts
-use Rattle.answers.proofs.fill_matrix.Reads as fill-matrix-reads
-use Rattle.answers.proofs.pair_count.Reads as pair-count-reads
-use Rattle.containment.proofs.check_scratch.Reads as check-scratch-reads
-use Rattle.containment.proofs.contain.Reads as contain-reads
-use Rattle.tables.proofs.Verdict.or_else.Reads as or-else-reads
-use Rattle.tables.proofs.check.Reads as check-reads
-use Rattle.tables.proofs.check_mode.Reads as check-mode-reads
-use Rattle.tables.proofs.check_room.Reads as check-room-reads
 
 -- what each stage found
 tabled : (c : tie.After-enum-told) → let a = c .before .before .before .before .before .before .before .before .before .args in verdictOf (tableFault (a .boxes .now) (a .rows .now) (a .arrows .now)) ≡ Passed
@@ -49,82 +38,64 @@ ready : (c : tie.After-enum-told2) → let a = c .before .before .before .before
 ready c = let a = c .before .before .before .before .before .before .before .before .before .before .before .before .before .before .before .before .before .before .before .before .args in
     prepared (a .boxes .now) (a .rows .now) (a .arrows .now) (a .scratch .now) (passed _ (tabled (c .before .before .before .before .before .before .before .before .before .before .before))) (rest-rooms (a .boxes .now) (a .rows .now) (a .arrows .now) (a .scratch .now) (a .mode) (a .bytes .now) (a .numbers .now) (passed _ (rest-passed c)) .0)
 
--- src/lib.rt:654:9
 check-requires : tie.Need-check-requires
 check-requires c κs = search needs
 
--- src/lib.rt:655:29
 enum-known-tables : tie.Need-enum-known-tables
 enum-known-tables c = search needs
 
--- src/lib.rt:656:9
 returns : tie.Need-returns
 returns c = let a = c .before .before .before .before .before .before .before .before .before .before .args in matrix-tables (a .boxes .now) (a .rows .now) (a .arrows .now) (a .scratch .now) (a .mode) (a .bytes .now) (a .numbers .now) _ (sym (c .before .before .before .check .ensures) ∙ c .before .tables .given .1)
 
 enum-told : tie.Need-enum-told
 enum-told c = search needs
 
--- src/lib.rt:658:9
 pair-count-requires : tie.Need-pair-count-requires
 pair-count-requires c κs = let a = c .before .before .before .before .before .before .before .before .before .args in sound-rows (a .boxes .now) (a .rows .now) (a .arrows .now) (passed _ (tabled c))
 
--- src/lib.rt:659:17
 check-mode-requires : tie.Need-check-mode-requires
 check-mode-requires c κs = search needs
 
--- src/lib.rt:660:18
 check-scratch-requires : tie.Need-check-scratch-requires
 check-scratch-requires c κs = let a = c .before .before .before .before .before .before .before .before .before .before .before .before .args in sound-rows (a .boxes .now) (a .rows .now) (a .arrows .now) (passed _ (tabled (c .before .before .before))) .few-boxes
 
--- src/lib.rt:659:17
 or-else-requires : tie.Need-or-else-requires
 or-else-requires c κs = search needs
 
--- src/lib.rt:661:18
 check-room-requires : tie.Need-check-room-requires
 check-room-requires c κs = search needs
 
--- src/lib.rt:659:17
 or-else-requires-2 : tie.Need-or-else-requires-2
 or-else-requires-2 c κs = search needs
 
--- src/lib.rt:662:18
 check-room-requires-2 : tie.Need-check-room-requires-2
 check-room-requires-2 c κs = search needs
 
--- src/lib.rt:659:9
 or-else-requires-3 : tie.Need-or-else-requires-3
 or-else-requires-3 c κs = search needs
 
--- src/lib.rt:663:29
 enum-known-early : tie.Need-enum-known-early
 enum-known-early c = search needs
 
--- src/lib.rt:664:9
 same-length : tie.Need-same-length
 same-length c = search needs
 
--- src/lib.rt:664:9
 returns-2 : tie.Need-returns-2
 returns-2 c = let a = c .before .before .before .before .before .before .before .before .before .before .before .before .before .before .before .before .before .before .before .before .before .args in matrix-early (a .boxes .now) (a .rows .now) (a .arrows .now) (a .scratch .now) (a .mode) (a .bytes .now) (a .numbers .now) _ (tabled (c .before .before .before .before .before .before .before .before .before .before .before .before)) (rest-is (c .before .before .before) ∙ c .before .early .given .1)
 
 enum-told-2 : tie.Need-enum-told-2
 enum-told-2 c = search needs
 
--- src/lib.rt:666:9
 contain-requires : tie.Need-contain-requires
 contain-requires c κs = let a = c .before .before .before .before .before .before .before .before .before .before .before .before .before .before .before .before .before .before .before .before .before .args in
     (ready (c .before) .rows-sound, scratch-room (length (a .boxes .now)) (a .scratch .now) (rest-rooms (a .boxes .now) (a .rows .now) (a .arrows .now) (a .scratch .now) (a .mode) (a .bytes .now) (a .numbers .now) (passed _ (rest-passed (c .before))) .0))
 
--- src/lib.rt:667:29
 enum-known-loops : tie.Need-enum-known-loops
 enum-known-loops c = search needs
 
--- src/lib.rt:668:9
 same-length-2 : tie.Need-same-length-2
 same-length-2 c = search needs
 
--- src/lib.rt:668:9
 returns-3 : tie.Need-returns-3
 returns-3 c = let a = c .before .before .before .before .before .before .before .before .before .before .before .before .before .before .before .before .before .before .before .before .before .before .before .before .before .before .before .args in
     let z = matrix-loops (a .boxes .now) (a .rows .now) (a .arrows .now) (a .scratch .now) (a .mode) (a .bytes .now) (a .numbers .now) (tabled (c .before .before .before .before .before .before .before .before .before .before .before .before .before .before .before .before .before .before)) (rest-passed (c .before .before .before .before .before .before .before)) _ (sym (c .before .before .before .before .before .contain .ensures .0) ∙ c .before .loops .given .1) in
@@ -133,26 +104,21 @@ returns-3 c = let a = c .before .before .before .before .before .before .before 
 enum-told-3 : tie.Need-enum-told-3
 enum-told-3 c = search needs
 
--- src/lib.rt:670:5
 fill-matrix-requires : tie.Need-fill-matrix-requires
 fill-matrix-requires c κs = let a = c .before .before .before .before .before .before .before .before .before .before .before .before .before .before .before .before .before .before .before .before .before .before .before .before .before .before .before .before .before .args in
     let r = ready (c .before .before .before .before .before .before .before .before .before) in
     let rooms = rest-rooms (a .boxes .now) (a .rows .now) (a .arrows .now) (a .scratch .now) (a .mode) (a .bytes .now) (a .numbers .now) (passed _ (rest-passed (c .before .before .before .before .before .before .before .before .before))) in
     (r .rows-sound, r .arrows-sound, rw (c .before .before .before .before .before .before .before .contain .ensures .1) (r .says), rooms .1, rooms .2)
 
--- src/lib.rt:643:1
 same-length-3 : tie.Need-same-length-3
 same-length-3 c = search needs
 
--- src/lib.rt:643:1
 same-length-4 : tie.Need-same-length-4
 same-length-4 c = search needs
 
--- src/lib.rt:643:1
 same-length-5 : tie.Need-same-length-5
 same-length-5 c = search needs
 
--- src/lib.rt:643:1
 returns-4 : tie.Need-returns-4
 returns-4 c = let a = c .before .before .before .before .before .before .before .before .before .before .before .before .before .before .before .before .before .before .before .before .before .before .before .before .before .before .before .before .before .before .before .before .before .before .args in
     let z = matrix-filled (a .boxes .now) (a .rows .now) (a .arrows .now) (a .scratch .now) (a .mode) (a .bytes .now) (a .numbers .now) (tabled (c .before .before .before .before .before .before .before .before .before .before .before .before .before .before .before .before .before .before .before .before .before .before .before .before .before)) (rest-passed (c .before .before .before .before .before .before .before .before .before .before .before .before .before .before)) (sym (c .before .before .before .before .before .before .before .before .before .before .before .before .contain .ensures .0) ∙ c .before .before .before .before .before .before .before .before .enum-told3 .given .1) in

@@ -1,20 +1,16 @@
-use Rattle.answers.specs.Among.{hasMode, modeArrows}
-use borrow.Author.Tests.{eq-eqb, ne-eqb}
 use mathlib.Core.Logic.{⊎-elim}
-use Prim.Native.Nat.{_-_, _≤_, _<_, _/_}
-use mathlib.Core.Path.{_≡_, sym, _∙_}
-use Rattle.tables.proofs.BufferLaws.{Selected, selected-none, selected-length, selected-most, selected-yes, selected-no}
-use Rattle.tables.specs.Rows.{arrowCount, arrowAt}
+use mathlib.Core.Path.{_≡_, _∙_}
+use Prim.Native.Nat.{_-_, _≤_, _<_}
+use native.Mathlib.Omega.{arith}
+use borrow.Author.Tests.{eq-eqb, ne-eqb}
+use borrow.Author.Needs.{needs}
 use lib.ListN.{length}
 use lib.Dec.{eqb}
-use native.Mathlib.Omega.{arith}
-use borrow.Author.Needs.{needs}
+use Rattle.tables.specs.Rows.{arrowCount}
+use Rattle.tables.proofs.BufferLaws.{Selected, selected-none, selected-length, selected-most, selected-yes, selected-no}
+use Rattle.answers.specs.Among.{hasMode, modeArrows}
 use Rattle.answers.proofs.mode_arrows.Statement.{statement}
 use Rattle.answers.proofs.mode_arrows.Tie as tie
-use Rattle.answers.proofs.mode_arrows.Reads as reads
-use Rattle.answers.proofs.mode_arrows.Lts as lts
-use Rattle.tables.proofs.Arrow.at.Reads as at-reads
-use Rattle.tables.proofs.narrow.Reads as narrow-reads
 
 abbrev Inv-loop : tie.InvT-loop
 Inv-loop arrows mode out₀ count₀ k₀ k-end out count k = (k ≤ arrowCount arrows) × Selected (hasMode arrows mode) out₀ k count out
@@ -22,15 +18,12 @@ Inv-loop arrows mode out₀ count₀ k₀ k-end out count k = (k ≤ arrowCount 
 abbrev μ-loop : tie.MeasureT-loop
 μ-loop arrows mode out₀ count₀ k₀ k-end out count k = arrowCount arrows - k
 
--- src/lib.rt:107:5
 loop-holds : tie.Need-loop-holds Inv-loop μ-loop
 loop-holds c = (search needs, selected-none (hasMode (c .before .before .args .arrows .now) (c .before .before .args .mode)) (c .before .before .args .out .now))
 
--- src/lib.rt:108:13
 at-requires : tie.Need-at-requires Inv-loop μ-loop
 at-requires c κs = search needs
 
--- src/lib.rt:110:26
 narrow-requires : tie.Need-narrow-requires Inv-loop μ-loop
 narrow-requires c κs = search needs
 
@@ -44,23 +37,18 @@ room c =
     let len = selected-length p (a .out .now) (l .k) (l .count) (l .out) (omega arith) (l .inv .1) in
     (omega arith, omega arith)
 
--- src/lib.rt:110:13
 mul-out : tie.Need-mul-out Inv-loop μ-loop
 mul-out c = omega (arith, room c)
 
--- src/lib.rt:110:13
 slice-write-out : tie.Need-slice-write-out Inv-loop μ-loop
 slice-write-out c = room c .0
 
--- src/lib.rt:111:13
 add-count : tie.Need-add-count Inv-loop μ-loop
 add-count c = omega (arith, room c)
 
--- src/lib.rt:107:9
 add-k : tie.Need-add-k Inv-loop μ-loop
 add-k c = search needs
 
--- src/lib.rt:107:5
 loop-less : tie.Need-loop-less Inv-loop μ-loop
 loop-less c = search needs
 
@@ -69,7 +57,6 @@ tested : (c : tie.After-struct-known Inv-loop μ-loop) → let a = c .before .be
 unfolding hasMode
 tested c = rw (c .before .at .ensures)
 
--- src/lib.rt:107:5
 loop-again : tie.Need-loop-again Inv-loop μ-loop
 loop-again c = let a = c .before .before .before .before .before .before .before .args in
     let l = c .before .before .before .before .loop in
@@ -81,13 +68,11 @@ loop-again c = let a = c .before .before .before .before .before .before .before
           (c .if1 .came),
     )
 
--- src/lib.rt:102:1
 same-length : tie.Need-same-length Inv-loop μ-loop
 same-length c = let a = c .before .before .before .before .args in
     let l = c .before .loop in
     selected-length (hasMode (a .arrows .now) (a .mode)) (a .out .now) (l .k) (l .count) (l .out) (omega arith) (l .inv .1)
 
--- src/lib.rt:102:1
 returns : tie.Need-returns Inv-loop μ-loop
 unfolding modeArrows
 returns c = let e : c .before .loop .k ≡ arrowCount (c .before .before .before .before .args .arrows .now) = omega arith in

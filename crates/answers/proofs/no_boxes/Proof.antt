@@ -1,13 +1,8 @@
-use Rattle.tables.specs.Buffers.{zeros}
 use mathlib.Core.Path.{refl}
-use native.Mathlib.Omega.{arith}
-use borrow.Author.Needs.{needs}
+use Rattle.tables.specs.Buffers.{zeros}
 use Rattle.answers.proofs.no_boxes.Statement.{statement}
 use Rattle.answers.proofs.no_boxes.Tie as tie
-use Rattle.answers.proofs.no_boxes.Reads as reads
-use Rattle.answers.proofs.no_boxes.Lts as lts
 
--- src/lib.rt:359:1
 returns : tie.Need-returns
 unfolding zeros
 returns c = refl

@@ -1,13 +1,8 @@
-use Rattle.tables.specs.Buffers.{zeros}
 use mathlib.Core.Path.{refl}
-use native.Mathlib.Omega.{arith}
-use borrow.Author.Needs.{needs}
+use Rattle.tables.specs.Buffers.{zeros}
 use Rattle.answers.proofs.no_numbers.Statement.{statement}
 use Rattle.answers.proofs.no_numbers.Tie as tie
-use Rattle.answers.proofs.no_numbers.Reads as reads
-use Rattle.answers.proofs.no_numbers.Lts as lts
 
--- src/lib.rt:289:1
 returns : tie.Need-returns
 unfolding zeros
 returns c = refl

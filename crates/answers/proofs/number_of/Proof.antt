@@ -1,43 +1,32 @@
-use Rattle.answers.specs.Meaning.{numberOf}
-use native.Mathlib.Omega.{arith}
 use borrow.Author.Needs.{needs}
+use Rattle.answers.specs.Meaning.{numberOf}
 use Rattle.answers.proofs.number_of.Statement.{statement}
 use Rattle.answers.proofs.number_of.Tie as tie
-use Rattle.answers.proofs.number_of.Reads as reads
-use Rattle.answers.proofs.number_of.Lts as lts
 
--- src/lib.rt:64:24
 enum-known-e : tie.Need-enum-known-e
 enum-known-e c = search needs
 
--- src/lib.rt:65:23
 enum-known-e-2 : tie.Need-enum-known-e-2
 enum-known-e-2 c = search needs
 
--- src/lib.rt:66:27
 enum-told : tie.Need-enum-told
 enum-told c = search needs
 
--- src/lib.rt:67:33
 enum-told-2 : tie.Need-enum-told-2
 enum-told-2 c = search needs
 
--- src/lib.rt:60:1
 returns : tie.Need-returns
 unfolding numberOf
 returns c = rw (c .before .e .given .1)
 
--- src/lib.rt:60:1
 returns-2 : tie.Need-returns-2
 unfolding numberOf
 returns-2 c = rw (c .before .e2 .given .1)
 
--- src/lib.rt:60:1
 returns-3 : tie.Need-returns-3
 unfolding numberOf
 returns-3 c = rw (c .enum-told .given .1)
 
--- src/lib.rt:60:1
 returns-4 : tie.Need-returns-4
 unfolding numberOf
 returns-4 c = rw (c .enum-told2 .given .1)

@@ -1,31 +1,21 @@
-use Rattle.answers.proofs.ReadyLaws.{sound-within}
-use Rattle.answers.proofs.CallLaws.{early, late, asked-there, entry-tables, entry-early, entry-late, entry-answered}
-use Rattle.answers.specs.declared.Reply.the-variants.{Answered}
-use Rattle.answers.specs.Calls.{askedFault}
-use Rattle.containment.proofs.PictureLaws.{Prepared, prepared}
-use Rattle.containment.proofs.ScratchLaws.{scratch-room}
-use Rattle.containment.specs.Scratch.{scratchFault}
-use Rattle.containment.specs.Contains.{loopFault}
-use Rattle.tables.proofs.TableLaws.{both-none, sound-rows}
-use Rattle.tables.proofs.Verdicts.{passed, either-verdict}
+use mathlib.Core.Path.{_≡_, sym, ap, _∙_}
+use borrow.Author.Needs.{needs}
+use lib.ListN.{length}
 use Rattle.tables.specs.declared.Verdict.the-variants.{Passed}
 use Rattle.tables.specs.Faults.{tableFault, modeFault}
 use Rattle.tables.specs.Refusals.{verdictOf}
-use lib.ListN.{length}
-use mathlib.Core.Path.{_≡_, sym, ap, _∙_}
-use native.Mathlib.Omega.{arith}
-use borrow.Author.Needs.{needs}
+use Rattle.tables.proofs.TableLaws.{both-none, sound-rows}
+use Rattle.tables.proofs.Verdicts.{passed, either-verdict}
+use Rattle.containment.specs.Scratch.{scratchFault}
+use Rattle.containment.specs.Contains.{loopFault}
+use Rattle.containment.proofs.PictureLaws.{Prepared, prepared}
+use Rattle.containment.proofs.ScratchLaws.{scratch-room}
+use Rattle.answers.specs.declared.Reply.the-variants.{Answered}
+use Rattle.answers.specs.Calls.{askedFault}
+use Rattle.answers.proofs.ReadyLaws.{sound-within}
+use Rattle.answers.proofs.CallLaws.{early, late, asked-there, entry-tables, entry-early, entry-late, entry-answered}
 use Rattle.answers.proofs.one_entry.Statement.{statement}
 use Rattle.answers.proofs.one_entry.Tie as tie
-use Rattle.answers.proofs.one_entry.Reads as reads
-use Rattle.answers.proofs.one_entry.Lts as lts
-use Rattle.answers.proofs.answer_pair.Reads as answer-pair-reads
-use Rattle.answers.proofs.check_asked.Reads as check-asked-reads
-use Rattle.containment.proofs.check_scratch.Reads as check-scratch-reads
-use Rattle.containment.proofs.contain.Reads as contain-reads
-use Rattle.tables.proofs.Verdict.or_else.Reads as or-else-reads
-use Rattle.tables.proofs.check.Reads as check-reads
-use Rattle.tables.proofs.check_mode.Reads as check-mode-reads
 
 -- what each stage found
 tabled : (c : tie.After-enum-told) → let a = c .before .before .before .before .before .before .before .args in verdictOf (tableFault (a .boxes .now) (a .rows .now) (a .arrows .now)) ≡ Passed
@@ -47,72 +37,57 @@ late-is : (c : tie.After-or-else2) → let a = c .before .before .before .before
 late-is c = let a = c .before .before .before .before .before .before .before .before .before .before .before .before .before .before .before .before .before .before .before .args in
     sym (rw (c .or-else2 .ensures, c .before .before .before .before .contain .ensures .0, c .before .check-asked .ensures) (either-verdict (loopFault (a .boxes .now) (a .rows .now)) (askedFault (a .boxes .now) (a .rows .now) (a .u) (a .f))))
 
--- src/lib.rt:510:9
 check-requires : tie.Need-check-requires
 check-requires c κs = search needs
 
--- src/lib.rt:511:29
 enum-known-tables : tie.Need-enum-known-tables
 enum-known-tables c = search needs
 
--- src/lib.rt:512:9
 returns : tie.Need-returns
 returns c = let a = c .before .before .before .before .before .before .before .before .args in entry-tables (a .boxes .now) (a .rows .now) (a .arrows .now) (a .scratch .now) (a .mode) (a .u) (a .f) _ (sym (c .before .before .before .check .ensures) ∙ c .before .tables .given .1)
 
 enum-told : tie.Need-enum-told
 enum-told c = search needs
 
--- src/lib.rt:514:17
 check-mode-requires : tie.Need-check-mode-requires
 check-mode-requires c κs = search needs
 
--- src/lib.rt:514:42
 check-scratch-requires : tie.Need-check-scratch-requires
 check-scratch-requires c κs = let a = c .before .before .before .before .before .before .before .before .before .args in sound-rows (a .boxes .now) (a .rows .now) (a .arrows .now) (passed _ (tabled (c .before .before))) .few-boxes
 
--- src/lib.rt:514:9
 or-else-requires : tie.Need-or-else-requires
 or-else-requires c κs = search needs
 
--- src/lib.rt:515:29
 enum-known-early : tie.Need-enum-known-early
 enum-known-early c = search needs
 
--- src/lib.rt:516:9
 same-length : tie.Need-same-length
 same-length c = search needs
 
--- src/lib.rt:516:9
 returns-2 : tie.Need-returns-2
 returns-2 c = let a = c .before .before .before .before .before .before .before .before .before .before .before .before .before .before .args in entry-early (a .boxes .now) (a .rows .now) (a .arrows .now) (a .scratch .now) (a .mode) (a .u) (a .f) _ (tabled (c .before .before .before .before .before .before .before)) (early-is (c .before .before .before) ∙ c .before .early .given .1)
 
 enum-told-2 : tie.Need-enum-told-2
 enum-told-2 c = search needs
 
--- src/lib.rt:518:16
 contain-requires : tie.Need-contain-requires
 contain-requires c κs = let a = c .before .before .before .before .before .before .before .before .before .before .before .before .before .before .args in (
   ready (c .before) .rows-sound,
   scratch-room (length (a .boxes .now)) (a .scratch .now) (both-none (modeFault (a .mode)) (scratchFault (length (a .boxes .now)) (a .scratch .now)) (passed _ (early-passed (c .before))) .1),
 )
 
--- src/lib.rt:518:54
 check-asked-requires : tie.Need-check-asked-requires
 check-asked-requires c κs = ready (c .before .before .before .before) .rows-sound .whole
 
--- src/lib.rt:518:9
 or-else-requires-2 : tie.Need-or-else-requires-2
 or-else-requires-2 c κs = search needs
 
--- src/lib.rt:519:29
 enum-known-late : tie.Need-enum-known-late
 enum-known-late c = search needs
 
--- src/lib.rt:520:9
 same-length-2 : tie.Need-same-length-2
 same-length-2 c = search needs
 
--- src/lib.rt:520:9
 returns-3 : tie.Need-returns-3
 returns-3 c = let a = c .before .before .before .before .before .before .before .before .before .before .before .before .before .before .before .before .before .before .before .before .before .before .args in
     let z = entry-late (a .boxes .now) (a .rows .now) (a .arrows .now) (a .scratch .now) (a .mode) (a .u) (a .f) (tabled (c .before .before .before .before .before .before .before .before .before .before .before .before .before .before .before)) (early-passed (c .before .before .before .before .before .before .before .before .before)) _ (late-is (c .before .before .before) ∙ c .before .late .given .1) in
@@ -124,18 +99,15 @@ enum-told-3 c = search needs
 late-passed : (c : tie.After-enum-told3) → let a = c .before .before .before .before .before .before .before .before .before .before .before .before .before .before .before .before .before .before .before .before .before .args in verdictOf (late (a .boxes .now) (a .rows .now) (a .arrows .now) (a .scratch .now) (a .mode) (a .u) (a .f)) ≡ Passed
 late-passed c = late-is (c .before .before) ∙ c .enum-told3 .given .1
 
--- src/lib.rt:522:21
 answer-pair-requires : tie.Need-answer-pair-requires
 answer-pair-requires c κs = let a = c .before .before .before .before .before .before .before .before .before .before .before .before .before .before .before .before .before .before .before .before .before .before .args in
     let r = ready (c .before .before .before .before .before .before .before .before .before) in
     let there = asked-there (a .boxes .now) (a .rows .now) (a .u) (a .f) (both-none (loopFault (a .boxes .now) (a .rows .now)) (askedFault (a .boxes .now) (a .rows .now) (a .u) (a .f)) (passed _ (late-passed (c .before))) .1) in
     (rw (c .before .before .before .before .before .before .before .contain .ensures .1) (r .says), sound-within (a .boxes .now) (a .arrows .now) (r .arrows-sound), r .arrows-sound .few-arrows, there .0, there .1)
 
--- src/lib.rt:499:1
 same-length-3 : tie.Need-same-length-3
 same-length-3 c = search needs
 
--- src/lib.rt:499:1
 returns-4 : tie.Need-returns-4
 returns-4 c = let a = c .before .before .before .before .before .before .before .before .before .before .before .before .before .before .before .before .before .before .before .before .before .before .before .args in
     let z = entry-answered (a .boxes .now) (a .rows .now) (a .arrows .now) (a .scratch .now) (a .mode) (a .u) (a .f) (tabled (c .before .before .before .before .before .before .before .before .before .before .before .before .before .before .before .before)) (early-passed (c .before .before .before .before .before .before .before .before .before .before)) (late-passed (c .before .before)) in

@@ -1,21 +1,17 @@
-use borrow.Author.Tests.{not-true, not-false}
-use Rattle.tables.proofs.Tests.{true-T}
-use borrow.Author.Count.{below-more}
 use mathlib.Core.Path.{_≡_, sym, _∙_}
-use Rattle.answers.proofs.AmongLaws.{all-yes, all-no}
-use Rattle.answers.specs.Meaning.{overrides}
-use Rattle.tables.specs.Rows.{arrowAt}
-use lib.ListN.{length, getD}
-use lib.Dec.{T}
 use Prim.Native.Nat.{ℕ, _-_, _≤_, _<_}
 use native.Mathlib.Omega.{arith}
+use borrow.Author.Tests.{not-true, not-false}
+use borrow.Author.Count.{below-more}
 use borrow.Author.Needs.{needs}
+use lib.ListN.{length, getD}
+use lib.Dec.{T}
+use Rattle.tables.specs.Rows.{arrowAt}
+use Rattle.tables.proofs.Tests.{true-T}
+use Rattle.answers.specs.Meaning.{overrides}
+use Rattle.answers.proofs.AmongLaws.{all-yes, all-no}
 use Rattle.answers.proofs.overrides_all.Statement.{statement}
 use Rattle.answers.proofs.overrides_all.Tie as tie
-use Rattle.answers.proofs.overrides_all.Reads as reads
-use Rattle.answers.proofs.overrides_all.Lts as lts
-use Rattle.answers.proofs.arrow_at.Reads as arrow-at-reads
-use Rattle.answers.proofs.does_override.Reads as does-override-reads
 
 abbrev Inv-loop : tie.InvT-loop
 Inv-loop n rows scratch arrows p opposite i₀ i-end i = (i ≤ length opposite) × ((k : ℕ) → k < i → T (overrides rows p (arrowAt arrows (getD opposite k 0))))
@@ -23,23 +19,18 @@ Inv-loop n rows scratch arrows p opposite i₀ i-end i = (i ≤ length opposite)
 abbrev μ-loop : tie.MeasureT-loop
 μ-loop n rows scratch arrows p opposite i₀ i-end i = length opposite - i
 
--- src/lib.rt:155:5
 loop-holds : tie.Need-loop-holds Inv-loop μ-loop
 loop-holds c = (search needs, λ k h. absurd (omega arith))
 
--- src/lib.rt:156:65
 mul-arrow-at : tie.Need-mul-arrow-at Inv-loop μ-loop
 mul-arrow-at c = search needs
 
--- src/lib.rt:156:65
 shared-slice-read-arrow-at : tie.Need-shared-slice-read-arrow-at Inv-loop μ-loop
 shared-slice-read-arrow-at c = search needs
 
--- src/lib.rt:156:48
 arrow-at-requires : tie.Need-arrow-at-requires Inv-loop μ-loop
 arrow-at-requires c κs = c .before .before .before .before .before .before .before .pre .2 (c .before .before .loop .i) (c .before .loop-test .taken)
 
--- src/lib.rt:156:13
 does-override-requires : tie.Need-does-override-requires Inv-loop μ-loop
 does-override-requires c κs = let start = c .before .before .before .before .before .before .before .before in
     let l = c .before .before .before .loop in
@@ -51,24 +42,19 @@ compared : (c : tie.After-does-override Inv-loop μ-loop) → let a = c .before 
     overrides (a .rows .now) (a .p) (arrowAt (a .arrows .now) (getD (a .opposite .now) (c .before .before .before .before .loop .i) 0)) ≡ c .does-override .result
 compared c = rw (← c .before .arrow-at .ensures) (sym (c .does-override .ensures))
 
--- src/lib.rt:157:13
 returns : tie.Need-returns Inv-loop μ-loop
 returns c = let a = c .before .before .before .before .before .before .before .before .before .before .args in
     sym (all-no (a .rows .now) (a .arrows .now) (a .p) (a .opposite .now) (c .before .before .before .before .before .loop .i) (c .before .before .before .before .loop-test .taken) (compared (c .before) ∙ not-true _ (c .if1 .taken)))
 
--- src/lib.rt:155:9
 add-i : tie.Need-add-i Inv-loop μ-loop
 add-i c = search needs
 
--- src/lib.rt:155:5
 loop-less : tie.Need-loop-less Inv-loop μ-loop
 loop-less c = search needs
 
--- src/lib.rt:155:5
 loop-again : tie.Need-loop-again Inv-loop μ-loop
 loop-again c = (omega arith, below-more _ _ (c .before .before .before .before .before .loop .inv .1) (true-T _ (compared (c .before) ∙ not-false _ (c .if1 .left))))
 
--- src/lib.rt:144:1
 returns-2 : tie.Need-returns-2 Inv-loop μ-loop
 returns-2 c = let a = c .before .before .before .before .before .before .args in
     sym (all-yes (a .rows .now) (a .arrows .now) (a .p) (a .opposite .now) (λ i h. c .before .loop .inv .1 i (omega arith)))

@@ -1,40 +1,29 @@
-use Rattle.answers.proofs.PairLaws.{few-pairs}
-use Rattle.tables.specs.Atoms.{pairCount}
 use native.Mathlib.Omega.{arith}
 use borrow.Author.Needs.{needs}
+use Rattle.tables.specs.Atoms.{pairCount}
+use Rattle.answers.proofs.PairLaws.{few-pairs}
 use Rattle.answers.proofs.pair_count.Statement.{statement}
 use Rattle.answers.proofs.pair_count.Tie as tie
-use Rattle.answers.proofs.pair_count.Reads as reads
-use Rattle.answers.proofs.pair_count.Lts as lts
-use Rattle.answers.proofs.no_boxes.Reads as no-boxes-reads
-use Rattle.tables.proofs.atoms_of.Reads as atoms-of-reads
 
--- src/lib.rt:370:21
 no-boxes-requires : tie.Need-no-boxes-requires
 no-boxes-requires c κs = search needs
 
--- src/lib.rt:371:53
 slice-aggregate-atoms-of : tie.Need-slice-aggregate-atoms-of
 slice-aggregate-atoms-of c = search needs
 
--- src/lib.rt:371:9
 atoms-of-requires : tie.Need-atoms-of-requires
 atoms-of-requires c κs = search needs
 
--- src/lib.rt:372:53
 slice-aggregate-atoms-of-2 : tie.Need-slice-aggregate-atoms-of-2
 slice-aggregate-atoms-of-2 c = search needs
 
--- src/lib.rt:372:9
 atoms-of-requires-2 : tie.Need-atoms-of-requires-2
 atoms-of-requires-2 c κs = search needs
 
--- src/lib.rt:373:5
 mul-result : tie.Need-mul-result
 mul-result c = let start = c .before .before .before .before .before .before .before .before .before in
     rw (c .before .before .before .before .atoms-of .ensures .0, c .before .atoms-of2 .ensures .0) (omega (arith, few-pairs (start .args .boxes .now) (start .args .rows .now) (start .pre .few-boxes)))
 
--- src/lib.rt:366:1
 returns : tie.Need-returns
 unfolding pairCount
 returns c = rw (c .before .before .before .before .atoms-of .ensures .0, c .before .atoms-of2 .ensures .0)

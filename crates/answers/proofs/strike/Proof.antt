@@ -1,19 +1,15 @@
-use borrow.Author.Tests.{ltb-true}
-use Rattle.answers.specs.Meaning.{overrides}
-use Rattle.tables.specs.Rows.{arrowAt}
-use lib.ListN.{length, getD}
 use mathlib.Core.Path.{_≡_, sym, _∙_}
-use Rattle.answers.proofs.AmongLaws.{struck-first, struck-second}
-use Rattle.answers.specs.Among.{NoneBefore}
 use Prim.Native.Nat.{_+_, _-_, _≤_}
 use native.Mathlib.Omega.{arith}
+use borrow.Author.Tests.{ltb-true}
 use borrow.Author.Needs.{needs}
+use lib.ListN.{length, getD}
+use Rattle.tables.specs.Rows.{arrowAt}
+use Rattle.answers.specs.Meaning.{overrides}
+use Rattle.answers.specs.Among.{NoneBefore}
+use Rattle.answers.proofs.AmongLaws.{struck-first, struck-second}
 use Rattle.answers.proofs.strike.Statement.{statement}
 use Rattle.answers.proofs.strike.Tie as tie
-use Rattle.answers.proofs.strike.Reads as reads
-use Rattle.answers.proofs.strike.Lts as lts
-use Rattle.answers.proofs.arrow_at.Reads as arrow-at-reads
-use Rattle.answers.proofs.does_override.Reads as does-override-reads
 
 abbrev Inv-loop : tie.InvT-loop
 Inv-loop n rows scratch arrows ps ns i₀ j₀ i j = (i ≤ length ps) × (j ≤ length ns) × NoneBefore rows arrows ps ns i × NoneBefore rows arrows ns ps j
@@ -21,35 +17,27 @@ Inv-loop n rows scratch arrows ps ns i₀ j₀ i j = (i ≤ length ps) × (j ≤
 abbrev μ-loop : tie.MeasureT-loop
 μ-loop n rows scratch arrows ps ns i₀ j₀ i j = (length ps - i) + (length ns - j)
 
--- src/lib.rt:177:5
 loop-holds : tie.Need-loop-holds Inv-loop μ-loop
 loop-holds c = (search needs, search needs, λ k h. absurd (omega arith), λ k h. absurd (omega arith))
 
--- src/lib.rt:182:30
 mul-arrow-at : tie.Need-mul-arrow-at Inv-loop μ-loop
 mul-arrow-at c = search needs
 
--- src/lib.rt:182:30
 shared-slice-read-arrow-at : tie.Need-shared-slice-read-arrow-at Inv-loop μ-loop
 shared-slice-read-arrow-at c = search needs
 
--- src/lib.rt:182:13
 arrow-at-requires : tie.Need-arrow-at-requires Inv-loop μ-loop
 arrow-at-requires c κs = c .before .before .before .before .before .before .before .before .before .pre .2 (c .before .before .before .loop .i) (c .before .before .loop-test .taken)
 
--- src/lib.rt:183:30
 mul-arrow-at-2 : tie.Need-mul-arrow-at-2 Inv-loop μ-loop
 mul-arrow-at-2 c = search needs
 
--- src/lib.rt:183:30
 shared-slice-read-arrow-at-2 : tie.Need-shared-slice-read-arrow-at-2 Inv-loop μ-loop
 shared-slice-read-arrow-at-2 c = search needs
 
--- src/lib.rt:183:13
 arrow-at-requires-2 : tie.Need-arrow-at-requires-2 Inv-loop μ-loop
 arrow-at-requires-2 c κs = c .before .before .before .before .before .before .before .before .before .before .before .pre .3 (c .before .before .before .before .before .loop .j) (ltb-true _ _ (c .before .before .before .if1 .taken))
 
--- src/lib.rt:178:12
 does-override-requires : tie.Need-does-override-requires Inv-loop μ-loop
 does-override-requires c κs = let start = c .before .before .before .before .before .before .before .before .before .before .before .before in
     let l = c .before .before .before .before .before .before .loop in
@@ -64,15 +52,12 @@ compared : (c : tie.After-does-override Inv-loop μ-loop) → let a = c .before 
     c .does-override .result ≡ overrides (a .rows .now) (arrowAt (a .arrows .now) (getD (a .ps .now) (l .i) 0)) (arrowAt (a .arrows .now) (getD (a .ns .now) (l .j) 0))
 compared c = rw (← c .before .before .before .arrow-at .ensures, ← c .before .arrow-at2 .ensures) (c .does-override .ensures)
 
--- src/lib.rt:185:13
 add-j : tie.Need-add-j Inv-loop μ-loop
 add-j c = search needs
 
--- src/lib.rt:177:5
 loop-less : tie.Need-loop-less Inv-loop μ-loop
 loop-less c = omega (arith, ltb-true)
 
--- src/lib.rt:177:5
 loop-again : tie.Need-loop-again Inv-loop μ-loop
 loop-again c = let a = c .before .before .before .before .before .before .before .before .before .before .before .before .before .before .args in
     let l = c .before .before .before .before .before .before .before .before .loop in
@@ -80,15 +65,12 @@ loop-again c = let a = c .before .before .before .before .before .before .before
     (sym (compared (c .before)) ∙ c .if2 .taken) (l .inv .3) in
     (l .inv .0, omega (arith, ltb-true), l .inv .2, new)
 
--- src/lib.rt:187:13
 add-i : tie.Need-add-i Inv-loop μ-loop
 add-i c = search needs
 
--- src/lib.rt:177:5
 loop-less-2 : tie.Need-loop-less-2 Inv-loop μ-loop
 loop-less-2 c = omega (arith, ltb-true)
 
--- src/lib.rt:177:5
 loop-again-2 : tie.Need-loop-again-2 Inv-loop μ-loop
 loop-again-2 c = let a = c .before .before .before .before .before .before .before .before .before .before .before .before .before .before .args in
     let l = c .before .before .before .before .before .before .before .before .loop in
@@ -96,11 +78,9 @@ loop-again-2 c = let a = c .before .before .before .before .before .before .befo
     (sym (compared (c .before)) ∙ c .if2 .left) (l .inv .2) in
     (omega arith, l .inv .1, new, l .inv .3)
 
--- src/lib.rt:171:1
 returns : tie.Need-returns Inv-loop μ-loop
 returns c = (c .before .before .loop .inv .2, c .before .before .loop .inv .3)
 
--- src/lib.rt:171:1
 returns-2 : tie.Need-returns-2 Inv-loop μ-loop
 returns-2 c = (c .before .loop .inv .2, c .before .loop .inv .3)
 

@@ -16,26 +16,29 @@ table-requires-2 c κs = search needs
 number-requires : tie.Need-number-requires
 number-requires c κs = search needs
 
-slice-reshare-prefix-run : tie.Need-slice-reshare-prefix-run
-slice-reshare-prefix-run c = search needs
+read-question-requires : tie.Need-read-question-requires
+read-question-requires c κs = search needs
 
-slice-aggregate-run : tie.Need-slice-aggregate-run
-slice-aggregate-run c = simp length-take (omega arith)
+slice-reshare-prefix-run-all : tie.Need-slice-reshare-prefix-run-all
+slice-reshare-prefix-run-all c = search needs
 
-slice-reshare-prefix-run-2 : tie.Need-slice-reshare-prefix-run-2
-slice-reshare-prefix-run-2 c = search needs
+slice-aggregate-run-all : tie.Need-slice-aggregate-run-all
+slice-aggregate-run-all c = simp length-take (omega arith)
 
-slice-aggregate-run-2 : tie.Need-slice-aggregate-run-2
-slice-aggregate-run-2 c = simp length-take (omega arith)
+slice-reshare-prefix-run-all-2 : tie.Need-slice-reshare-prefix-run-all-2
+slice-reshare-prefix-run-all-2 c = search needs
 
-slice-reshare-prefix-run-3 : tie.Need-slice-reshare-prefix-run-3
-slice-reshare-prefix-run-3 c = search needs
+slice-aggregate-run-all-2 : tie.Need-slice-aggregate-run-all-2
+slice-aggregate-run-all-2 c = simp length-take (omega arith)
 
-slice-aggregate-run-3 : tie.Need-slice-aggregate-run-3
-slice-aggregate-run-3 c = simp length-take (omega arith)
+slice-reshare-prefix-run-all-3 : tie.Need-slice-reshare-prefix-run-all-3
+slice-reshare-prefix-run-all-3 c = search needs
 
-run-requires : tie.Need-run-requires
-run-requires c κs = search needs
+slice-aggregate-run-all-3 : tie.Need-slice-aggregate-run-all-3
+slice-aggregate-run-all-3 c = simp length-take (omega arith)
+
+run-all-requires : tie.Need-run-all-requires
+run-all-requires c κs = search needs
 
 same-length : tie.Need-same-length
 same-length c = search needs
@@ -60,13 +63,14 @@ picture-spec =
     table-requires
     table-requires-2
     number-requires
-    slice-reshare-prefix-run
-    slice-aggregate-run
-    slice-reshare-prefix-run-2
-    slice-aggregate-run-2
-    slice-reshare-prefix-run-3
-    slice-aggregate-run-3
-    run-requires
+    read-question-requires
+    slice-reshare-prefix-run-all
+    slice-aggregate-run-all
+    slice-reshare-prefix-run-all-2
+    slice-aggregate-run-all-2
+    slice-reshare-prefix-run-all-3
+    slice-aggregate-run-all-3
+    run-all-requires
     same-length
     same-length-2
     same-length-3

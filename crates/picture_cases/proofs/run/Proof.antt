@@ -19,8 +19,14 @@ prepare-requires c κs = search needs
 show-verdict-requires : tie.Need-show-verdict-requires
 show-verdict-requires c κs = search needs
 
-show-scratch-requires : tie.Need-show-scratch-requires
-show-scratch-requires c κs = search needs
+show-counts-requires : tie.Need-show-counts-requires
+show-counts-requires c κs = search needs
+
+show-bytes-requires : tie.Need-show-bytes-requires
+show-bytes-requires c κs = search needs
+
+end-line-requires : tie.Need-end-line-requires
+end-line-requires c κs = search needs
 
 same-length : tie.Need-same-length
 same-length c = search needs
@@ -43,7 +49,9 @@ run-spec =
     slice-aggregate-prepare
     prepare-requires
     show-verdict-requires
-    show-scratch-requires
+    show-counts-requires
+    show-bytes-requires
+    end-line-requires
     same-length
     returns
     same-length-2

@@ -1,39 +1,28 @@
--- The fields are the head's bytes and numbers. Assumes nothing.
+-- The file has the block, so the reader sees its head. Assumes nothing.
+use mathlib.Core.Path.{sym, _∙_}
 use borrow.Author.Needs.{needs}
-use Rattle.blocks.specs.Blocks.{headOf}
+use Rattle.blocks.specs.declared.Seen.the-variants.{Block, NoBlock}
+use Rattle.blocks.proofs.Heads.{seen-here}
 use Rattle.blocks.proofs.Head.of.Statement.{statement}
 use Rattle.blocks.proofs.Head.of.Tie as tie
 
-byte-of-requires : tie.Need-byte-of-requires
-byte-of-requires c κs = search needs
+head-at-requires : tie.Need-head-at-requires
+head-at-requires c κs = search needs
 
-byte-of-requires-2 : tie.Need-byte-of-requires-2
-byte-of-requires-2 c κs = search needs
+enum-known-seen : tie.Need-enum-known-seen
+enum-known-seen c = search needs
 
-number-of-requires : tie.Need-number-of-requires
-number-of-requires c κs = search needs
+enum-told : tie.Need-enum-told
+enum-told c = search needs
 
-number-of-requires-2 : tie.Need-number-of-requires-2
-number-of-requires-2 c κs = search needs
-
-byte-of-requires-3 : tie.Need-byte-of-requires-3
-byte-of-requires-3 c κs = search needs
-
-byte-of-requires-4 : tie.Need-byte-of-requires-4
-byte-of-requires-4 c κs = search needs
+none-requires : tie.Need-none-requires
+none-requires c κs = search needs
 
 returns : tie.Need-returns
-unfolding headOf
-returns c = rw (c .byte-of4 .ensures, c .before .byte-of3 .ensures, c .before .before .number-of2 .ensures, c .before .before .before .number-of .ensures, c .before .before .before .before .byte-of2 .ensures, c .before .before .before .before .before .byte-of .ensures)
+returns c = rw (c .none .ensures) (seen-here _ _ NoBlock (c .before .before .before .before .before .pre) (sym (c .before .enum-told .given .1) ∙ c .before .before .before .head-at .ensures))
+
+returns-2 : tie.Need-returns-2
+returns-2 c = seen-here _ _ (Block (c .before .seen .given .0 .0)) (c .before .before .before .before .before .pre) (sym (c .before .seen .given .1) ∙ c .before .before .before .head-at .ensures)
 
 pub of-spec : {M : Type 1} → statement M
-of-spec =
-    tie.close
-    (tie.spec
-    byte-of-requires
-    byte-of-requires-2
-    number-of-requires
-    number-of-requires-2
-    byte-of-requires-3
-    byte-of-requires-4
-    returns)
+of-spec = tie.close (tie.spec head-at-requires enum-known-seen enum-told none-requires returns returns-2)

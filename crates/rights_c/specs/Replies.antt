@@ -1,0 +1,51 @@
+-- The numbers by which a call answers across the C boundary (`include/rights.h`). Assumes nothing.
+use Prim.Native.Nat.{ℕ}
+use Rattle.tables.specs.declared.Refusal.{Refusal}
+use Rattle.tables.specs.declared.Verdict.{Verdict}
+use Rattle.tables.specs.declared.Verdict.the-variants.{Passed, Refused}
+use Rattle.answers.specs.declared.Entry.{Entry}
+use Rattle.answers.specs.declared.Entry.the-variants.{Granted, Denied, Default, Unclear}
+use Rattle.answers.specs.declared.Reply.the-variants.{Answered, Refused as EntryRefused}
+use Rattle.lists.specs.declared.Listed.{Listed}
+use Rattle.lists.specs.declared.Listed.the-variants.{Written, Refused as ListRefused}
+use Rattle.blocks.specs.declared.Reading.{Reading}
+use Rattle.blocks.specs.declared.Reading.the-variants.{Tables, Refused as ReadRefused}
+use Rattle.answers.specs.declared.Reply.{Reply as EntryReply}
+use Rattle.rights_c.specs.declared.Reply.{Reply}
+
+abbrev pub reply : ℕ → ℕ → ℕ → ℕ → ℕ → Reply
+reply kind number a b c = record { kind = kind; number = number; a = a; b = b; c = c }
+
+-- kind 4, refused: the refusal's number and its three numbers
+abbrev pub refusedReply : Refusal → Reply
+refusedReply r = reply 4 (r .number) (r .first) (r .second) (r .third)
+
+-- kind 5, done
+abbrev pub doneReply : ℕ → ℕ → ℕ → Reply
+doneReply a b c = reply 5 0 a b c
+
+-- judge and matrix: done, or refused
+abbrev pub verdictReply : Verdict → Reply
+verdictReply Passed = doneReply 0 0 0
+verdictReply (Refused r) = refusedReply r
+
+-- kind 0 granted and 1 denied, with the arrow; 2 denied by default; 3 unclear, with the positive and the negative arrow
+abbrev pub entryReply : Entry → Reply
+entryReply (Granted k) = reply 0 0 k 0 0
+entryReply (Denied k) = reply 1 0 k 0 0
+entryReply Default = reply 2 0 0 0 0
+entryReply (Unclear p n) = reply 3 0 p n 0
+
+abbrev pub askedReply : EntryReply → Reply
+askedReply (Answered e) = entryReply e
+askedReply (EntryRefused r) = refusedReply r
+
+-- the list: done with the count
+abbrev pub listReply : Listed → Reply
+listReply (Written count) = doneReply count 0 0
+listReply (ListRefused r) = refusedReply r
+
+-- reading: done with the three row counts
+abbrev pub readReply : Reading → Reply
+readReply (Tables c) = doneReply (c .boxes) (c .containments) (c .arrows)
+readReply (ReadRefused r) = refusedReply r

@@ -1,0 +1,180 @@
+// The calls across the C boundary (`include/rights.h`): numbers and slices in, one reply out. A slice passes as a pointer and then
+// a length in elements.
+ghost use mathlib.Core.Path.{_≡_};
+ghost use lib.ListN.{length};
+ghost use Rattle.tables.specs.Refusals.{verdictOf};
+ghost use Rattle.containment.specs.Scratch.{scratchAfter, earlyFault};
+ghost use Rattle.answers.specs.Meaning.{answer};
+ghost use Rattle.answers.specs.Calls.{replyOf, entryEarly, entryFault, judgeFault, matrixEarly, matrixFault, bytesAfter, numbersAfter};
+ghost use Rattle.lists.specs.Calls.{Outcome};
+ghost use Rattle.blocks.specs.Reads.{ReadDone};
+ghost use Rattle.rights_c.specs.Replies.{reply, doneReply, refusedReply, verdictReply, entryReply, askedReply, listReply, readReply};
+ghost use Rattle.lists.specs.declared.Listed.{Listed};
+ghost use Rattle.blocks.specs.declared.Reading.{Reading};
+use answers::Entry;
+use blocks::Reading;
+use lists::Listed;
+use tables::Refusal;
+use tables::Verdict;
+
+// What a call answers: its kind, a refusal's number, and three numbers; 0 where nothing is named.
+#[repr(C)]
+pub struct Reply {
+    pub kind: u32,
+    pub number: u32,
+    pub a: u64,
+    pub b: u64,
+    pub c: u64,
+}
+
+fn done(a: usize, b: usize, c: usize) -> Reply
+    ensures { λ r. ⌜ r ≡ doneReply a b c ⌝ }
+{
+    Reply {
+        kind: 5,
+        number: 0,
+        a: a as u64,
+        b: b as u64,
+        c: c as u64,
+    }
+}
+
+fn of_refusal(x: Refusal) -> Reply
+    ensures { λ r. ⌜ r ≡ refusedReply x ⌝ }
+{
+    Reply {
+        kind: 4,
+        number: x.number as u32,
+        a: x.first as u64,
+        b: x.second as u64,
+        c: x.third as u64,
+    }
+}
+
+fn of_verdict(v: Verdict) -> Reply
+    ensures { λ r. ⌜ r ≡ verdictReply v ⌝ }
+{
+    match v {
+        Verdict::Passed => done(0, 0, 0),
+        Verdict::Refused(x) => of_refusal(x),
+    }
+}
+
+fn shown(kind: u32, a: u16, b: u16) -> Reply
+    ensures { λ r. ⌜ r ≡ reply kind 0 a b 0 ⌝ }
+{
+    Reply {
+        kind,
+        number: 0,
+        a: a as u64,
+        b: b as u64,
+        c: 0,
+    }
+}
+
+fn of_entry(e: Entry) -> Reply
+    ensures { λ r. ⌜ r ≡ entryReply e ⌝ }
+{
+    match e {
+        Entry::Granted(k) => shown(0, k, 0),
+        Entry::Denied(k) => shown(1, k, 0),
+        Entry::Default => shown(2, 0, 0),
+        Entry::Unclear(p, n) => shown(3, p, n),
+    }
+}
+
+fn of_asked(x: answers::Reply) -> Reply
+    ensures { λ r. ⌜ r ≡ askedReply x ⌝ }
+{
+    match x {
+        answers::Reply::Answered(e) => of_entry(e),
+        answers::Reply::Refused(y) => of_refusal(y),
+    }
+}
+
+fn of_list(l: Listed) -> Reply
+    ensures { λ r. ⌜ r ≡ listReply l ⌝ }
+{
+    match l {
+        Listed::Written(count) => done(count, 0, 0),
+        Listed::Refused(x) => of_refusal(x),
+    }
+}
+
+fn of_reading(x: Reading) -> Reply
+    ensures { λ r. ⌜ r ≡ readReply x ⌝ }
+{
+    match x {
+        Reading::Tables(c) => done(c.boxes, c.containments, c.arrows),
+        Reading::Refused(y) => of_refusal(y),
+    }
+}
+
+#[no_mangle]
+pub extern "C" fn rights_judge(
+    boxes: &[u8],
+    rows: &[u16],
+    arrows: &[u16],
+    scratch: &mut [u8],
+) -> Reply
+    ensures { λ r. ⌜ (r ≡ verdictReply (verdictOf (judgeFault (now (boxes .entry)) (now (rows .entry)) (now (arrows .entry)) (now (scratch .entry))))) × (now (scratch .exit) ≡ scratchAfter (earlyFault (now (boxes .entry)) (now (rows .entry)) (now (arrows .entry)) (now (scratch .entry))) (now (boxes .entry)) (now (rows .entry)) (now (scratch .entry))) ⌝ }
+{
+    of_verdict(answers::judge(boxes, rows, arrows, scratch))
+}
+
+#[no_mangle]
+pub extern "C" fn rights_entry(
+    boxes: &[u8],
+    rows: &[u16],
+    arrows: &[u16],
+    user: u16,
+    file: u16,
+    mode: u16,
+    scratch: &mut [u8],
+) -> Reply
+    ensures { λ r. ⌜ (r ≡ askedReply (replyOf (entryFault (now (boxes .entry)) (now (rows .entry)) (now (arrows .entry)) (now (scratch .entry)) mode user file) (answer (now (rows .entry)) (now (arrows .entry)) mode user file))) × (now (scratch .exit) ≡ scratchAfter (entryEarly (now (boxes .entry)) (now (rows .entry)) (now (arrows .entry)) (now (scratch .entry)) mode) (now (boxes .entry)) (now (rows .entry)) (now (scratch .entry))) ⌝ }
+{
+    of_asked(answers::one_entry(boxes, rows, arrows, scratch, user, file, mode))
+}
+
+#[no_mangle]
+pub extern "C" fn rights_matrix(
+    boxes: &[u8],
+    rows: &[u16],
+    arrows: &[u16],
+    mode: u16,
+    scratch: &mut [u8],
+    bytes: &mut [u8],
+    numbers: &mut [u16],
+) -> Reply
+    ensures { λ r. ⌜ (r ≡ verdictReply (verdictOf (matrixFault (now (boxes .entry)) (now (rows .entry)) (now (arrows .entry)) (now (scratch .entry)) mode (now (bytes .entry)) (now (numbers .entry))))) × (now (scratch .exit) ≡ scratchAfter (matrixEarly (now (boxes .entry)) (now (rows .entry)) (now (arrows .entry)) (now (scratch .entry)) mode (now (bytes .entry)) (now (numbers .entry))) (now (boxes .entry)) (now (rows .entry)) (now (scratch .entry))) × (now (bytes .exit) ≡ bytesAfter (now (boxes .entry)) (now (rows .entry)) (now (arrows .entry)) (now (scratch .entry)) mode (now (bytes .entry)) (now (numbers .entry))) × (now (numbers .exit) ≡ numbersAfter (now (boxes .entry)) (now (rows .entry)) (now (arrows .entry)) (now (scratch .entry)) mode (now (bytes .entry)) (now (numbers .entry))) ⌝ }
+{
+    of_verdict(answers::matrix(boxes, rows, arrows, scratch, mode, bytes, numbers))
+}
+
+#[no_mangle]
+pub extern "C" fn rights_list(
+    boxes: &[u8],
+    rows: &[u16],
+    arrows: &[u16],
+    mode: u16,
+    scratch: &mut [u8],
+    list: &mut [u16],
+    work: &mut [u8],
+) -> Reply
+    ensures { λ r. ⌜ ((l : Listed) × (r ≡ listReply l) × Outcome (now (boxes .entry)) (now (rows .entry)) (now (arrows .entry)) mode (now (scratch .entry)) (now (list .entry)) (now (work .entry)) l (now (scratch .exit)) (now (list .exit)) (now (work .exit))) ⌝ }
+{
+    of_list(lists::list(boxes, rows, arrows, scratch, mode, list, work))
+}
+
+#[no_mangle]
+pub extern "C" fn rights_read(
+    file: &[u8],
+    boxes: &mut [u8],
+    rows: &mut [u16],
+    arrows: &mut [u16],
+) -> Reply
+    ensures { λ r. ⌜ ((x : Reading) × (r ≡ readReply x) × ReadDone (now (file .entry)) (now (boxes .entry)) (now (rows .entry)) (now (arrows .entry)) (now (boxes .exit)) (now (rows .exit)) (now (arrows .exit)) x) ⌝ }
+{
+    of_reading(blocks::read(file, boxes, rows, arrows))
+}
