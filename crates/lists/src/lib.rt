@@ -420,7 +420,7 @@ fn order(
     requires { ⌜ Clear (now boxes) (now rows) (now arrows) mode × (length (now own) ≤ length (now out)) × (pairs ≤ length (now work)) × (now work ≡ written (workOf (now boxes) (now rows) (now arrows) mode []) (now work)) ⌝ }
     ensures { λ r. ⌜ Ordered (now (boxes .entry)) (now (rows .entry)) (now (arrows .entry)) mode (now (out .entry)) (now (work .entry)) r (now (out .exit)) (now (work .exit)) ⌝ }
 {
-    let mut blocked = no_places();
+    let mut block = no_places();
     let mut fresh = no_places();
     let mut count = 0;
     loop {
@@ -434,7 +434,7 @@ fn order(
             arrows,
             own,
             work,
-            &mut blocked,
+            &mut block,
             &mut fresh,
         );
         if own.len() <= t {
