@@ -5,3 +5,4 @@ pub mod Index
 mod Rounds
 mod StepLaws
 pub mod PictureLaws
+pub mod AroundLaws

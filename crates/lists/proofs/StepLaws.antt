@@ -1,16 +1,17 @@
 -- The tests of the steps, and how they go on from turn to turn. Assumes nothing.
-use mathlib.Core.Path.{_≡_, sym, ap, _∙_}
+use mathlib.Core.Path.{_≡_, sym, ap, subst, _∙_}
 use mathlib.Core.Logic.{_≢_}
 use mathlib.Core.Bool.{Bool, true, false, not, cond}
 use mathlib.Core.List.{List}
 use Prim.Native.Nat.{ℕ, _+_, _<_, _≤_}
+use native.Mathlib.Nat.{add-zero}
 use native.Mathlib.Decide.{decLt, ℕ-discrete}
 use native.Mathlib.Numerals.{add-one}
 use native.Mathlib.Omega.{arith}
 use borrow.Author.Tests.{le-ltb, lt-ltb, eq-eqb, ne-eqb}
-use lib.Dec.{T, T-not, not-T, ltb, ltb→lt}
+use lib.Dec.{T, T-not, not-T, eqb, ltb, ltb→lt}
 use lib.ListN.{length, getD, set, take, replicate, length-set, length-replicate, replicate-append-replicate}
-use lib.Seq.{getD-set-same, getD-set-other, length-take-le, take-suc}
+use lib.Seq.{getD-set-same, getD-set-other, length-take-le, take-suc, ext-getD}
 use Rattle.tables.specs.Search.{every}
 use Rattle.tables.specs.Buffers.{build, written}
 use Rattle.tables.specs.Rows.{arrowAt}
@@ -20,7 +21,7 @@ use Rattle.answers.specs.Among.{FirstAt}
 use Rattle.lists.specs.Steps.{touches, stops, NoStop, follows, marked, Behind}
 use Rattle.tables.proofs.Tests.{and-T, T-true, not-false}
 use Rattle.tables.proofs.SearchLaws.{every-at, every-is}
-use Rattle.tables.proofs.BufferLaws.{written-more, written-rest, build-length, written-build}
+use Rattle.tables.proofs.BufferLaws.{written-more, written-rest, build-length, written-build, written-length, written-at, build-at}
 use Rattle.lists.proofs.GreedyLaws.{not-nowhere}
 
 module _ (boxes rows : List ℕ) (a : Arrow) (work : List ℕ) (skip p : ℕ) where
@@ -45,6 +46,21 @@ module _ (boxes rows : List ℕ) (a : Arrow) where
   pub stops-open : (work : List ℕ) (skip p : ℕ) → T (stops boxes rows a work skip p) → getD work p 0 < 2
   unfolding stops
   stops-open work skip p t = ltb→lt (getD work p 0) 2 (and-T (ltb (getD work p 0) 2) _ t .0)
+
+  -- and only where the arrow reaches the pair
+  stops-touches : (work : List ℕ) (skip p : ℕ) → T (stops boxes rows a work skip p) → T (touches boxes rows a p)
+  unfolding stops
+  stops-touches work skip p t = and-T (not (eqb (getD work p 0) skip)) _ (and-T (ltb (getD work p 0) 2) _ t .1) .1
+
+  -- so no place stops the arrow on the way to one ahead
+  pub no-stop-ahead : (work : List ℕ) (skip p q : ℕ) → NoStop boxes rows a work skip p → (T (stops boxes rows a work skip p) → ⊥)
+      → ((k : ℕ) → p < k → k < q → T (touches boxes rows a k) → ⊥) → NoStop boxes rows a work skip q
+  no-stop-ahead work skip p q n here u k l t = go (decLt k p) (ℕ-discrete k p)
+    where
+      go : Dec (k < p) → Dec (k ≡ p) → ⊥
+      go (yes h) e = n k h t
+      go (no h) (yes e) = here (subst (λ (z : ℕ). T (stops boxes rows a work skip z)) e t)
+      go (no h) (no e) = u k (omega arith) l (stops-touches work skip k t)
 
   -- ---- whether the arrow may follow, by its two pointers
 
@@ -97,6 +113,33 @@ module _ (boxes rows : List ℕ) (a : Arrow) (w : List ℕ) where
       ap (λ (z : List ℕ). getD z p 0) e ∙ written-rest (build (marked boxes rows a w) p) w p (omega (arith, build-length (marked boxes rows a w) p)) in
       let to : b ≡ marked boxes rows a w p = i ∙ rw (h ∙ stops-same boxes rows a work w 2 p same, same) in
       rw (to, e) (written-build (marked boxes rows a w) p w l)
+
+  unmarked : (k : ℕ) → (T (touches boxes rows a k) → ⊥) → getD w k 0 ≡ marked boxes rows a w k
+  unfolding marked
+  unmarked k n = rw (not-false (stops boxes rows a w 2 k) (λ t. n (stops-touches boxes rows a w 2 k t))) (sym (add-zero (getD w k 0)))
+
+  -- and so are the places up to one ahead, which the arrow does not reach
+  pub mark-ahead : (p q : ℕ) → p < q → q ≤ length w → ((k : ℕ) → p < k → k < q → T (touches boxes rows a k) → ⊥)
+      → written (build (marked boxes rows a w) (p + 1)) w ≡ written (build (marked boxes rows a w) q) w
+  mark-ahead p q l h u =
+      let g = marked boxes rows a w in
+      ext-getD 0 _ _
+      (written-length (build g (p + 1)) w (rw build-length (omega arith)) ∙ sym (written-length (build g q) w (rw build-length h)))
+      (λ k z. go k (decLt k (p + 1)) (decLt k q))
+    where
+      go : (k : ℕ) → Dec (k < p + 1) → Dec (k < q)
+          → getD (written (build (marked boxes rows a w) (p + 1)) w) k 0 ≡ getD (written (build (marked boxes rows a w) q) w) k 0
+      go k (yes m) (yes o) =
+          written-at (build (marked boxes rows a w) (p + 1)) w k (rw build-length m) ∙ build-at (marked boxes rows a w) (p + 1) k m
+          ∙ sym (written-at (build (marked boxes rows a w) q) w k (rw build-length o) ∙ build-at (marked boxes rows a w) q k o)
+      go k (yes m) (no o) = absurd (omega arith)
+      go k (no m) (yes o) =
+          written-rest (build (marked boxes rows a w) (p + 1)) w k (rw build-length (omega arith))
+          ∙ unmarked k (u k (omega arith) o)
+          ∙ sym (written-at (build (marked boxes rows a w) q) w k (rw build-length o) ∙ build-at (marked boxes rows a w) q k o)
+      go k (no m) (no o) =
+          written-rest (build (marked boxes rows a w) (p + 1)) w k (rw build-length (omega arith))
+          ∙ sym (written-rest (build (marked boxes rows a w) q) w k (rw build-length (omega arith)))
 
 -- ---- a buffer that is filled with one value
 

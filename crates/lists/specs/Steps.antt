@@ -47,6 +47,14 @@ module _ (boxes rows : List ℕ) where
   unfoldable pub touches : Arrow → ℕ → Bool
   touches a p = reaches rows a (userAt boxes rows p) (fileAt boxes rows p)
 
+  -- c is the cell of a place after p, at most `pairs`, and the arrow reaches none of the pairs between
+  pub record Ahead (a : Arrow) (pairs width p : ℕ) (c : Cell) : Type 0 where
+    pub place : ℕ
+    pub cell : c ≡ cellAt width place
+    pub later : p < place
+    pub within : place ≤ pairs
+    pub untouched : (q : ℕ) → p < q → q < place → T (touches a q) → ⊥
+
   -- a work byte is 1 if its pair is granted, and 2 more if the list reaches it.
   -- The arrow reaches the pair at place p, whose byte is none of a reached pair and is not `skip`: with the arrow's sign to skip,
   -- the arrow may not follow yet; with 2, it would be the first to reach the pair.

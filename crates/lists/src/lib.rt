@@ -3,7 +3,7 @@ ghost use mathlib.Core.Path.{_≡_};
 ghost use mathlib.Core.Bool.{true, cond};
 ghost use mathlib.Core.List.{[]};
 ghost use mathlib.Core.Option.{none, some};
-ghost use Prim.Native.Nat.{ℕ, _+_, _/_, _%_, _<_, _≤_};
+ghost use Prim.Native.Nat.{ℕ, _+_, _*_, _/_, _%_, _<_, _≤_};
 ghost use lib.ListN.{length, take};
 ghost use Rattle.tables.specs.Buffers.{build, written, zeros};
 ghost use Rattle.tables.specs.Search.{bit};
@@ -11,13 +11,14 @@ ghost use Rattle.tables.specs.Rows.{arrowCount};
 ghost use Rattle.tables.specs.Atoms.{pairCount};
 ghost use Rattle.tables.specs.Faults.{SoundRows, SoundArrows};
 ghost use Rattle.tables.specs.Refusals.{refusal, verdictOf};
+ghost use Rattle.containment.specs.Contains.{around};
 ghost use Rattle.containment.specs.Scratch.{Says};
 ghost use Rattle.answers.specs.Meaning.{isGranted};
 ghost use Rattle.answers.specs.Pairs.{userAt, fileAt, answerAt, unclearFault};
 ghost use Rattle.answers.specs.Among.{modeArrows, FirstAt};
 ghost use Rattle.lists.specs.Greedy.{orderFault};
 ghost use Rattle.lists.specs.Calls.{blanks, Answered, Listing, Outcome};
-ghost use Rattle.lists.specs.Steps.{cellAt, Placed, Drawn, Ends, stops, NoStop, marked, Behind, followsAt, ownSign, nothing, leftIn, Clear, workOf, Ordered};
+ghost use Rattle.lists.specs.Steps.{cellAt, Placed, Drawn, Ends, Ahead, stops, NoStop, marked, Behind, followsAt, ownSign, nothing, leftIn, Clear, workOf, Ordered};
 use answers::Entry;
 use answers::answer_among;
 use answers::does_reach;
@@ -27,6 +28,7 @@ use answers::pair_at;
 use answers::pair_count;
 use containment::check_scratch;
 use containment::contain;
+use containment::does_contain;
 use tables::Arrow;
 use tables::BoxRow;
 use tables::Refusal;
@@ -79,6 +81,14 @@ impl Cell {
     }
 }
 
+// The place of the cell in a table of so many columns.
+fn place_of(at: Cell, width: usize) -> usize
+    requires { ⌜ at .row * width + at .col < 65536 ⌝ }
+    ensures { λ r. ⌜ r ≡ at .row * width + at .col ⌝ }
+{
+    at.row * width + at.col
+}
+
 // The sign of an arrow as a byte.
 fn sign_byte(sign: u16) -> u8
     requires { ⌜ sign ≤ 1 ⌝ }
@@ -115,6 +125,37 @@ fn stops_at(
     let i = at.row;
     let j = at.col;
     does_reach(boxes.len(), rows, scratch, a, users[i], files[j])
+}
+
+// Whether the arrow's tail is the user or contains it.
+fn is_from(n: usize, rows: &[u16], scratch: &[u8], a: Arrow, u: u16) -> bool
+    requires { ⌜ Says n (now rows) (now scratch) × (a .tail < n) × (u < n) ⌝ }
+    ensures { λ r. ⌜ r ≡ around (now (rows .entry)) (a .tail) u ⌝ }
+{
+    a.tail == u || does_contain(n, rows, scratch, wide(a.tail), wide(u))
+}
+
+// Where the walk of the arrow goes on after place p: at the next place, or in the next row where it reaches no pair of this one.
+fn ahead(
+    boxes: &[u8],
+    rows: &[u16],
+    scratch: &[u8],
+    users: &[u16],
+    files: &[u16],
+    pairs: usize,
+    a: Arrow,
+    p: usize,
+    at: Cell,
+) -> Cell
+    requires { ⌜ Says (length (now boxes)) (now rows) (now scratch) × Placed (now boxes) (now rows) (now users) (now files) pairs × Ends (now boxes) a ⌝ }
+    requires { ⌜ (p < pairs) × (at ≡ cellAt (length (now files)) p) ⌝ }
+    ensures { λ r. ⌜ Ahead (now (boxes .entry)) (now (rows .entry)) a pairs (length (now (files .entry))) p r ⌝ }
+{
+    let i = at.row;
+    if is_from(boxes.len(), rows, scratch, a, users[i]) {
+        return at.next(files.len());
+    }
+    Cell { row: i + 1, col: 0 }
 }
 
 // The first place from `from` on that stops the arrow, or one past the end.
@@ -155,8 +196,8 @@ fn advance(
         ) {
             return p;
         }
-        at = at.next(files.len());
-        p += 1;
+        at = ahead(boxes, rows, scratch, users, files, pairs, a, p, at);
+        p = place_of(at, files.len());
     }
     p
 }
@@ -285,10 +326,12 @@ fn mark(
         return;
     }
     let mut at = Cell::at(0, files.len());
-    for p in 0..pairs {
+    let mut p = 0;
+    while p < pairs {
         let hit = stops_at(boxes, rows, scratch, users, files, pairs, a, work, 2, p, at);
         work[p] = marked_byte(work[p], hit);
-        at = at.next(files.len());
+        at = ahead(boxes, rows, scratch, users, files, pairs, a, p, at);
+        p = place_of(at, files.len());
     }
 }
 
@@ -377,7 +420,7 @@ fn order(
     requires { ⌜ Clear (now boxes) (now rows) (now arrows) mode × (length (now own) ≤ length (now out)) × (pairs ≤ length (now work)) × (now work ≡ written (workOf (now boxes) (now rows) (now arrows) mode []) (now work)) ⌝ }
     ensures { λ r. ⌜ Ordered (now (boxes .entry)) (now (rows .entry)) (now (arrows .entry)) mode (now (out .entry)) (now (work .entry)) r (now (out .exit)) (now (work .exit)) ⌝ }
 {
-    let mut blocked = no_places();
+    let mut block = no_places();
     let mut fresh = no_places();
     let mut count = 0;
     loop {
@@ -391,7 +434,7 @@ fn order(
             arrows,
             own,
             work,
-            &mut blocked,
+            &mut block,
             &mut fresh,
         );
         if own.len() <= t {

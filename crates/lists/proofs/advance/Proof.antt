@@ -1,13 +1,12 @@
 -- `lists::advance` meets its contract: no place before p stops the arrow. Assumes nothing.
-use mathlib.Core.Path.{_≡_, sym, ap, _∙_}
+use mathlib.Core.Path.{_≡_, sym, _∙_}
 use Prim.Native.Nat.{_-_, _≤_}
 use native.Mathlib.Omega.{arith}
-use borrow.Author.Count.{below-more}
-use borrow.Author.Needs.{needs}
 use lib.ListN.{length}
 use Rattle.lists.specs.Steps.{cellAt, NoStop}
-use Rattle.lists.specs.declared.Cell.{Cell}
-use Rattle.lists.proofs.PlaceLaws.{place-there, few-rows}
+use Rattle.lists.proofs.StepLaws.{no-stop-ahead}
+use Rattle.lists.proofs.PlaceLaws.{place-there, place-back}
+use Rattle.tables.proofs.AtomSides.{pairs-most}
 use Rattle.tables.proofs.Tests.{true-T, false-not}
 use Rattle.lists.proofs.advance.Statement.{statement}
 use Rattle.lists.proofs.advance.Tie as tie
@@ -45,27 +44,39 @@ returns-2 c = let s = c .before .before .before .before .before .before .before 
     let i = c .before .before .before .loop in
     record { none-before = i .inv .2; holds = λ l. true-T _ (sym (c .before .stops-at .ensures) ∙ c .if2 .taken) }
 
-next-requires : tie.Need-next-requires Inv-loop μ-loop
-next-requires c κs = let s = c .before .before .before .before .before .before .before .before .before .before .before .before in
+ahead-requires : tie.Need-ahead-requires Inv-loop μ-loop
+ahead-requires c κs = let s = c .before .before .before .before .before .before .before .before .before .before .before .before in
     let a = s .args in
     let i = c .before .before .before .loop in
-    let row = ap (λ (x : Cell). x .row) (i .inv .1) in
-    let col = ap (λ (x : Cell). x .col) (i .inv .1) in
-    (omega (arith, col, place-there (a .boxes .now) (a .rows .now) (a .users .now) (a .files .now) (a .pairs) (s .pre .0 .1) (i .p) (omega arith)), omega (arith, row, few-rows (a .boxes .now) (a .rows .now) (a .users .now) (a .files .now) (a .pairs) (s .pre .0 .1) (i .p) (omega arith)))
+    ((s .pre .0 .0, s .pre .0 .1, s .pre .0 .2), (omega arith, i .inv .1))
 
-add-p : tie.Need-add-p Inv-loop μ-loop
-add-p c = search needs
+place-of-requires : tie.Need-place-of-requires Inv-loop μ-loop
+place-of-requires c κs = let s = c .before .before .before .before .before .before .before .before .before .before .before .before .before in
+    let a = s .args in
+    let h = c .ahead .ensures in
+    let b = place-back (length (a .files .now)) (h .place) (c .ahead .result) (h .cell) in
+    omega (arith, b, h .within, pairs-most (a .boxes .now) (a .rows .now) (s .pre .0 .1 .few), s .pre .0 .1 .pairs-are)
 
 loop-less : tie.Need-loop-less Inv-loop μ-loop
-loop-less c = search needs
+loop-less c = let s = c .before .before .before .before .before .before .before .before .before .before .before .before .before .before in
+    let a = s .args in
+    let i = c .before .before .before .before .before .loop in
+    let h = c .before .ahead .ensures in
+    let b = place-back (length (a .files .now)) (h .place) (c .before .ahead .result) (h .cell) in
+    omega (arith, c .place-of .ensures, b, h .later, h .within)
 
 loop-again : tie.Need-loop-again Inv-loop μ-loop
-loop-again c = let s = c .before .before .before .before .before .before .before .before .before .before .before .before .before in
+loop-again c = let s = c .before .before .before .before .before .before .before .before .before .before .before .before .before .before in
     let a = s .args in
-    let i = c .before .before .before .before .loop in (
-      omega arith,
-      c .next .ensures (i .p) (i .inv .1),
-      below-more _ _ (i .inv .2) (false-not _ (sym (c .before .before .stops-at .ensures) ∙ c .before .if2 .left)),
+    let i = c .before .before .before .before .before .loop in
+    let h = c .before .ahead .ensures in
+    let b = place-back (length (a .files .now)) (h .place) (c .before .ahead .result) (h .cell) in
+    let e = c .place-of .ensures ∙ b in
+    rw e (
+      h .within,
+      h .cell,
+      no-stop-ahead (a .boxes .now) (a .rows .now) (a .a) (a .work .now) (a .skip) (i .p) (h .place) (i .inv .2)
+          (false-not _ (sym (c .before .before .before .stops-at .ensures) ∙ c .before .before .if2 .left)) (h .untouched),
     )
 
 returns-3 : tie.Need-returns-3 Inv-loop μ-loop
@@ -85,8 +96,8 @@ advance-spec =
     loop-holds
     stops-at-requires
     returns-2
-    next-requires
-    add-p
+    ahead-requires
+    place-of-requires
     loop-less
     loop-again
     returns-3)

@@ -1,14 +1,14 @@
 -- `lists::mark` meets its contract: the bytes before p are marked. Assumes nothing.
-use mathlib.Core.Path.{_≡_, refl, sym, ap, _∙_}
+use mathlib.Core.Path.{_≡_, refl, sym, _∙_}
 use Prim.Native.Nat.{_-_, _≤_}
 use native.Mathlib.Omega.{arith}
 use borrow.Author.Needs.{needs}
 use lib.ListN.{length, length-set}
 use Rattle.lists.specs.Steps.{cellAt, marked}
-use Rattle.lists.specs.declared.Cell.{Cell}
 use Rattle.tables.specs.Buffers.{build, written}
-use Rattle.lists.proofs.StepLaws.{stops-open, mark-turn}
-use Rattle.lists.proofs.PlaceLaws.{place-there, few-rows}
+use Rattle.lists.proofs.StepLaws.{stops-open, mark-turn, mark-ahead}
+use Rattle.lists.proofs.PlaceLaws.{place-there, place-back}
+use Rattle.tables.proofs.AtomSides.{pairs-most}
 use Rattle.tables.proofs.Tests.{true-T}
 use Rattle.tables.proofs.BufferLaws.{written-none}
 use Rattle.lists.proofs.mark.Statement.{statement}
@@ -61,28 +61,40 @@ slice-write-work c = let s = c .before .before .before .before .before .before .
     let i = c .before .before .before .before .before .loop in
     omega (arith, s .pre .3, i .inv .3)
 
-next-requires : tie.Need-next-requires Inv-loop μ-loop
-next-requires c κs = let s = c .before .before .before .before .before .before .before .before .before .before .before .before .before .before in
+ahead-requires : tie.Need-ahead-requires Inv-loop μ-loop
+ahead-requires c κs = let s = c .before .before .before .before .before .before .before .before .before .before .before .before .before .before in
     let a = s .args in
     let i = c .before .before .before .before .before .loop in
-    let row = ap (λ (x : Cell). x .row) (i .inv .1) in
-    let col = ap (λ (x : Cell). x .col) (i .inv .1) in
-    (omega (arith, col, place-there (a .boxes .now) (a .rows .now) (a .users .now) (a .files .now) (a .pairs) (s .pre .1) (i .p) (omega arith)), omega (arith, row, few-rows (a .boxes .now) (a .rows .now) (a .users .now) (a .files .now) (a .pairs) (s .pre .1) (i .p) (omega arith)))
+    ((s .pre .0, s .pre .1, s .pre .2), (omega arith, i .inv .1))
 
-add-p : tie.Need-add-p Inv-loop μ-loop
-add-p c = search needs
+place-of-requires : tie.Need-place-of-requires Inv-loop μ-loop
+place-of-requires c κs = let s = c .before .before .before .before .before .before .before .before .before .before .before .before .before .before .before in
+    let a = s .args in
+    let h = c .ahead .ensures in
+    let b = place-back (length (a .files .now)) (h .place) (c .ahead .result) (h .cell) in
+    omega (arith, b, h .within, pairs-most (a .boxes .now) (a .rows .now) (s .pre .1 .few), s .pre .1 .pairs-are)
 
 loop-less : tie.Need-loop-less Inv-loop μ-loop
-loop-less c = search needs
+loop-less c = let s = c .before .before .before .before .before .before .before .before .before .before .before .before .before .before .before .before in
+    let a = s .args in
+    let i = c .before .before .before .before .before .before .before .loop in
+    let h = c .before .ahead .ensures in
+    let b = place-back (length (a .files .now)) (h .place) (c .before .ahead .result) (h .cell) in
+    omega (arith, c .place-of .ensures, b, h .later, h .within)
 
 loop-again : tie.Need-loop-again Inv-loop μ-loop
-loop-again c = let s = c .before .before .before .before .before .before .before .before .before .before .before .before .before .before .before in
+loop-again c = let s = c .before .before .before .before .before .before .before .before .before .before .before .before .before .before .before .before in
     let a = s .args in
-    let i = c .before .before .before .before .before .before .loop in (
-      omega arith,
-      c .next .ensures (i .p) (i .inv .1),
-      mark-turn (a .boxes .now) (a .rows .now) (a .a) (a .work .now) (i .p) (i .work) (c .before .before .before .stops-at .result) (c .before .marked-byte .result)
-          (omega (arith, s .pre .3)) (i .inv .2) (c .before .before .before .stops-at .ensures) (c .before .marked-byte .ensures),
+    let i = c .before .before .before .before .before .before .before .loop in
+    let h = c .before .ahead .ensures in
+    let b = place-back (length (a .files .now)) (h .place) (c .before .ahead .result) (h .cell) in
+    let e = c .place-of .ensures ∙ b in
+    rw e (
+      h .within,
+      h .cell,
+      mark-turn (a .boxes .now) (a .rows .now) (a .a) (a .work .now) (i .p) (i .work) (c .before .before .before .before .stops-at .result) (c .before .before .marked-byte .result)
+          (omega (arith, s .pre .3)) (i .inv .2) (c .before .before .before .before .stops-at .ensures) (c .before .before .marked-byte .ensures)
+          ∙ mark-ahead (a .boxes .now) (a .rows .now) (a .a) (a .work .now) (i .p) (h .place) (h .later) (omega (arith, h .within, s .pre .3)) (h .untouched),
       simp length-set (i .inv .3),
     )
 
@@ -109,8 +121,8 @@ mark-spec =
     slice-read-marked-byte
     marked-byte-requires
     slice-write-work
-    next-requires
-    add-p
+    ahead-requires
+    place-of-requires
     loop-less
     loop-again
     same-length

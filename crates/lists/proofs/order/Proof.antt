@@ -11,11 +11,11 @@ use Rattle.lists.proofs.order.Statement.{statement}
 use Rattle.lists.proofs.order.Tie as tie
 
 abbrev Inv-loop : tie.InvT-loop
-Inv-loop boxes rows scratch users files pairs arrows mode own out₀ work₀ blocked₀ fresh₀ count₀ out work blocked fresh count =
-    Growing boxes rows arrows mode own out₀ work₀ out work blocked fresh count × (length blocked ≡ 512) × (length fresh ≡ 512)
+Inv-loop boxes rows scratch users files pairs arrows mode own out₀ work₀ block₀ fresh₀ count₀ out work block fresh count =
+    Growing boxes rows arrows mode own out₀ work₀ out work block fresh count × (length block ≡ 512) × (length fresh ≡ 512)
 
 abbrev μ-loop : tie.MeasureT-loop
-μ-loop boxes rows scratch users files pairs arrows mode own out₀ work₀ blocked₀ fresh₀ count₀ out work blocked fresh count =
+μ-loop boxes rows scratch users files pairs arrows mode own out₀ work₀ block₀ fresh₀ count₀ out work block fresh count =
     length own - count
 
 no-places-requires : tie.Need-no-places-requires Inv-loop μ-loop
@@ -44,25 +44,25 @@ pick-requires : tie.Need-pick-requires Inv-loop μ-loop
 pick-requires c κs = let s = c .before .before .before .before .before .before .before .before .before .before .before .before .before .before .before in
     let a = s .args in
     let i = c .before .before .before .loop in
-    ((s .pre .0 .0, s .pre .0 .1, s .pre .0 .2, omega (arith, s .pre .1 .2, growing-work (a .boxes .now) (a .rows .now) (a .arrows .now) (a .mode) (a .own .now) (a .out .now) (a .work .now) (s .pre .0 .3) (s .pre .1 .0) (s .pre .1 .1) (omega (arith, s .pre .0 .1 .pairs-are, s .pre .1 .2)) (i .out) (i .work) (i .blocked) (i .fresh) (i .count) (i .inv .0))), (i .inv .0 .blocked-behind, i .inv .0 .fresh-behind))
+    ((s .pre .0 .0, s .pre .0 .1, s .pre .0 .2, omega (arith, s .pre .1 .2, growing-work (a .boxes .now) (a .rows .now) (a .arrows .now) (a .mode) (a .own .now) (a .out .now) (a .work .now) (s .pre .0 .3) (s .pre .1 .0) (s .pre .1 .1) (omega (arith, s .pre .0 .1 .pairs-are, s .pre .1 .2)) (i .out) (i .work) (i .block) (i .fresh) (i .count) (i .inv .0))), (i .inv .0 .blocked-behind, i .inv .0 .fresh-behind))
 
 same-length : tie.Need-same-length Inv-loop μ-loop
 same-length c = let s = c .before .before .before .before .before .before .before .before .before .before .before .before .before .before .before .before .before .before .before in
     let a = s .args in
     let i = c .before .before .before .before .before .before .before .loop in
-    growing-out (a .boxes .now) (a .rows .now) (a .arrows .now) (a .mode) (a .own .now) (a .out .now) (a .work .now) (s .pre .0 .3) (s .pre .1 .0) (s .pre .1 .1) (omega (arith, s .pre .0 .1 .pairs-are, s .pre .1 .2)) (i .out) (i .work) (i .blocked) (i .fresh) (i .count) (i .inv .0)
+    growing-out (a .boxes .now) (a .rows .now) (a .arrows .now) (a .mode) (a .own .now) (a .out .now) (a .work .now) (s .pre .0 .3) (s .pre .1 .0) (s .pre .1 .1) (omega (arith, s .pre .0 .1 .pairs-are, s .pre .1 .2)) (i .out) (i .work) (i .block) (i .fresh) (i .count) (i .inv .0)
 
 same-length-2 : tie.Need-same-length-2 Inv-loop μ-loop
 same-length-2 c = let s = c .before .before .before .before .before .before .before .before .before .before .before .before .before .before .before .before .before .before .before in
     let a = s .args in
     let i = c .before .before .before .before .before .before .before .loop in
-    growing-work (a .boxes .now) (a .rows .now) (a .arrows .now) (a .mode) (a .own .now) (a .out .now) (a .work .now) (s .pre .0 .3) (s .pre .1 .0) (s .pre .1 .1) (omega (arith, s .pre .0 .1 .pairs-are, s .pre .1 .2)) (i .out) (i .work) (i .blocked) (i .fresh) (i .count) (i .inv .0)
+    growing-work (a .boxes .now) (a .rows .now) (a .arrows .now) (a .mode) (a .own .now) (a .out .now) (a .work .now) (s .pre .0 .3) (s .pre .1 .0) (s .pre .1 .1) (omega (arith, s .pre .0 .1 .pairs-are, s .pre .1 .2)) (i .out) (i .work) (i .block) (i .fresh) (i .count) (i .inv .0)
 
 returns : tie.Need-returns Inv-loop μ-loop
 returns c = let s = c .before .before .before .before .before .before .before .before .before .before .before .before .before .before .before .before .before .before .before in
     let a = s .args in
     let i = c .before .before .before .before .before .before .before .loop in
-    growing-done (a .boxes .now) (a .rows .now) (a .arrows .now) (a .mode) (a .own .now) (a .out .now) (a .work .now) (s .pre .0 .3) (s .pre .1 .0) (s .pre .1 .1) (omega (arith, s .pre .0 .1 .pairs-are, s .pre .1 .2)) (i .out) (i .work) (i .blocked) (i .fresh) (i .count) (i .inv .0) (c .before .before .before .pick .result) (c .if1 .taken) (c .before .before .before .pick .ensures .0 .none-before)
+    growing-done (a .boxes .now) (a .rows .now) (a .arrows .now) (a .mode) (a .own .now) (a .out .now) (a .work .now) (s .pre .0 .3) (s .pre .1 .0) (s .pre .1 .1) (omega (arith, s .pre .0 .1 .pairs-are, s .pre .1 .2)) (i .out) (i .work) (i .block) (i .fresh) (i .count) (i .inv .0) (c .before .before .before .pick .result) (c .if1 .taken) (c .before .before .before .pick .ensures .0 .none-before)
 
 mul-k : tie.Need-mul-k Inv-loop μ-loop
 mul-k c = let s = c .before .before .before .before .before .before .before .before .before .before .before .before .before .before .before .before .before .before .before in
@@ -83,7 +83,7 @@ mul-out c = let s = c .before .before .before .before .before .before .before .b
     let k = c .before .before .before .before .pick in
     let l : k .result < length (a .own .now) = omega arith in
     let f = k .ensures .0 .holds l in
-    omega (arith, s .pre .0 .2 .few, growing-room (a .boxes .now) (a .rows .now) (a .arrows .now) (a .mode) (a .own .now) (a .out .now) (a .work .now) (s .pre .0 .3) (s .pre .1 .0) (s .pre .1 .1) (omega (arith, s .pre .0 .1 .pairs-are, s .pre .1 .2)) (i .out) (i .work) (i .blocked) (i .fresh) (i .count) (i .inv .0) (k .result) l f)
+    omega (arith, s .pre .0 .2 .few, growing-room (a .boxes .now) (a .rows .now) (a .arrows .now) (a .mode) (a .own .now) (a .out .now) (a .work .now) (s .pre .0 .3) (s .pre .1 .0) (s .pre .1 .1) (omega (arith, s .pre .0 .1 .pairs-are, s .pre .1 .2)) (i .out) (i .work) (i .block) (i .fresh) (i .count) (i .inv .0) (k .result) l f)
 
 slice-write-out : tie.Need-slice-write-out Inv-loop μ-loop
 slice-write-out c = let s = c .before .before .before .before .before .before .before .before .before .before .before .before .before .before .before .before .before .before .before .before in
@@ -92,7 +92,7 @@ slice-write-out c = let s = c .before .before .before .before .before .before .b
     let k = c .before .before .before .before .pick in
     let l : k .result < length (a .own .now) = omega arith in
     let f = k .ensures .0 .holds l in
-    omega (arith, s .pre .1 .1, growing-out (a .boxes .now) (a .rows .now) (a .arrows .now) (a .mode) (a .own .now) (a .out .now) (a .work .now) (s .pre .0 .3) (s .pre .1 .0) (s .pre .1 .1) (omega (arith, s .pre .0 .1 .pairs-are, s .pre .1 .2)) (i .out) (i .work) (i .blocked) (i .fresh) (i .count) (i .inv .0), growing-room (a .boxes .now) (a .rows .now) (a .arrows .now) (a .mode) (a .own .now) (a .out .now) (a .work .now) (s .pre .0 .3) (s .pre .1 .0) (s .pre .1 .1) (omega (arith, s .pre .0 .1 .pairs-are, s .pre .1 .2)) (i .out) (i .work) (i .blocked) (i .fresh) (i .count) (i .inv .0) (k .result) l f)
+    omega (arith, s .pre .1 .1, growing-out (a .boxes .now) (a .rows .now) (a .arrows .now) (a .mode) (a .own .now) (a .out .now) (a .work .now) (s .pre .0 .3) (s .pre .1 .0) (s .pre .1 .1) (omega (arith, s .pre .0 .1 .pairs-are, s .pre .1 .2)) (i .out) (i .work) (i .block) (i .fresh) (i .count) (i .inv .0), growing-room (a .boxes .now) (a .rows .now) (a .arrows .now) (a .mode) (a .own .now) (a .out .now) (a .work .now) (s .pre .0 .3) (s .pre .1 .0) (s .pre .1 .1) (omega (arith, s .pre .0 .1 .pairs-are, s .pre .1 .2)) (i .out) (i .work) (i .block) (i .fresh) (i .count) (i .inv .0) (k .result) l f)
 
 add-count : tie.Need-add-count Inv-loop μ-loop
 add-count c = let s = c .before .before .before .before .before .before .before .before .before .before .before .before .before .before .before .before .before .before .before .before in
@@ -101,7 +101,7 @@ add-count c = let s = c .before .before .before .before .before .before .before 
     let k = c .before .before .before .before .pick in
     let l : k .result < length (a .own .now) = omega arith in
     let f = k .ensures .0 .holds l in
-    omega (arith, s .pre .0 .2 .few, growing-room (a .boxes .now) (a .rows .now) (a .arrows .now) (a .mode) (a .own .now) (a .out .now) (a .work .now) (s .pre .0 .3) (s .pre .1 .0) (s .pre .1 .1) (omega (arith, s .pre .0 .1 .pairs-are, s .pre .1 .2)) (i .out) (i .work) (i .blocked) (i .fresh) (i .count) (i .inv .0) (k .result) l f)
+    omega (arith, s .pre .0 .2 .few, growing-room (a .boxes .now) (a .rows .now) (a .arrows .now) (a .mode) (a .own .now) (a .out .now) (a .work .now) (s .pre .0 .3) (s .pre .1 .0) (s .pre .1 .1) (omega (arith, s .pre .0 .1 .pairs-are, s .pre .1 .2)) (i .out) (i .work) (i .block) (i .fresh) (i .count) (i .inv .0) (k .result) l f)
 
 wide-requires : tie.Need-wide-requires Inv-loop μ-loop
 wide-requires c κs = search needs
@@ -125,7 +125,7 @@ mark-requires c κs = let s = c .before .before .before .before .before .before 
     let e : c .before .at .result ≡ arrowAt (a .arrows .now) (getD (a .own .now) (k .result) 0) = c .before .at .ensures ∙ ap (arrowAt (a .arrows .now)) (c .before .before .wide .ensures) in
     let n = s .pre .0 .2 .numbers (k .result) l in
     let w = s .pre .0 .2 .within in
-    (s .pre .0 .0, s .pre .0 .1, rw e (w .tail-in (getD (a .own .now) (k .result) 0) n, w .head-in (getD (a .own .now) (k .result) 0) n), omega (arith, s .pre .1 .2, growing-work (a .boxes .now) (a .rows .now) (a .arrows .now) (a .mode) (a .own .now) (a .out .now) (a .work .now) (s .pre .0 .3) (s .pre .1 .0) (s .pre .1 .1) (omega (arith, s .pre .0 .1 .pairs-are, s .pre .1 .2)) (i .out) (i .work) (i .blocked) (i .fresh) (i .count) (i .inv .0)))
+    (s .pre .0 .0, s .pre .0 .1, rw e (w .tail-in (getD (a .own .now) (k .result) 0) n, w .head-in (getD (a .own .now) (k .result) 0) n), omega (arith, s .pre .1 .2, growing-work (a .boxes .now) (a .rows .now) (a .arrows .now) (a .mode) (a .own .now) (a .out .now) (a .work .now) (s .pre .0 .3) (s .pre .1 .0) (s .pre .1 .1) (omega (arith, s .pre .0 .1 .pairs-are, s .pre .1 .2)) (i .out) (i .work) (i .block) (i .fresh) (i .count) (i .inv .0)))
 
 loop-less : tie.Need-loop-less Inv-loop μ-loop
 loop-less c = let s = c .before .before .before .before .before .before .before .before .before .before .before .before .before .before .before .before .before .before .before .before .before .before .before .before .before .before in
@@ -134,7 +134,7 @@ loop-less c = let s = c .before .before .before .before .before .before .before 
     let k = c .before .before .before .before .before .before .before .before .before .before .pick in
     let l : k .result < length (a .own .now) = omega (arith, c .before .before .before .before .before .before .before .if1 .left) in
     let f = k .ensures .0 .holds l in
-    omega (arith, growing-room (a .boxes .now) (a .rows .now) (a .arrows .now) (a .mode) (a .own .now) (a .out .now) (a .work .now) (s .pre .0 .3) (s .pre .1 .0) (s .pre .1 .1) (omega (arith, s .pre .0 .1 .pairs-are, s .pre .1 .2)) (i .out) (i .work) (i .blocked) (i .fresh) (i .count) (i .inv .0) (k .result) l f)
+    omega (arith, growing-room (a .boxes .now) (a .rows .now) (a .arrows .now) (a .mode) (a .own .now) (a .out .now) (a .work .now) (s .pre .0 .3) (s .pre .1 .0) (s .pre .1 .1) (omega (arith, s .pre .0 .1 .pairs-are, s .pre .1 .2)) (i .out) (i .work) (i .block) (i .fresh) (i .count) (i .inv .0) (k .result) l f)
 
 loop-again : tie.Need-loop-again Inv-loop μ-loop
 loop-again c = let s = c .before .before .before .before .before .before .before .before .before .before .before .before .before .before .before .before .before .before .before .before .before .before .before .before .before .before in
@@ -144,7 +144,7 @@ loop-again c = let s = c .before .before .before .before .before .before .before
     let l : k .result < length (a .own .now) = omega (arith, c .before .before .before .before .before .before .before .if1 .left) in
     let f = k .ensures .0 .holds l in
     let e : c .before .before .before .before .at .result ≡ arrowAt (a .arrows .now) (getD (a .own .now) (k .result) 0) = c .before .before .before .before .at .ensures ∙ ap (arrowAt (a .arrows .now)) (c .before .before .before .before .before .wide .ensures) in
-    let n = growing-next (a .boxes .now) (a .rows .now) (a .arrows .now) (a .mode) (a .own .now) (a .out .now) (a .work .now) (s .pre .0 .3) (s .pre .1 .0) (s .pre .1 .1) (omega (arith, s .pre .0 .1 .pairs-are, s .pre .1 .2)) (i .out) (i .work) (i .blocked) (i .fresh) (i .count) (i .inv .0) (k .result) l f (k .last .1 .1 .1 .1 .1 .1 .1 .1 .1 .0) (k .last .1 .1 .1 .1 .1 .1 .1 .1 .1 .1 .0) (k .ensures .1 .0) (k .ensures .1 .1) in
+    let n = growing-next (a .boxes .now) (a .rows .now) (a .arrows .now) (a .mode) (a .own .now) (a .out .now) (a .work .now) (s .pre .0 .3) (s .pre .1 .0) (s .pre .1 .1) (omega (arith, s .pre .0 .1 .pairs-are, s .pre .1 .2)) (i .out) (i .work) (i .block) (i .fresh) (i .count) (i .inv .0) (k .result) l f (k .last .1 .1 .1 .1 .1 .1 .1 .1 .1 .0) (k .last .1 .1 .1 .1 .1 .1 .1 .1 .1 .1 .0) (k .ensures .1 .0) (k .ensures .1 .1) in
     (rw (c .before .before .mark .ensures, e, s .pre .0 .1 .pairs-are) n, k .kept .1 .1 .1 .1 .1 .1 .1 .1 .1 .0 ∙ i .inv .1, k .kept .1 .1 .1 .1 .1 .1 .1 .1 .1 .1 .0 ∙ i .inv .2)
 
 pub order-spec : {M : Type 1} → statement M
