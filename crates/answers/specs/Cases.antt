@@ -1,22 +1,14 @@
--- The lettered pictures A to J (document 01), mode 0: one table, one theorem. Assumes nothing.
-use mathlib.Core.Path.{_≡_, refl}
-use mathlib.Core.Bool.{Bool, true, false, not, cond, _&&_, _||_}
+-- The lettered pictures A to J (document 01), mode 0: one table of pictures and of what is said of their answers, and a function that
+-- recomputes it. The theorem that it is right stands with the lists (`lists` specs/Cases). Assumes nothing.
 use mathlib.Core.List.{List, [], _∷_, _++_, map}
 use mathlib.Core.Option.{Option, none, some}
 use Prim.Native.Nat.{ℕ, _*_}
 use lib.ListN.{length, replicate}
-use Rattle.tables.specs.Search.{orElse, given, first, lowest, every, select, bit}
-use Rattle.tables.specs.Buffers.{build, written}
-use Rattle.tables.specs.Rows.{sideOf, onSide}
-use Rattle.tables.specs.Atoms.{outer, atom, atoms, pairCount}
 use Rattle.tables.specs.Refusals.{inItself, unclearPair}
-use Rattle.tables.specs.Faults.{raggedFault, countFault, byteFault, namesNoBox, acrossSides, wrongEnds, wrongMode, rowFault, tableFault, modeFault, roomFault}
 use Rattle.tables.specs.declared.Refusal.{Refusal}
-use Rattle.containment.specs.Contains.{contains, around, loopFault}
-use Rattle.containment.specs.Scratch.{scratchFault, earlyFault, pictureFault}
-use Rattle.answers.specs.Meaning.{reaches, nests, level, overrides, settle, hits, certifies, answer, byteOf, numberOf, isUnclear}
-use Rattle.answers.specs.Pairs.{userAt, fileAt, firstPair, answerAt, byteAt, numberAt, matrixBytes, matrixNumbers, unclearFault, anyUnclear}
-use Rattle.answers.specs.Calls.{askedFault, replyOf, entryEarly, entryFault, judgeFault}
+use Rattle.answers.specs.Meaning.{answer}
+use Rattle.answers.specs.Pairs.{matrixBytes, matrixNumbers}
+use Rattle.answers.specs.Calls.{replyOf, entryFault, judgeFault}
 use Rattle.answers.specs.declared.Entry.the-variants.{Granted, Denied, Default, Unclear}
 use Rattle.answers.specs.declared.Reply.{Reply}
 use Rattle.answers.specs.declared.Reply.the-variants.{Answered}
@@ -194,7 +186,3 @@ table =
       numbers = 1 ∷ 0 ∷ 2 ∷ 3 ∷ [];
     }
     ∷ []
-
-pub table-right : map compute table ≡ table
-unfolding compute table picture-A picture-B picture-C picture-D picture-E picture-F picture-G picture-H picture-I picture-J orElse given first lowest every select build written sideOf onSide outer atom atoms pairCount raggedFault countFault byteFault namesNoBox acrossSides wrongEnds wrongMode rowFault tableFault modeFault roomFault contains around loopFault scratchFault earlyFault pictureFault reaches nests level overrides settle hits certifies answer byteOf numberOf isUnclear userAt fileAt firstPair answerAt byteAt numberAt matrixBytes matrixNumbers unclearFault anyUnclear askedFault replyOf entryEarly entryFault judgeFault
-table-right = refl
