@@ -1,0 +1,86 @@
+// Sets of numbers below 512 as eight words of 64 bits, and tables of such sets. Each step takes 64 numbers at a time.
+ghost use mathlib.Core.Path.{_≡_};
+ghost use Prim.Native.Nat.{_+_, _*_, _<_, _≤_};
+ghost use lib.ListN.{length};
+ghost use Rattle.sets.specs.Sets.{bitAt, wordIn, has, shared, inside, coversAll, NextAt};
+
+// Word q of what sets a, b and c share.
+fn shared_word(table: &[u64], a: usize, b: usize, c: usize, q: usize) -> u64
+    requires { ⌜ (8 * a + q < length (now table)) × (8 * b + q < length (now table)) × (8 * c + q < length (now table)) ⌝ }
+{
+    table[8 * a + q] & table[8 * b + q] & table[8 * c + q]
+}
+
+// What sets a, b and c of the table share.
+pub fn share(table: &[u64], a: usize, b: usize, c: usize) -> [u64; 8]
+    requires { ⌜ (8 * a + 8 ≤ length (now table)) × (8 * b + 8 ≤ length (now table)) × (8 * c + 8 ≤ length (now table)) ⌝ }
+    ensures { λ r. ⌜ r ≡ shared (now (table .entry)) a b c ⌝ }
+{
+    [
+        shared_word(table, a, b, c, 0),
+        shared_word(table, a, b, c, 1),
+        shared_word(table, a, b, c, 2),
+        shared_word(table, a, b, c, 3),
+        shared_word(table, a, b, c, 4),
+        shared_word(table, a, b, c, 5),
+        shared_word(table, a, b, c, 6),
+        shared_word(table, a, b, c, 7),
+    ]
+}
+
+// Whether set r of the table has all of a set.
+pub fn is_inside(set: &[u64], table: &[u64], r: usize) -> bool
+    requires { ⌜ (8 ≤ length (now set)) × (8 * r + 8 ≤ length (now table)) ⌝ }
+    ensures { λ x. ⌜ x ≡ inside (now (set .entry)) (now (table .entry)) r ⌝ }
+{
+    for q in 0..8 {
+        if set[q] & table[8 * r + q] != set[q] {
+            return false;
+        }
+    }
+    true
+}
+
+// The lowest set bit of a word that is not 0.
+fn low_bit(w: u64) -> usize
+    requires { ⌜ 0 < w ⌝ }
+{
+    u64::trailing_zeros(w) as usize
+}
+
+// The lowest number of a set from `from` on, or 512.
+pub fn next_in(set: &[u64], from: usize) -> usize
+    requires { ⌜ (8 ≤ length (now set)) × (from ≤ 512) ⌝ }
+    ensures { λ r. ⌜ NextAt (has (now (set .entry)) 0) from r ⌝ }
+{
+    if from == 512 {
+        return 512;
+    }
+    let x = set[from / 64] >> (from % 64);
+    if x != 0 {
+        return from + low_bit(x);
+    }
+    let mut q = from / 64 + 1;
+    while q < 8 {
+        if set[q] != 0 {
+            return q * 64 + low_bit(set[q]);
+        }
+        q += 1;
+    }
+    512
+}
+
+// The lowest number of the first set whose own set in the table has all of the second, or 512.
+pub fn first_over(table: &[u64], own: &[u64], opposite: &[u64]) -> usize
+    requires { ⌜ (4096 ≤ length (now table)) × (8 ≤ length (now own)) × (8 ≤ length (now opposite)) ⌝ }
+    ensures { λ r. ⌜ NextAt (coversAll (now (table .entry)) (now (own .entry)) (now (opposite .entry))) 0 r ⌝ }
+{
+    let mut k = next_in(own, 0);
+    while k < 512 {
+        if is_inside(opposite, table, k) {
+            return k;
+        }
+        k = next_in(own, k + 1);
+    }
+    k
+}
