@@ -1,6 +1,6 @@
 -- Laws of the answers: "overrides" goes one way, no pair has certificates of both signs, and denied by default is said exactly
 -- if no arrow of the mode reaches the pair. Assumes nothing.
-use mathlib.Core.Path.{_≡_, refl, sym, subst}
+use mathlib.Core.Path.{_≡_, refl, sym, subst, _∙_}
 use mathlib.Core.Logic.{⊎-elim, _≢_}
 use mathlib.Core.Bool.{Bool, true, false, not, _&&_, _||_}
 use mathlib.Core.List.{List}
@@ -11,34 +11,10 @@ use lib.Dec.{T, T-not, eqb, eqb→eq}
 use Rattle.tables.specs.Search.{lowest}
 use Rattle.tables.specs.Rows.{arrowCount, arrowAt}
 use Rattle.tables.specs.declared.Arrow.{Arrow}
-use Rattle.tables.proofs.Tests.{or-T, and-T, T-and, T-eqb, true-T}
+use Rattle.tables.proofs.Tests.{or-T, and-T, T-and, T-eqb, T-true, true-T, not-false, false-not}
 use Rattle.tables.proofs.SearchLaws.{every-at, every-is, lowest-some, lowest-none}
 use Rattle.answers.specs.Meaning.{positive, negative, reaches, nests, level, overrides, settle, hits, certifies, answer}
 use Rattle.answers.specs.declared.Entry.the-variants.{Default}
-
--- "p overrides n unless ..", both ways: c, d say whether a tail or a head is nested in the other, e, s whether they are the same box
-asym : (c c′ d d′ e e′ s s′ : Bool)
-    → T (not (c || d || (e || not c && not c′) && (s || not d && not d′)))
-    → T (not (c′ || d′ || (e′ || not c′ && not c) && (s′ || not d′ && not d)))
-    → ⊥
-asym true c′ d d′ e e′ s s′ h k = h
-asym false true d d′ e e′ s s′ h k = k
-asym false false true d′ e e′ s s′ h k = h
-asym false false false true e e′ s s′ h k = k
-asym false false false false true e′ true s′ h k = h
-asym false false false false true e′ false s′ h k = h
-asym false false false false false e′ true s′ h k = h
-asym false false false false false e′ false s′ h k = h
-
--- of two arrows at most one overrides the other
-pub overrides-asym : (rows : List ℕ) (p n : Arrow) → T (overrides rows p n) → T (overrides rows n p) → ⊥
-unfolding overrides level
-overrides-asym rows p n =
-    asym
-    (nests rows (p .tail) (n .tail)) (nests rows (n .tail) (p .tail))
-    (nests rows (p .head) (n .head)) (nests rows (n .head) (p .head))
-    (eqb (p .tail) (n .tail)) (eqb (n .tail) (p .tail))
-    (eqb (p .head) (n .head)) (eqb (n .head) (p .head))
 
 -- ---- "overrides" by tests of nesting alone
 
@@ -75,6 +51,18 @@ module _ (rows : List ℕ) (p n : Arrow) where
       neither false true = refl
       neither false false = refl
 
+-- of two arrows at most one overrides the other
+pub overrides-asym : (rows : List ℕ) (p n : Arrow) → T (overrides rows p n) → T (overrides rows n p) → ⊥
+overrides-asym rows p n h k =
+    let (a, b) = no-end p n h in
+    let (c, d) = no-end n p k in
+    subst T {y = false} (no-outer rows p n a b ∙ rw (c, d)) h
+  where
+    no-end : (p n : Arrow) → T (overrides rows p n) → (nests rows (p .tail) (n .tail) ≡ false) × (nests rows (p .head) (n .head) ≡ false)
+    no-end p n t =
+        let tails : nests rows (p .tail) (n .tail) ≡ false = not-false _ (λ i. false-not _ (outer-tail rows p n (T-true _ i)) t) in
+        (tails, not-false _ (λ i. false-not _ (outer-head rows p n tails (T-true _ i)) t))
+
 module _ (rows arrows : List ℕ) (m u f : ℕ) where
   -- what a hit is
   pub hit : (s k : ℕ) → arrowAt arrows k .mode ≡ m → arrowAt arrows k .sign ≡ s → T (reaches rows (arrowAt arrows k) u f) → T (hits rows arrows m s u f k)
@@ -91,6 +79,9 @@ module _ (rows arrows : List ℕ) (m u f : ℕ) where
   unfolding hits
   hit-rest s k t =
       and-T (eqb (arrowAt arrows k .sign) s) (reaches rows (arrowAt arrows k) u f) (and-T (eqb (arrowAt arrows k .mode) m) _ t .1)
+
+  pub hit-sign : (s k : ℕ) → T (hits rows arrows m s u f k) → arrowAt arrows k .sign ≡ s
+  hit-sign s k t = eqb→eq (arrowAt arrows k .sign) s (hit-rest s k t .0)
 
   pub hit-reaches : (s k : ℕ) → T (hits rows arrows m s u f k) → T (reaches rows (arrowAt arrows k) u f)
   hit-reaches s k t = hit-rest s k t .1

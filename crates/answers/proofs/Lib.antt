@@ -4,6 +4,7 @@ pub mod PairLaws
 mod Keep
 pub mod AmongLaws
 pub mod ReadyLaws
+pub mod TableLaws
 pub mod CallLaws
 pub mod ModeLaws
 pub mod GrantLaws

@@ -17,7 +17,6 @@ use Rattle.tables.specs.declared.Refusal.{Refusal}
 use Rattle.tables.proofs.SearchLaws.{first-none, first-some, given-some, given-none, given-true, given-false}
 use Rattle.tables.proofs.AtomPlaces.{atoms-found, atoms-has, atoms-before, atoms-same, atoms-most}
 use Rattle.containment.proofs.Index.{in-table, at-div, at-mod, place, row-step}
-use Rattle.answers.specs.Among.{Ready}
 use Rattle.answers.specs.Pairs.{userAt, fileAt, firstPair, answerAt, unclearFault}
 use Rattle.answers.specs.Meaning.{isUnclear}
 
@@ -155,8 +154,3 @@ module _ (boxes rows arrows : List ℕ) (m : ℕ) where
   pub unclear-is : unclearFault boxes rows arrows m ≡ first unclearAt (pairCount boxes rows)
   unfolding unclearFault firstPair answerAt unclearAt
   unclear-is = refl
-
--- the walk over all pairs keeps what it was given
-pub still-ready : {boxes rows scratch arrows : List ℕ} {m : ℕ} {own users files : List ℕ} {ps ns ps′ ns′ : ℕ}
-    → Ready boxes rows scratch arrows m own users files ps ns → ps′ ≡ ps → ns′ ≡ ns → Ready boxes rows scratch arrows m own users files ps′ ns′
-still-ready r e i = rw (e, i) r

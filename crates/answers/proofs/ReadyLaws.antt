@@ -12,7 +12,7 @@ use Rattle.tables.proofs.BufferLaws.{zeros-length}
 use Rattle.tables.proofs.AtomPlaces.{onSide-there, atoms-most}
 use Rattle.tables.proofs.PartLaws.{Wrote, part-within}
 use Rattle.containment.specs.Scratch.{Says}
-use Rattle.answers.specs.Among.{modeArrows, Within, Ready}
+use Rattle.answers.specs.Among.{modeArrows, Within}
 use Rattle.answers.proofs.AmongLaws.{mode-most}
 
 pub sound-within : (boxes arrows : List ℕ) → SoundArrows boxes arrows → Within (length boxes) arrows
@@ -34,21 +34,3 @@ pub mode-within : (arrows : List ℕ) (m : ℕ) (old : List ℕ) (count : ℕ) (
     → arrowCount arrows ≤ 512 → old ≡ zeros 512 → Wrote (modeArrows arrows m) old count out → count ≤ length out
 mode-within arrows m old count out few e w =
     part-within (modeArrows arrows m) old count out w (omega (arith, room 512 e, mode-most arrows m))
-
--- the three lists, and two buffers of 512 places or more
-pub ready : {boxes rows scratch arrows : List ℕ} {m : ℕ} {own users files : List ℕ}
-    → SoundRows boxes rows → SoundArrows boxes arrows → Says (length boxes) rows scratch
-    → own ≡ modeArrows arrows m → users ≡ atoms boxes rows user → files ≡ atoms boxes rows file
-    → (ps ns : ℕ) → 512 ≤ ps → 512 ≤ ns → Ready boxes rows scratch arrows m own users files ps ns
-ready {boxes} {rows} {scratch} {arrows} {m} rs ar says o u f ps ns lp ln =
-    let few = ap length o in
-    record {
-      says = says;
-      within = sound-within boxes arrows ar;
-      own-are = o;
-      users-are = u;
-      files-are = f;
-      few-boxes = rs .few-boxes;
-      positive-room = omega (arith, mode-most arrows m, ar .few-arrows);
-      negative-room = omega (arith, mode-most arrows m, ar .few-arrows);
-    }

@@ -53,15 +53,3 @@ NoneBefore rows arrows ps ns r = (k : ℕ) → k < r → T (wins rows arrows ps 
 pub record FirstAt (p : ℕ → Bool) (n r : ℕ) : Type 0 where
   pub none-before : (k : ℕ) → k < r → T (p k) → ⊥
   pub holds : r < n → T (p r)
-
--- what a walk over all pairs of a mode is given: a filled scratch, sound arrows, the mode's arrows, the atomic boxes, and two
--- buffers of so many places for the arrows that reach a pair
-pub record Ready (boxes rows scratch arrows : List ℕ) (mode : ℕ) (own users files : List ℕ) (positives negatives : ℕ) : Type 0 where
-  pub says : Says (length boxes) rows scratch
-  pub within : Within (length boxes) arrows
-  pub own-are : own ≡ modeArrows arrows mode
-  pub users-are : users ≡ atoms boxes rows user
-  pub files-are : files ≡ atoms boxes rows file
-  pub few-boxes : length boxes ≤ 256
-  pub positive-room : length own ≤ positives
-  pub negative-room : length own ≤ negatives

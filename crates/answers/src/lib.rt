@@ -2,24 +2,30 @@
 ghost use mathlib.Core.Path.{_≡_};
 ghost use mathlib.Core.Bool.{_&&_};
 ghost use mathlib.Core.List.{List};
-ghost use Prim.Native.Nat.{ℕ, _%_, _<_, _≤_};
-ghost use lib.Dec.{T};
+ghost use Prim.Native.Nat.{ℕ, _+_, _*_, _/_, _%_, _^_, _<_, _≤_};
+ghost use lib.Dec.{T, eqb};
 ghost use lib.ListN.{length, getD};
 ghost use Rattle.tables.specs.Rows.{user, file, arrowAt, arrowCount};
 ghost use Rattle.tables.specs.Atoms.{atom, atoms, pairCount};
 ghost use Rattle.tables.specs.Faults.{SoundRows, SoundArrows};
 ghost use Rattle.tables.specs.Refusals.{verdictOf};
 ghost use Rattle.tables.specs.Buffers.{written, zeros};
+ghost use Rattle.tables.specs.Search.{bit, lowest};
 ghost use Rattle.containment.specs.Contains.{around};
 ghost use Rattle.containment.specs.Scratch.{Says, scratchAfter, earlyFault};
-ghost use Rattle.answers.specs.Meaning.{positive, negative, reaches, nests, overrides, answer, byteOf, numberOf, isUnclear, grantingOf};
+ghost use Rattle.answers.specs.Meaning.{positive, negative, reaches, nests, overrides, settle, answer, byteOf, numberOf, isUnclear, grantingOf};
 ghost use Rattle.answers.specs.Pairs.{userAt, fileAt, answerAt, matrixBytes, matrixNumbers, unclearFault, anyUnclear};
 ghost use Rattle.answers.specs.Calls.{askedFault, replyOf, entryEarly, entryFault, judgeFault, matrixEarly, matrixFault, bytesAfter, numbersAfter};
-ghost use Rattle.answers.specs.Among.{modeArrows, reachesBy, reaching, overridesAll, Within, Numbers, FirstAt, wins, NoneBefore, Ready};
+ghost use Rattle.sets.specs.Sets.{has, coversAll};
+ghost use Rattle.answers.specs.Among.{modeArrows, reachesBy, reaching, overridesAll, Within, Numbers, FirstAt, wins, NoneBefore};
+ghost use Rattle.answers.specs.Table.{beats, signed, member, setWord, setWords, setCount, Source, Tabled};
 use containment::check_scratch;
 use containment::contain;
 use containment::does_contain;
 use containment::prepare;
+use sets::first_over;
+use sets::next_in;
+use sets::share;
 use tables::Arrow;
 use tables::BoxRow;
 use tables::Refusal;
@@ -399,68 +405,211 @@ pub fn pair_at(boxes: &[u8], rows: &[u16], users: &[u16], files: &[u16], p: usiz
     }
 }
 
-// The answer for the pair at place p.
-fn answer_at(
+// ---- The table of sets of arrows. Which arrows come from around a user, go to around a file, or are overridden by an arrow does
+// not depend on the pair, so it is found out once a call. A pair then costs a few steps on sets, and eight words for each arrow
+// that reaches it.
+
+// Whether two arrows have the same mode, and p overrides q.
+fn does_beat(n: usize, rows: &[u16], scratch: &[u8], p: Arrow, q: Arrow) -> bool
+    requires { ⌜ Says n (now rows) (now scratch) × (p .tail < n) × (p .head < n) × (q .tail < n) × (q .head < n) ⌝ }
+    ensures { λ r. ⌜ r ≡ (eqb (p .mode) (q .mode) && overrides (now (rows .entry)) p q) ⌝ }
+{
+    p.mode == q.mode && does_override(n, rows, scratch, p, q)
+}
+
+// Whether an arrow has mode d / 2 and sign d % 2.
+fn has_sign(a: Arrow, d: usize) -> bool
+    ensures { λ r. ⌜ r ≡ (eqb (a .mode) (d / 2) && eqb (a .sign) (d % 2)) ⌝ }
+{
+    wide(a.mode) == d / 2 && wide(a.sign) == d % 2
+}
+
+// Whether arrow k is in set r.
+fn is_member(
+    n: usize,
+    rows: &[u16],
+    scratch: &[u8],
+    arrows: &[u16],
+    users: &[u16],
+    files: &[u16],
+    r: usize,
+    k: usize,
+) -> bool
+    requires { ⌜ Source n (now rows) (now scratch) (now arrows) (now users) (now files) ⌝ }
+    ensures { λ x. ⌜ x ≡ member (now (rows .entry)) (now (arrows .entry)) (now (users .entry)) (now (files .entry)) r k ⌝ }
+{
+    let of_users = arrows.len() / 4;
+    if of_users <= k {
+        return false;
+    }
+    let a = Arrow::at(arrows, k);
+    if r < of_users {
+        return does_beat(n, rows, scratch, Arrow::at(arrows, r), a);
+    }
+    let of_files = of_users + users.len();
+    if r < of_files {
+        return is_around(n, rows, scratch, a.tail, users[r - of_users]);
+    }
+    let of_modes = of_files + files.len();
+    if r < of_modes {
+        return is_around(n, rows, scratch, a.head, files[r - of_files]);
+    }
+    has_sign(a, r - of_modes)
+}
+
+// One more bit below the others.
+fn push(w: u64, t: bool) -> u64
+    requires { ⌜ w < 2 ^ 63 ⌝ }
+    ensures { λ r. ⌜ r ≡ w * 2 + bit t ⌝ }
+{
+    if t {
+        return w * 2 + 1;
+    }
+    w * 2
+}
+
+// Word i of the table, from its highest bit down.
+fn word_at(
+    n: usize,
+    rows: &[u16],
+    scratch: &[u8],
+    arrows: &[u16],
+    users: &[u16],
+    files: &[u16],
+    i: usize,
+) -> u64
+    requires { ⌜ Source n (now rows) (now scratch) (now arrows) (now users) (now files) ⌝ }
+    ensures { λ r. ⌜ r ≡ setWord (now (rows .entry)) (now (arrows .entry)) (now (users .entry)) (now (files .entry)) i ⌝ }
+{
+    let set = i / 8;
+    let first = 64 * (i % 8);
+    let mut w: u64 = 0;
+    let mut b: usize = 64;
+    while 0 < b {
+        b -= 1;
+        let t = is_member(n, rows, scratch, arrows, users, files, set, first + b);
+        w = push(w, t);
+    }
+    w
+}
+
+// Writes the table.
+fn fill_table(
+    n: usize,
+    rows: &[u16],
+    scratch: &[u8],
+    arrows: &[u16],
+    users: &[u16],
+    files: &[u16],
+    table: &mut [u64],
+)
+    requires { ⌜ Source n (now rows) (now scratch) (now arrows) (now users) (now files) × (8 * setCount (now rows) (now arrows) (now users) (now files) ≤ length (now table)) ⌝ }
+    ensures { λ _. ⌜ now (table .exit) ≡ written (setWords (now (rows .entry)) (now (arrows .entry)) (now (users .entry)) (now (files .entry))) (now (table .entry)) ⌝ }
+{
+    let sets = arrows.len() / 4 + users.len() + files.len() + 16;
+    for i in 0..8 * sets {
+        table[i] = word_at(n, rows, scratch, arrows, users, files, i);
+    }
+}
+
+// How many atomic users and files there are.
+pub struct Sides {
+    pub users: usize,
+    pub files: usize,
+}
+
+// Writes the atomic boxes of each side and the table: all that the answers of all pairs and modes need.
+pub fn tabulate(
     boxes: &[u8],
     rows: &[u16],
     scratch: &[u8],
     arrows: &[u16],
-    mode: u16,
-    own: &[u16],
-    users: &[u16],
-    files: &[u16],
-    p: usize,
-    ps: &mut [u16],
-    ns: &mut [u16],
-) -> Entry
-    requires { ⌜ Ready (now boxes) (now rows) (now scratch) (now arrows) mode (now own) (now users) (now files) (length (now ps)) (length (now ns)) × (p < pairCount (now boxes) (now rows)) ⌝ }
-    ensures { λ r. ⌜ r ≡ answerAt (now (boxes .entry)) (now (rows .entry)) (now (arrows .entry)) mode p ⌝ }
+    users: &mut [u16],
+    files: &mut [u16],
+    table: &mut [u64],
+) -> Sides
+    requires { ⌜ SoundRows (now boxes) (now rows) × SoundArrows (now boxes) (now arrows) × Says (length (now boxes)) (now rows) (now scratch) × (256 ≤ length (now users)) × (256 ≤ length (now files)) × (6272 ≤ length (now table)) ⌝ }
+    ensures { λ r. ⌜ (r .users ≡ length (atoms (now (boxes .entry)) (now (rows .entry)) user)) × (r .files ≡ length (atoms (now (boxes .entry)) (now (rows .entry)) file)) ⌝ }
+    ensures { λ _. ⌜ (now (users .exit) ≡ written (atoms (now (boxes .entry)) (now (rows .entry)) user) (now (users .entry))) × (now (files .exit) ≡ written (atoms (now (boxes .entry)) (now (rows .entry)) file) (now (files .entry))) ⌝ }
+    ensures { λ _. ⌜ now (table .exit) ≡ written (setWords (now (rows .entry)) (now (arrows .entry)) (atoms (now (boxes .entry)) (now (rows .entry)) user) (atoms (now (boxes .entry)) (now (rows .entry)) file)) (now (table .entry)) ⌝ }
 {
-    let pair = pair_at(boxes, rows, users, files, p);
-    answer_among(
+    let u = atoms_of(boxes, rows, BoxRow::USER, users);
+    let f = atoms_of(boxes, rows, BoxRow::FILE, files);
+    fill_table(
         boxes.len(),
         rows,
         scratch,
         arrows,
-        mode,
-        own,
-        pair.user,
-        pair.file,
-        ps,
-        ns,
-    )
+        &users[..u],
+        &files[..f],
+        table,
+    );
+    Sides { users: u, files: f }
 }
 
-// Check 12 for a mode, by the mode's arrows and the atomic boxes.
+// The answer, by the sets of the positive and of the negative arrows that reach the pair.
+fn settle_sets(table: &[u64], ps: &[u64], ns: &[u64]) -> Entry
+    requires { ⌜ (4096 ≤ length (now table)) × (8 ≤ length (now ps)) × (8 ≤ length (now ns)) ⌝ }
+    ensures { λ r. ⌜ r ≡ settle (lowest (coversAll (now (table .entry)) (now (ps .entry)) (now (ns .entry))) 512) (lowest (coversAll (now (table .entry)) (now (ns .entry)) (now (ps .entry))) 512) (lowest (has (now (ps .entry)) 0) 512) (lowest (has (now (ns .entry)) 0) 512) ⌝ }
+{
+    let p = first_over(table, ps, ns);
+    if p < 512 {
+        return Entry::Granted(narrow(p));
+    }
+    let q = first_over(table, ns, ps);
+    if q < 512 {
+        return Entry::Denied(narrow(q));
+    }
+    let a = next_in(ps, 0);
+    if 512 <= a {
+        return Entry::Default;
+    }
+    let b = next_in(ns, 0);
+    if 512 <= b {
+        return Entry::Default;
+    }
+    Entry::Unclear(narrow(a), narrow(b))
+}
+
+// The answer for the pair at place p.
+pub fn answer_at(
+    boxes: &[u8],
+    rows: &[u16],
+    arrows: &[u16],
+    users: &[u16],
+    files: &[u16],
+    table: &[u64],
+    mode: u16,
+    p: usize,
+) -> Entry
+    requires { ⌜ Tabled (now boxes) (now rows) (now arrows) (now users) (now files) (now table) × (mode < 8) × (p < pairCount (now boxes) (now rows)) ⌝ }
+    ensures { λ r. ⌜ r ≡ answerAt (now (boxes .entry)) (now (rows .entry)) (now (arrows .entry)) mode p ⌝ }
+{
+    let of_users = arrows.len() / 4;
+    let of_files = of_users + users.len();
+    let of_mode = of_files + files.len() + 2 * wide(mode);
+    let user = of_users + p / files.len();
+    let file = of_files + p % files.len();
+    let ps = share(table, user, file, of_mode + 1);
+    let ns = share(table, user, file, of_mode);
+    settle_sets(table, &ps, &ns)
+}
+
+// Check 12 for a mode: the first unclear pair, by user, then file.
 fn first_unclear(
     boxes: &[u8],
     rows: &[u16],
-    scratch: &[u8],
     arrows: &[u16],
-    mode: u16,
-    own: &[u16],
     users: &[u16],
     files: &[u16],
-    ps: &mut [u16],
-    ns: &mut [u16],
+    table: &[u64],
+    mode: u16,
 ) -> Verdict
-    requires { ⌜ Ready (now boxes) (now rows) (now scratch) (now arrows) mode (now own) (now users) (now files) (length (now ps)) (length (now ns)) ⌝ }
+    requires { ⌜ Tabled (now boxes) (now rows) (now arrows) (now users) (now files) (now table) × (mode < 8) ⌝ }
     ensures { λ r. ⌜ r ≡ verdictOf (unclearFault (now (boxes .entry)) (now (rows .entry)) (now (arrows .entry)) mode) ⌝ }
 {
     for p in 0..users.len() * files.len() {
-        let e = answer_at(
-            boxes,
-            rows,
-            scratch,
-            arrows,
-            mode,
-            own,
-            users,
-            files,
-            p,
-            ps,
-            ns,
-        );
+        let e = answer_at(boxes, rows, arrows, users, files, table, mode, p);
         if is_unclear(e) {
             let pair = pair_at(boxes, rows, users, files, p);
             return Verdict::refused_if(true, 12, wide(mode), wide(pair.user), wide(pair.file));
@@ -469,45 +618,59 @@ fn first_unclear(
     Verdict::Passed
 }
 
-// Check 12 for a mode: the first unclear pair, by user, then file.
-pub fn check_clear(boxes: &[u8], rows: &[u16], scratch: &[u8], arrows: &[u16], mode: u16) -> Verdict
-    requires { ⌜ SoundRows (now boxes) (now rows) × SoundArrows (now boxes) (now arrows) × Says (length (now boxes)) (now rows) (now scratch) ⌝ }
-    ensures { λ r. ⌜ r ≡ verdictOf (unclearFault (now (boxes .entry)) (now (rows .entry)) (now (arrows .entry)) mode) ⌝ }
-{
-    let mut users = no_boxes();
-    let mut files = no_boxes();
-    let mut own = no_numbers();
-    let mut ps = no_numbers();
-    let mut ns = no_numbers();
-    let u = atoms_of(boxes, rows, BoxRow::USER, &mut users);
-    let f = atoms_of(boxes, rows, BoxRow::FILE, &mut files);
-    let m = mode_arrows(arrows, mode, &mut own);
-    first_unclear(
-        boxes,
-        rows,
-        scratch,
-        arrows,
-        mode,
-        &own[..m],
-        &users[..u],
-        &files[..f],
-        &mut ps,
-        &mut ns,
-    )
-}
-
-// Check 12 for all modes. Each arrow is of one mode, so this costs about pairs × arrows in all.
-pub fn check_modes(boxes: &[u8], rows: &[u16], scratch: &[u8], arrows: &[u16]) -> Verdict
-    requires { ⌜ SoundRows (now boxes) (now rows) × SoundArrows (now boxes) (now arrows) × Says (length (now boxes)) (now rows) (now scratch) ⌝ }
+// Check 12 for all modes, by the table.
+fn first_mode(
+    boxes: &[u8],
+    rows: &[u16],
+    arrows: &[u16],
+    users: &[u16],
+    files: &[u16],
+    table: &[u64],
+) -> Verdict
+    requires { ⌜ Tabled (now boxes) (now rows) (now arrows) (now users) (now files) (now table) ⌝ }
     ensures { λ r. ⌜ r ≡ verdictOf (anyUnclear (now (boxes .entry)) (now (rows .entry)) (now (arrows .entry))) ⌝ }
 {
     for m in 0..8 {
-        let v = check_clear(boxes, rows, scratch, arrows, m);
+        let v = first_unclear(boxes, rows, arrows, users, files, table, m);
         if let Verdict::Refused(r) = v {
             return Verdict::Refused(r);
         }
     }
     Verdict::Passed
+}
+
+// Room for the table: 512 arrows, 256 boxes, and two signs of 8 modes make 784 sets.
+fn no_words() -> [u64; 6272]
+    ensures { λ r. ⌜ r ≡ zeros 6272 ⌝ }
+{
+    [0u64; 6272]
+}
+
+// Check 12 for all modes.
+pub fn check_modes(boxes: &[u8], rows: &[u16], scratch: &[u8], arrows: &[u16]) -> Verdict
+    requires { ⌜ SoundRows (now boxes) (now rows) × SoundArrows (now boxes) (now arrows) × Says (length (now boxes)) (now rows) (now scratch) ⌝ }
+    ensures { λ r. ⌜ r ≡ verdictOf (anyUnclear (now (boxes .entry)) (now (rows .entry)) (now (arrows .entry))) ⌝ }
+{
+    let mut users = no_boxes();
+    let mut files = no_boxes();
+    let mut table = no_words();
+    let s = tabulate(
+        boxes,
+        rows,
+        scratch,
+        arrows,
+        &mut users,
+        &mut files,
+        &mut table,
+    );
+    first_mode(
+        boxes,
+        rows,
+        arrows,
+        &users[..s.users],
+        &files[..s.files],
+        &table,
+    )
 }
 
 // The judge: passed if no pair is unclear in any mode, else the first unclear pair. Checks 1 to 7, 9, 10, 12.
@@ -565,45 +728,30 @@ pub fn one_entry(
     Reply::Answered(answer_pair(boxes.len(), rows, scratch, arrows, mode, u, f))
 }
 
-// Writes the byte and the number of each pair, by the mode's arrows and the atomic boxes.
+// Writes the byte and the number of each pair, by the table.
 fn fill_pairs(
     boxes: &[u8],
     rows: &[u16],
-    scratch: &[u8],
     arrows: &[u16],
-    mode: u16,
-    own: &[u16],
     users: &[u16],
     files: &[u16],
-    ps: &mut [u16],
-    ns: &mut [u16],
+    table: &[u64],
+    mode: u16,
     bytes: &mut [u8],
     numbers: &mut [u16],
 )
-    requires { ⌜ Ready (now boxes) (now rows) (now scratch) (now arrows) mode (now own) (now users) (now files) (length (now ps)) (length (now ns)) × (pairCount (now boxes) (now rows) ≤ length (now bytes)) × (pairCount (now boxes) (now rows) ≤ length (now numbers)) ⌝ }
+    requires { ⌜ Tabled (now boxes) (now rows) (now arrows) (now users) (now files) (now table) × (mode < 8) × (pairCount (now boxes) (now rows) ≤ length (now bytes)) × (pairCount (now boxes) (now rows) ≤ length (now numbers)) ⌝ }
     ensures { λ _. ⌜ (now (bytes .exit) ≡ written (matrixBytes (now (boxes .entry)) (now (rows .entry)) (now (arrows .entry)) mode) (now (bytes .entry))) × (now (numbers .exit) ≡ written (matrixNumbers (now (boxes .entry)) (now (rows .entry)) (now (arrows .entry)) mode) (now (numbers .entry))) ⌝ }
 {
     for p in 0..users.len() * files.len() {
-        let e = answer_at(
-            boxes,
-            rows,
-            scratch,
-            arrows,
-            mode,
-            own,
-            users,
-            files,
-            p,
-            ps,
-            ns,
-        );
+        let e = answer_at(boxes, rows, arrows, users, files, table, mode, p);
         bytes[p] = byte_of(e);
         numbers[p] = number_of(e);
     }
 }
 
 // Writes the matrix of a mode.
-pub fn fill_matrix(
+fn fill_matrix(
     boxes: &[u8],
     rows: &[u16],
     scratch: &[u8],
@@ -612,28 +760,29 @@ pub fn fill_matrix(
     bytes: &mut [u8],
     numbers: &mut [u16],
 )
-    requires { ⌜ SoundRows (now boxes) (now rows) × SoundArrows (now boxes) (now arrows) × Says (length (now boxes)) (now rows) (now scratch) × (pairCount (now boxes) (now rows) ≤ length (now bytes)) × (pairCount (now boxes) (now rows) ≤ length (now numbers)) ⌝ }
+    requires { ⌜ SoundRows (now boxes) (now rows) × SoundArrows (now boxes) (now arrows) × Says (length (now boxes)) (now rows) (now scratch) × (mode < 8) × (pairCount (now boxes) (now rows) ≤ length (now bytes)) × (pairCount (now boxes) (now rows) ≤ length (now numbers)) ⌝ }
     ensures { λ _. ⌜ (now (bytes .exit) ≡ written (matrixBytes (now (boxes .entry)) (now (rows .entry)) (now (arrows .entry)) mode) (now (bytes .entry))) × (now (numbers .exit) ≡ written (matrixNumbers (now (boxes .entry)) (now (rows .entry)) (now (arrows .entry)) mode) (now (numbers .entry))) ⌝ }
 {
     let mut users = no_boxes();
     let mut files = no_boxes();
-    let mut own = no_numbers();
-    let mut ps = no_numbers();
-    let mut ns = no_numbers();
-    let u = atoms_of(boxes, rows, BoxRow::USER, &mut users);
-    let f = atoms_of(boxes, rows, BoxRow::FILE, &mut files);
-    let m = mode_arrows(arrows, mode, &mut own);
-    fill_pairs(
+    let mut table = no_words();
+    let s = tabulate(
         boxes,
         rows,
         scratch,
         arrows,
+        &mut users,
+        &mut files,
+        &mut table,
+    );
+    fill_pairs(
+        boxes,
+        rows,
+        arrows,
+        &users[..s.users],
+        &files[..s.files],
+        &table,
         mode,
-        &own[..m],
-        &users[..u],
-        &files[..f],
-        &mut ps,
-        &mut ns,
         bytes,
         numbers,
     );

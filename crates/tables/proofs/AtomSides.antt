@@ -32,7 +32,7 @@ module _ (boxes rows : List ℕ) where
   atom-side s b t =
       eqb→eq (sideOf boxes b) s (and-T (ltb b (length boxes)) _ (and-T (ltb b (length boxes) && eqb (sideOf boxes b) s) (not (outer rows b)) t .0) .1)
 
-  atoms-apart : length (atoms boxes rows user) + length (atoms boxes rows file) ≤ length boxes
+  pub atoms-apart : length (atoms boxes rows user) + length (atoms boxes rows file) ≤ length boxes
   unfolding atoms
   atoms-apart =
       select-apart (atom boxes rows user) (atom boxes rows file)

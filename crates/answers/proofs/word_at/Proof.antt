@@ -1,0 +1,59 @@
+-- `answers::word_at` meets its contract: the bits from b on are in the word. Assumes nothing.
+use mathlib.Core.Path.{_∙_}
+use native.Mathlib.Omega.{arith}
+use borrow.Author.Needs.{needs}
+use Prim.Native.Nat.{_+_, _*_, _/_, _%_}
+use Rattle.answers.specs.Table.{member, setWord}
+use Rattle.answers.proofs.TableLaws.{Built, built-none, built-room, built-more, built-all}
+use Rattle.answers.proofs.word_at.Statement.{statement}
+use Rattle.answers.proofs.word_at.Tie as tie
+
+abbrev Inv-loop : tie.InvT-loop
+Inv-loop n rows scratch arrows users files i set first w₀ b₀ w b = Built (λ b. member rows arrows users files (i / 8) (64 * (i % 8) + b)) b w
+
+abbrev μ-loop : tie.MeasureT-loop
+μ-loop n rows scratch arrows users files i set first w₀ b₀ w b = b
+
+mul-first : tie.Need-mul-first Inv-loop μ-loop
+mul-first c = search needs
+
+loop-holds : tie.Need-loop-holds Inv-loop μ-loop
+loop-holds c = built-none _
+
+sub-b : tie.Need-sub-b Inv-loop μ-loop
+sub-b c = search needs
+
+add-is-member : tie.Need-add-is-member Inv-loop μ-loop
+add-is-member c = omega (arith, c .before .loop .inv .at-most)
+
+is-member-requires : tie.Need-is-member-requires Inv-loop μ-loop
+is-member-requires c κs = search needs
+
+push-requires : tie.Need-push-requires Inv-loop μ-loop
+push-requires c κs = built-room _ _ _ (c .before .before .loop .inv) (c .before .loop-test .taken)
+
+loop-less : tie.Need-loop-less Inv-loop μ-loop
+loop-less c = omega (arith, c .before .before .loop-test .taken)
+
+loop-again : tie.Need-loop-again Inv-loop μ-loop
+loop-again c = rw (c .push .ensures) (built-more _ _ _ _ (c .before .before .loop-test .taken) (c .before .before .before .loop .inv) (c .before .is-member .ensures))
+
+returns : tie.Need-returns Inv-loop μ-loop
+unfolding setWord
+returns c = built-all _ _ ?
+
+pub word-at-spec : {M : Type 1} → statement M
+word-at-spec =
+    tie.close
+    (tie.spec
+    Inv-loop
+    μ-loop
+    mul-first
+    loop-holds
+    sub-b
+    add-is-member
+    is-member-requires
+    push-requires
+    loop-less
+    loop-again
+    returns)

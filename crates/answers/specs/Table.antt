@@ -1,0 +1,73 @@
+-- The table of sets of arrows from which the code answers all pairs: what each arrow overrides, what comes from around each user,
+-- what goes to around each file, and what each mode has of each sign. Assumes nothing.
+use mathlib.Core.Path.{_≡_}
+use mathlib.Core.Bool.{Bool, _&&_, cond}
+use mathlib.Core.List.{List}
+use Prim.Native.Nat.{ℕ, _+_, _-_, _*_, _/_, _%_, _<_, _≤_}
+use lib.Dec.{eqb, ltb}
+use lib.ListN.{length, getD}
+use Rattle.tables.specs.Buffers.{build}
+use Rattle.tables.specs.Rows.{user, file, arrowCount, arrowAt}
+use Rattle.tables.specs.Atoms.{atoms}
+use Rattle.containment.specs.Contains.{around}
+use Rattle.containment.specs.Scratch.{Says}
+use Rattle.sets.specs.Sets.{wordOf, has}
+use Rattle.answers.specs.Meaning.{overrides}
+use Rattle.answers.specs.Among.{Within}
+
+-- arrows r and k have the same mode, and r overrides k
+unfoldable pub beats : List ℕ → List ℕ → ℕ → ℕ → Bool
+beats rows arrows r k = eqb (arrowAt arrows r .mode) (arrowAt arrows k .mode) && overrides rows (arrowAt arrows r) (arrowAt arrows k)
+
+-- arrow k has mode d / 2 and sign d % 2
+unfoldable pub signed : List ℕ → ℕ → ℕ → Bool
+signed arrows d k = eqb (arrowAt arrows k .mode) (d / 2) && eqb (arrowAt arrows k .sign) (d % 2)
+
+module _ (rows arrows users files : List ℕ) where
+  -- where the sets of the users, of the files and of the modes begin, and how many sets there are
+  abbrev pub userSets : ℕ
+  userSets = arrowCount arrows
+
+  abbrev pub fileSets : ℕ
+  fileSets = userSets + length users
+
+  abbrev pub modeSets : ℕ
+  modeSets = fileSets + length files
+
+  abbrev pub setCount : ℕ
+  setCount = modeSets + 16
+
+  -- arrow k is in set r
+  unfoldable pub member : ℕ → ℕ → Bool
+  member r k =
+      ltb k (arrowCount arrows)
+      && cond (ltb r userSets) (beats rows arrows r k)
+      (cond (ltb r fileSets) (around rows (arrowAt arrows k .tail) (getD users (r - userSets) 0))
+      (cond (ltb r modeSets) (around rows (arrowAt arrows k .head) (getD files (r - fileSets) 0))
+      (signed arrows (r - modeSets) k)))
+
+  -- word i of the table, and the table
+  unfoldable pub setWord : ℕ → ℕ
+  setWord i = wordOf (λ b. member (i / 8) (64 * (i % 8) + b)) 64
+
+  unfoldable pub setWords : List ℕ
+  setWords = build setWord (8 * setCount)
+
+-- what the table is made from: a filled scratch for n boxes, and arrows, users and files among them
+pub record Source (n : ℕ) (rows scratch arrows users files : List ℕ) : Type 0 where
+  pub says : Says n rows scratch
+  pub within : Within n arrows
+  pub users-in : (i : ℕ) → i < length users → getD users i 0 < n
+  pub files-in : (i : ℕ) → i < length files → getD files i 0 < n
+  pub few-arrows : arrowCount arrows ≤ 512
+  pub few-atoms : length users + length files ≤ 256
+
+-- what a walk over all pairs is given: the atomic boxes, and the table
+pub record Tabled (boxes rows arrows users files table : List ℕ) : Type 0 where
+  pub users-are : users ≡ atoms boxes rows user
+  pub files-are : files ≡ atoms boxes rows file
+  pub few-boxes : length boxes ≤ 256
+  pub few-arrows : arrowCount arrows ≤ 512
+  pub few-sets : 8 * setCount rows arrows users files ≤ length table
+  pub room : 4096 ≤ length table
+  pub members : (r k : ℕ) → r < setCount rows arrows users files → k < 512 → has table r k ≡ member rows arrows users files r k
