@@ -53,7 +53,7 @@ split-low : (w : ℕ) → w ≡ (w / 2) * 2 + bit (bitAt w 0)
 unfolding bitAt
 split-low w = sym (div-add-mod' w 2) ∙ ap (λ (x : ℕ). (w / 2) * 2 + x) (low-digit (w % 2) (omega arith) (eqb (w % 2) 1) refl)
 
-half-lt : (n w : ℕ) → w < 2 ^ suc n → w / 2 < 2 ^ n
+pub half-lt : (n w : ℕ) → w < 2 ^ suc n → w / 2 < 2 ^ n
 half-lt n w h = shr-lt n 1 (rw add-one h)
 
 -- ---- the word of a test
