@@ -1,14 +1,26 @@
 // Sets of numbers below 512 as eight words of 64 bits, and tables of such sets. Each step takes 64 numbers at a time.
 ghost use mathlib.Core.Path.{_≡_};
+ghost use mathlib.Core.Option.{Option, none, some};
 ghost use Prim.Native.Nat.{_+_, _*_, _<_, _≤_};
+ghost use lib.Bits.{bitAnd};
 ghost use lib.ListN.{length};
+ghost use Rattle.tables.specs.Search.{lowest};
 ghost use Rattle.sets.specs.Sets.{bitAt, wordIn, has, shared, inside, coversAll, NextAt};
+
+// Word q of set r.
+fn word(table: &[u64], r: usize, q: usize) -> u64
+    requires { ⌜ 8 * r + q < length (now table) ⌝ }
+    ensures { λ w. ⌜ w ≡ wordIn (now (table .entry)) r q ⌝ }
+{
+    table[8 * r + q]
+}
 
 // Word q of what sets a, b and c share.
 fn shared_word(table: &[u64], a: usize, b: usize, c: usize, q: usize) -> u64
     requires { ⌜ (8 * a + q < length (now table)) × (8 * b + q < length (now table)) × (8 * c + q < length (now table)) ⌝ }
+    ensures { λ r. ⌜ r ≡ bitAnd (bitAnd (wordIn (now (table .entry)) a q) (wordIn (now (table .entry)) b q)) (wordIn (now (table .entry)) c q) ⌝ }
 {
-    table[8 * a + q] & table[8 * b + q] & table[8 * c + q]
+    word(table, a, q) & word(table, b, q) & word(table, c, q)
 }
 
 // What sets a, b and c of the table share.
@@ -34,7 +46,8 @@ pub fn is_inside(set: &[u64], table: &[u64], r: usize) -> bool
     ensures { λ x. ⌜ x ≡ inside (now (set .entry)) (now (table .entry)) r ⌝ }
 {
     for q in 0..8 {
-        if set[q] & table[8 * r + q] != set[q] {
+        let w = word(set, 0, q);
+        if w & word(table, r, q) != w {
             return false;
         }
     }
@@ -44,6 +57,7 @@ pub fn is_inside(set: &[u64], table: &[u64], r: usize) -> bool
 // The lowest set bit of a word that is not 0.
 fn low_bit(w: u64) -> usize
     requires { ⌜ 0 < w ⌝ }
+    ensures { λ r. ⌜ lowest (bitAt w) 64 ≡ some r ⌝ }
 {
     u64::trailing_zeros(w) as usize
 }
@@ -53,21 +67,15 @@ pub fn next_in(set: &[u64], from: usize) -> usize
     requires { ⌜ (8 ≤ length (now set)) × (from ≤ 512) ⌝ }
     ensures { λ r. ⌜ NextAt (has (now (set .entry)) 0) from r ⌝ }
 {
-    if from == 512 {
-        return 512;
-    }
-    let x = set[from / 64] >> (from % 64);
-    if x != 0 {
-        return from + low_bit(x);
-    }
-    let mut q = from / 64 + 1;
-    while q < 8 {
-        if set[q] != 0 {
-            return q * 64 + low_bit(set[q]);
+    let mut k = from;
+    while k < 512 {
+        let x = word(set, 0, k / 64) >> (k % 64);
+        if x != 0 {
+            return k + low_bit(x);
         }
-        q += 1;
+        k = (k / 64 + 1) * 64;
     }
-    512
+    k
 }
 
 // The lowest number of the first set whose own set in the table has all of the second, or 512.

@@ -1,71 +1,57 @@
+-- `sets::is_inside` meets its contract: each word of the set before q is inside that of set r. Assumes nothing.
+use mathlib.Core.Path.{_≡_, sym}
+use Prim.Native.Nat.{ℕ, _-_, _<_, _≤_}
 use native.Mathlib.Omega.{arith}
+use borrow.Author.Count.{below-more}
 use borrow.Author.Needs.{needs}
+use Rattle.sets.proofs.InsideLaws.{Within, within-all, not-within}
 use Rattle.sets.proofs.is_inside.Statement.{statement}
 use Rattle.sets.proofs.is_inside.Tie as tie
-use Rattle.sets.proofs.is_inside.Reads as reads
-use Rattle.sets.proofs.is_inside.Lts as lts
 
 abbrev Inv-loop : tie.InvT-loop
-Inv-loop set table r q₀ q = ?
+Inv-loop set table r q₀ q = (q ≤ 8) × ((j : ℕ) → j < q → Within set table r j)
 
 abbrev μ-loop : tie.MeasureT-loop
-μ-loop set table r q₀ q = ?
+μ-loop set table r q₀ q = 8 - q
 
--- src/lib.rt:36:5
 loop-holds : tie.Need-loop-holds Inv-loop μ-loop
-loop-holds c = search needs
+loop-holds c = (omega arith, λ j l. absurd (omega arith))
 
--- src/lib.rt:37:12
-mul-if1 : tie.Need-mul-if1 Inv-loop μ-loop
-mul-if1 c = search needs
+word-requires : tie.Need-word-requires Inv-loop μ-loop
+word-requires c κs = search needs
 
--- src/lib.rt:37:12
-shared-slice-read-if1 : tie.Need-shared-slice-read-if1 Inv-loop μ-loop
-shared-slice-read-if1 c = search needs
+word-requires-2 : tie.Need-word-requires-2 Inv-loop μ-loop
+word-requires-2 c κs = search needs
 
--- src/lib.rt:37:27
-mul-if1-2 : tie.Need-mul-if1-2 Inv-loop μ-loop
-mul-if1-2 c = search needs
-
--- src/lib.rt:37:27
-add-if1 : tie.Need-add-if1 Inv-loop μ-loop
-add-if1 c = search needs
-
--- src/lib.rt:37:21
-mul-if1-3 : tie.Need-mul-if1-3 Inv-loop μ-loop
-mul-if1-3 c = search needs
-
--- src/lib.rt:37:21
-shared-slice-read-if1-2 : tie.Need-shared-slice-read-if1-2 Inv-loop μ-loop
-shared-slice-read-if1-2 c = search needs
-
--- src/lib.rt:37:41
-mul-if1-4 : tie.Need-mul-if1-4 Inv-loop μ-loop
-mul-if1-4 c = search needs
-
--- src/lib.rt:37:41
-shared-slice-read-if1-3 : tie.Need-shared-slice-read-if1-3 Inv-loop μ-loop
-shared-slice-read-if1-3 c = search needs
-
--- src/lib.rt:38:13
 returns : tie.Need-returns Inv-loop μ-loop
-returns c = search needs
+returns c =
+    let at = c .before .before .before .before in
+    let a = at .before .before .before .args in
+    sym
+    (not-within (a .set .now) (a .table .now) (a .r) (at .loop .q) (omega arith) (rw (← c .before .before .word .ensures) (omega (arith, c .before .before .word .ok)))
+    (rw (← c .before .before .word .ensures, ← c .before .word2 .ensures) (c .if1 .taken)))
 
--- src/lib.rt:36:9
 add-q : tie.Need-add-q Inv-loop μ-loop
 add-q c = search needs
 
--- src/lib.rt:36:5
 loop-less : tie.Need-loop-less Inv-loop μ-loop
 loop-less c = search needs
 
--- src/lib.rt:36:5
 loop-again : tie.Need-loop-again Inv-loop μ-loop
-loop-again c = search needs
+loop-again c =
+    let at = c .before .before .before .before in
+    let a = at .before .before .before .args in (
+      omega arith,
+      below-more (Within (a .set .now) (a .table .now) (a .r)) (at .loop .q) (at .loop .inv .1)
+          (rw (← c .before .before .word .ensures, ← c .before .word2 .ensures) (c .if1 .left)),
+    )
 
--- src/lib.rt:32:1
 returns-2 : tie.Need-returns-2 Inv-loop μ-loop
-returns-2 c = search needs
+returns-2 c =
+    let at = c .before in
+    let e : at .loop .q ≡ 8 = omega arith in
+    let a = at .before .before .before .args in
+    sym (within-all (a .set .now) (a .table .now) (a .r) (rw e at (at .loop .inv .1)))
 
 pub is-inside-spec : {M : Type 1} → statement M
 is-inside-spec =
@@ -74,14 +60,8 @@ is-inside-spec =
     Inv-loop
     μ-loop
     loop-holds
-    mul-if1
-    shared-slice-read-if1
-    mul-if1-2
-    add-if1
-    mul-if1-3
-    shared-slice-read-if1-2
-    mul-if1-4
-    shared-slice-read-if1-3
+    word-requires
+    word-requires-2
     returns
     add-q
     loop-less

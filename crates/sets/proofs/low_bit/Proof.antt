@@ -1,17 +1,15 @@
+-- `sets::low_bit` meets its contract: as many zeros stand below the lowest set bit. Assumes nothing.
 use native.Mathlib.Omega.{arith}
-use borrow.Author.Needs.{needs}
+use lib.Count.{trailing-le}
+use Rattle.sets.proofs.NextLaws.{trailing-lowest}
 use Rattle.sets.proofs.low_bit.Statement.{statement}
 use Rattle.sets.proofs.low_bit.Tie as tie
-use Rattle.sets.proofs.low_bit.Reads as reads
-use Rattle.sets.proofs.low_bit.Lts as lts
 
--- src/lib.rt:48:5
 cast-result : tie.Need-cast-result
-cast-result c = search needs
+cast-result c = omega (arith, trailing-le 64 (c .args .w))
 
--- src/lib.rt:45:1
 returns : tie.Need-returns
-returns c = search needs
+returns c = trailing-lowest (c .args .w) (c .pre) (c .fits .w .fits)
 
 pub low-bit-spec : {M : Type 1} → statement M
 low-bit-spec = tie.close (tie.spec cast-result returns)

@@ -1,46 +1,50 @@
-use native.Mathlib.Omega.{arith}
+-- `sets::share` meets its contract: by its eight words. Assumes nothing.
 use borrow.Author.Needs.{needs}
+use Rattle.tables.specs.Buffers.{build}
+use Rattle.sets.specs.Sets.{shared}
 use Rattle.sets.proofs.share.Statement.{statement}
 use Rattle.sets.proofs.share.Tie as tie
-use Rattle.sets.proofs.share.Reads as reads
-use Rattle.sets.proofs.share.Lts as lts
-use Rattle.sets.proofs.shared_word.Reads as shared-word-reads
 
--- src/lib.rt:20:9
 shared-word-requires : tie.Need-shared-word-requires
 shared-word-requires c κs = search needs
 
--- src/lib.rt:21:9
 shared-word-requires-2 : tie.Need-shared-word-requires-2
 shared-word-requires-2 c κs = search needs
 
--- src/lib.rt:22:9
 shared-word-requires-3 : tie.Need-shared-word-requires-3
 shared-word-requires-3 c κs = search needs
 
--- src/lib.rt:23:9
 shared-word-requires-4 : tie.Need-shared-word-requires-4
 shared-word-requires-4 c κs = search needs
 
--- src/lib.rt:24:9
 shared-word-requires-5 : tie.Need-shared-word-requires-5
 shared-word-requires-5 c κs = search needs
 
--- src/lib.rt:25:9
 shared-word-requires-6 : tie.Need-shared-word-requires-6
 shared-word-requires-6 c κs = search needs
 
--- src/lib.rt:26:9
 shared-word-requires-7 : tie.Need-shared-word-requires-7
 shared-word-requires-7 c κs = search needs
 
--- src/lib.rt:27:9
 shared-word-requires-8 : tie.Need-shared-word-requires-8
 shared-word-requires-8 c κs = search needs
 
--- src/lib.rt:15:1
 returns : tie.Need-returns
-returns c = search needs
+unfolding shared build
+returns c =
+    let c₂ = c .before .before in
+    let c₄ = c₂ .before .before in
+    let c₆ = c₄ .before .before in
+    rw (
+      c .shared-word8 .ensures,
+      c .before .shared-word7 .ensures,
+      c₂ .shared-word6 .ensures,
+      c₂ .before .shared-word5 .ensures,
+      c₄ .shared-word4 .ensures,
+      c₄ .before .shared-word3 .ensures,
+      c₆ .shared-word2 .ensures,
+      c₆ .before .shared-word .ensures,
+    )
 
 pub share-spec : {M : Type 1} → statement M
 share-spec =

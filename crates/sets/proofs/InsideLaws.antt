@@ -1,0 +1,57 @@
+-- One set inside another, word by word. Assumes nothing.
+use mathlib.Core.Path.{_≡_, refl, sym, ap, subst, _∙_}
+use mathlib.Core.Bool.{Bool, true, false, not, _&&_, _||_}
+use mathlib.Core.List.{List}
+use mathlib.Core.Logic.{_⊎_, ⊎-elim}
+use Prim.Native.Nat.{ℕ, zero, suc, _+_, _*_, _/_, _%_, _^_, _<_, _≤_}
+use native.Mathlib.Omega.{arith}
+use native.Mathlib.Nat.{zero-add}
+use lib.Arith.{digits-div, digits-mod}
+use lib.Bits.{bitAnd}
+use lib.Dec.{T, T-not}
+use lib.ListN.{getD}
+use Rattle.tables.specs.Search.{every}
+use Rattle.tables.proofs.SearchLaws.{every-at, every-is}
+use Rattle.tables.proofs.Tests.{T?, or-T, T-or₁, T-or₂, T-true, not-false}
+use Rattle.sets.specs.Sets.{bitAt, wordIn, has, inside}
+use Rattle.sets.proofs.SetLaws.{and-inside, inside-and}
+
+-- bit b of word q is number q * 64 + b
+pub has-at : (table : List ℕ) (r q b : ℕ) → b < 64 → has table r (q * 64 + b) ≡ bitAt (wordIn table r q) b
+unfolding has
+has-at table r q b h = rw (digits-div q h, digits-mod q h)
+
+-- a test that follows from another, as one test
+follows : (a b : Bool) → T (not a || b) → T a → T b
+follows true b t u = t
+follows false b t u = absurd u
+
+T-follows : (a b : Bool) → (T a → T b) → T (not a || b)
+T-follows true b f = f tt
+T-follows false b f = tt
+
+module _ (set table : List ℕ) (r : ℕ) where
+  -- word q of the set is inside that of set r
+  abbrev pub Within : ℕ → Type 0
+  Within q = bitAnd (wordIn set 0 q) (wordIn table r q) ≡ wordIn set 0 q
+
+  pub within-all : ((q : ℕ) → q < 8 → Within q) → inside set table r ≡ true
+  unfolding inside has
+  within-all h =
+      T-true (inside set table r)
+      (every-is (λ k. not (has set 0 k) || has table r k) 512
+      (λ k l.
+      let q = k / 64 in
+      T-follows (has set 0 k) (has table r k) (and-inside (wordIn set 0 q) (wordIn table r q) (k % 64) (h q (omega arith)))))
+
+  pub within-each : T (inside set table r) → (q : ℕ) → q < 8 → wordIn set 0 q < 2 ^ 64 → Within q
+  unfolding inside
+  within-each t q l h =
+      inside-and 64 (wordIn set 0 q) (wordIn table r q) h
+      (λ b s.
+      rw (← has-at set 0 q b s, ← has-at table r q b s)
+      (follows (has set 0 (q * 64 + b)) (has table r (q * 64 + b))
+      (every-at (λ k. not (has set 0 k) || has table r k) 512 t (q * 64 + b) (omega arith))))
+
+  pub not-within : (q : ℕ) → q < 8 → wordIn set 0 q < 2 ^ 64 → (Within q → ⊥) → inside set table r ≡ false
+  not-within q l h n = not-false (inside set table r) (λ t. n (within-each t q l h))

@@ -1,0 +1,163 @@
+-- Bits of words, and sets of numbers by their words. Assumes nothing.
+use mathlib.Core.Path.{_≡_, refl, sym, ap, ap₂, subst, fun-ext, _∙_}
+use mathlib.Core.Bool.{Bool, true, false, not, _&&_, _||_}
+use mathlib.Core.List.{List}
+use mathlib.Core.Option.{Option, none, some}
+use Prim.Native.Nat.{ℕ, zero, suc, _+_, _*_, _/_, _%_, _^_, _<_, _≤_, min}
+use native.Mathlib.Omega.{arith}
+use native.Mathlib.Numerals.{add-one}
+use native.Mathlib.Nat.{zero-add, pow-suc, mul-assoc, div-add-mod', le-of-suc-le-suc}
+use lib.Arith.{digits-lt, digits-div, digits-mod, lt-one}
+use lib.Bits.{bitAnd, and-step, and-shr, and-le-l}
+use lib.Dec.{T, eqb, eqb→eq, lit<}
+use lib.ListN.{getD}
+use lib.Pow.{shr-lt}
+use Rattle.tables.specs.Search.{lowest, bit}
+use Rattle.tables.proofs.SelectLaws.{lowest-is, lowest-nothing}
+use Rattle.tables.proofs.BufferLaws.{build-at}
+use Rattle.tables.proofs.Tests.{T-same, T-and, and-T, T-true, true-T, T-eqb, not-false}
+use Rattle.sets.specs.Sets.{bitAt, wordOf, wordIn, has, shared, NextAt}
+
+-- ---- a digit more below a number
+
+bit-lt : (t : Bool) → bit t < 2
+unfolding bit
+bit-lt true = lit< tt
+bit-lt false = lit< tt
+
+bit-one : (t : Bool) → eqb (bit t) 1 ≡ t
+unfolding bit
+bit-one true = refl
+bit-one false = refl
+
+pub push-low : (w : ℕ) (t : Bool) → bitAt (w * 2 + bit t) 0 ≡ t
+unfolding bitAt
+push-low w t = ap (λ (x : ℕ). eqb x 1) (digits-mod w (bit-lt t)) ∙ bit-one t
+
+pub push-high : (w b : ℕ) (t : Bool) → bitAt (w * 2 + bit t) (suc b) ≡ bitAt w b
+unfolding bitAt
+push-high w b t = ap (λ (x : ℕ). bitAt x b) (digits-div w (bit-lt t))
+
+pub push-lt : (k w : ℕ) (t : Bool) → w < 2 ^ k → w * 2 + bit t < 2 ^ (k + 1)
+push-lt k w t h = rw (add-one, pow-suc) (digits-lt h (bit-lt t))
+
+-- a number is its lowest digit below its half
+low-digit : (n : ℕ) → n < 2 → (t : Bool) → eqb n 1 ≡ t → n ≡ bit t
+unfolding bit
+low-digit n h true e = eqb→eq n 1 (true-T (eqb n 1) e)
+low-digit zero h false e = refl
+low-digit (suc zero) h false e = absurd (subst T e tt)
+low-digit (suc (suc n)) h false e = absurd (omega arith)
+
+split-low : (w : ℕ) → w ≡ (w / 2) * 2 + bit (bitAt w 0)
+unfolding bitAt
+split-low w = sym (div-add-mod' w 2) ∙ ap (λ (x : ℕ). (w / 2) * 2 + x) (low-digit (w % 2) (omega arith) (eqb (w % 2) 1) refl)
+
+pub half-lt : (n w : ℕ) → w < 2 ^ suc n → w / 2 < 2 ^ n
+half-lt n w h = shr-lt n 1 (rw add-one h)
+
+-- ---- the word of a test
+
+wordOf-push : (g : ℕ → Bool) (n : ℕ) → wordOf g (suc n) ≡ wordOf (λ b. g (suc b)) n * 2 + bit (g 0)
+unfolding wordOf
+wordOf-push g zero = omega arith
+wordOf-push g (suc n) =
+    let ih = wordOf-push g n in
+    let e : bit (g (suc n)) * 2 ^ suc n ≡ bit (g (suc n)) * 2 ^ n * 2 = rw pow-suc (sym (mul-assoc (bit (g (suc n))) (2 ^ n) 2)) in
+    omega arith
+
+pub wordOf-bit : (g : ℕ → Bool) (n b : ℕ) → b < n → bitAt (wordOf g n) b ≡ g b
+wordOf-bit g zero b h = absurd (omega arith)
+wordOf-bit g (suc n) zero h = rw wordOf-push (push-low (wordOf (λ b. g (suc b)) n) (g 0))
+wordOf-bit g (suc n) (suc b) h =
+    rw wordOf-push (push-high (wordOf (λ b. g (suc b)) n) b (g 0)) ∙ wordOf-bit (λ b. g (suc b)) n b (le-of-suc-le-suc h)
+
+-- a number of n digits is the word of its bits
+pub word-is : (g : ℕ → Bool) (n w : ℕ) → w < 2 ^ n → ((b : ℕ) → b < n → bitAt w b ≡ g b) → w ≡ wordOf g n
+unfolding wordOf bitAt
+word-is g zero w h s = lt-one h
+word-is g (suc n) w h s =
+    split-low w
+    ∙ ap₂ (λ (x : ℕ) (t : Bool). x * 2 + bit t)
+    (word-is (λ b. g (suc b)) n (w / 2) (half-lt n w h) (λ b l. s (suc b) (omega arith)))
+    (s 0 (omega arith))
+    ∙ sym (wordOf-push g n)
+
+pub word-unique : (g : ℕ → Bool) (w : ℕ) → w < 2 ^ 64 → ((b : ℕ) → b < 64 → bitAt w b ≡ g b) → w ≡ wordOf g 64
+word-unique g w = word-is g 64 w
+
+-- the next turn of a loop that builds a word from its high bit down
+pub word-push : (g : ℕ → Bool) (k n w : ℕ) → w ≡ wordOf (λ b. g (k + 1 + b)) n → w * 2 + bit (g k) ≡ wordOf (λ b. g (k + b)) (n + 1)
+word-push g k n w e =
+    rw add-one
+    (ap₂ (λ (x : ℕ) (t : Bool). x * 2 + bit t)
+    (e ∙ ap (λ (h : ℕ → Bool). wordOf h n) (fun-ext (λ b. ap g (omega arith))))
+    (ap g (omega arith))
+    ∙ sym (wordOf-push (λ b. g (k + b)) n))
+
+pub same-bits : (n x y : ℕ) → x < 2 ^ n → y < 2 ^ n → ((b : ℕ) → b < n → bitAt x b ≡ bitAt y b) → x ≡ y
+same-bits n x y h k s = word-is (bitAt y) n x h s ∙ sym (word-is (bitAt y) n y k (λ b l. refl))
+
+-- ---- a word that is 0
+
+pub zero-bit : (b : ℕ) → bitAt 0 b ≡ false
+unfolding bitAt
+zero-bit zero = refl
+zero-bit (suc b) = zero-bit b
+
+pub zero-word : (n w : ℕ) → w < 2 ^ n → ((b : ℕ) → b < n → T (bitAt w b) → ⊥) → w ≡ 0
+zero-word n w h s = same-bits n w 0 h (omega arith) (λ b l. not-false (bitAt w b) (s b l) ∙ sym (zero-bit b))
+
+-- ---- what two words share
+
+min-digit : (x y : ℕ) → x < 2 → y < 2 → eqb (min x y) 1 ≡ (eqb x 1 && eqb y 1)
+min-digit zero zero h k = refl
+min-digit zero (suc zero) h k = refl
+min-digit (suc zero) zero h k = refl
+min-digit (suc zero) (suc zero) h k = refl
+min-digit (suc (suc x)) y h k = absurd (omega arith)
+min-digit zero (suc (suc y)) h k = absurd (omega arith)
+min-digit (suc zero) (suc (suc y)) h k = absurd (omega arith)
+
+min-lt : (x y : ℕ) → x < 2 → min x y < 2
+min-lt x y h = omega arith
+
+pub and-bit : (x y b : ℕ) → bitAt (bitAnd x y) b ≡ (bitAt x b && bitAt y b)
+unfolding bitAt
+and-bit x y zero =
+    let l : x % 2 < 2 = omega arith in
+    ap (λ (w : ℕ). eqb (w % 2) 1) (and-step x y)
+    ∙ ap (λ (d : ℕ). eqb d 1) (digits-mod (bitAnd (x / 2) (y / 2)) (min-lt (x % 2) (y % 2) l))
+    ∙ min-digit (x % 2) (y % 2) l (omega arith)
+and-bit x y (suc b) = ap (λ (w : ℕ). bitAt w b) (and-shr x y 1) ∙ and-bit (x / 2) (y / 2) b
+
+-- a word inside another
+pub and-inside : (x y b : ℕ) → bitAnd x y ≡ x → T (bitAt x b) → T (bitAt y b)
+and-inside x y b e t = and-T (bitAt x b) (bitAt y b) (subst T (and-bit x y b) (subst (λ (w : ℕ). T (bitAt w b)) (sym e) t)) .1
+
+pub inside-and : (n x y : ℕ) → x < 2 ^ n → ((b : ℕ) → b < n → T (bitAt x b) → T (bitAt y b)) → bitAnd x y ≡ x
+inside-and n x y h s =
+    same-bits n (bitAnd x y) x (omega (arith, and-le-l x y)) h
+    (λ b l.
+    and-bit x y b
+    ∙ T-same (bitAt x b && bitAt y b) (bitAt x b) (λ t. and-T (bitAt x b) (bitAt y b) t .0) (λ t. T-and (bitAt x b) (bitAt y b) t (s b l t)))
+
+-- ---- what three sets share
+
+pub shared-has : (table : List ℕ) (a b c k : ℕ) → k < 512 → has (shared table a b c) 0 k ≡ ((has table a k && has table b k) && has table c k)
+unfolding has shared wordIn
+shared-has table a b c k h =
+    let q = k / 64 in
+    ap (λ (i : ℕ). bitAt (getD (shared table a b c) i 0) (k % 64)) (zero-add q)
+    ∙ ap (λ (w : ℕ). bitAt w (k % 64))
+    (build-at (λ q. bitAnd (bitAnd (wordIn table a q) (wordIn table b q)) (wordIn table c q)) 8 q (omega arith))
+    ∙ and-bit (bitAnd (wordIn table a q) (wordIn table b q)) (wordIn table c q) (k % 64)
+    ∙ ap (λ (t : Bool). t && has table c k) (and-bit (wordIn table a q) (wordIn table b q) (k % 64))
+
+-- ---- the lowest number of a test
+
+pub next-some : (p : ℕ → Bool) (r : ℕ) → NextAt p 0 r → r < 512 → lowest p 512 ≡ some r
+next-some p r n h = lowest-is p 512 r h (n .holds h) (λ j l. n .none-between j (omega arith) l)
+
+pub next-none : (p : ℕ → Bool) (r : ℕ) → NextAt p 0 r → 512 ≤ r → lowest p 512 ≡ none
+next-none p r n h = lowest-nothing p 512 (λ j l. n .none-between j (omega arith) (omega arith))
