@@ -17,11 +17,20 @@ at-requires-2 : tie.Need-at-requires-2
 at-requires-2 c κs = search needs
 
 does-beat-requires : tie.Need-does-beat-requires
-does-beat-requires c κs = ?
+does-beat-requires c κs = let start = c .before .before .before .before .before .before .before .before .before in
+    let w = start .pre .within in
+    rw (c .at2 .ensures, c .before .before .at .ensures) (
+      start .pre .says,
+      w .tail-in _ (c .before .if2 .taken),
+      w .head-in _ (c .before .if2 .taken),
+      w .tail-in _ (c .before .before .before .if1 .left),
+      w .head-in _ (c .before .before .before .if1 .left),
+    )
 
 returns-2 : tie.Need-returns-2
 unfolding beats
-returns-2 c = ?
+returns-2 c = let a = c .before .before .before .before .before .before .before .before .before .before .args in
+    rw (member-arrow (a .rows .now) (a .arrows .now) (a .users .now) (a .files .now) (a .k) (c .before .before .before .before .if1 .left) (a .r) (c .before .before .if2 .taken), c .does-beat .ensures, c .before .at2 .ensures, c .before .before .before .at .ensures)
 
 add-of-files : tie.Need-add-of-files
 add-of-files c = search needs
@@ -33,10 +42,16 @@ shared-slice-read-is-around : tie.Need-shared-slice-read-is-around
 shared-slice-read-is-around c = search needs
 
 is-around-requires : tie.Need-is-around-requires
-is-around-requires c κs = ?
+is-around-requires c κs = let start = c .before .before .before .before .before .before .before .before .before .before in
+    rw (c .before .before .before .at .ensures) (
+      start .pre .says,
+      start .pre .within .tail-in _ (c .before .before .before .before .if1 .left),
+      start .pre .users-in _ (omega arith),
+    )
 
 returns-3 : tie.Need-returns-3
-returns-3 c = ?
+returns-3 c = let a = c .before .before .before .before .before .before .before .before .before .before .before .args in
+    rw (member-user (a .rows .now) (a .arrows .now) (a .users .now) (a .files .now) (a .k) (c .before .before .before .before .before .if1 .left) (a .r) (omega arith) (omega arith), c .is-around .ensures, c .before .before .before .before .at .ensures)
 
 add-of-modes : tie.Need-add-of-modes
 add-of-modes c = search needs
@@ -48,17 +63,24 @@ shared-slice-read-is-around-2 : tie.Need-shared-slice-read-is-around-2
 shared-slice-read-is-around-2 c = search needs
 
 is-around-requires-2 : tie.Need-is-around-requires-2
-is-around-requires-2 c κs = ?
+is-around-requires-2 c κs = let start = c .before .before .before .before .before .before .before .before .before .before .before in
+    rw (c .before .before .before .before .at .ensures) (
+      start .pre .says,
+      start .pre .within .head-in _ (c .before .before .before .before .before .if1 .left),
+      start .pre .files-in _ (omega arith),
+    )
 
 returns-4 : tie.Need-returns-4
-returns-4 c = ?
+returns-4 c = let a = c .before .before .before .before .before .before .before .before .before .before .before .before .args in
+    rw (member-file (a .rows .now) (a .arrows .now) (a .users .now) (a .files .now) (a .k) (c .before .before .before .before .before .before .if1 .left) (a .r) (omega arith) (omega arith), c .is-around2 .ensures, c .before .before .before .before .before .at .ensures)
 
 has-sign-requires : tie.Need-has-sign-requires
 has-sign-requires c κs = search needs
 
 returns-5 : tie.Need-returns-5
 unfolding signed
-returns-5 c = ?
+returns-5 c = let a = c .before .before .before .before .before .before .before .before .before .before .before .args in
+    rw (member-mode (a .rows .now) (a .arrows .now) (a .users .now) (a .files .now) (a .k) (c .before .before .before .before .before .if1 .left) (a .r) (omega arith), c .has-sign .ensures, c .before .before .before .before .at .ensures)
 
 pub is-member-spec : {M : Type 1} → statement M
 is-member-spec =

@@ -1,5 +1,5 @@
 -- `answers::word_at` meets its contract: the bits from b on are in the word. Assumes nothing.
-use mathlib.Core.Path.{_∙_}
+use mathlib.Core.Path.{_≡_, _∙_}
 use native.Mathlib.Omega.{arith}
 use borrow.Author.Needs.{needs}
 use Prim.Native.Nat.{_+_, _*_, _/_, _%_}
@@ -40,7 +40,7 @@ loop-again c = rw (c .push .ensures) (built-more _ _ _ _ (c .before .before .loo
 
 returns : tie.Need-returns Inv-loop μ-loop
 unfolding setWord
-returns c = built-all _ _ ?
+returns c = let e : c .before .loop .b ≡ 0 = omega (arith, c .loop-test .left) in built-all _ _ (rw e at (c .before .loop .inv))
 
 pub word-at-spec : {M : Type 1} → statement M
 word-at-spec =
