@@ -1,18 +1,14 @@
 -- One set inside another, word by word. Assumes nothing.
-use mathlib.Core.Path.{_≡_, refl, sym, ap, subst, _∙_}
-use mathlib.Core.Bool.{Bool, true, false, not, _&&_, _||_}
+use mathlib.Core.Path.{_≡_}
+use mathlib.Core.Bool.{Bool, true, false, not, _||_}
 use mathlib.Core.List.{List}
-use mathlib.Core.Logic.{_⊎_, ⊎-elim}
-use Prim.Native.Nat.{ℕ, zero, suc, _+_, _*_, _/_, _%_, _^_, _<_, _≤_}
+use Prim.Native.Nat.{ℕ, _+_, _*_, _/_, _%_, _^_, _<_}
 use native.Mathlib.Omega.{arith}
-use native.Mathlib.Nat.{zero-add}
 use lib.Arith.{digits-div, digits-mod}
 use lib.Bits.{bitAnd}
-use lib.Dec.{T, T-not}
-use lib.ListN.{getD}
-use Rattle.tables.specs.Search.{every}
+use lib.Dec.{T}
 use Rattle.tables.proofs.SearchLaws.{every-at, every-is}
-use Rattle.tables.proofs.Tests.{T?, or-T, T-or₁, T-or₂, T-true, not-false}
+use Rattle.tables.proofs.Tests.{T-true, not-false}
 use Rattle.sets.specs.Sets.{bitAt, wordIn, has, inside}
 use Rattle.sets.proofs.SetLaws.{and-inside, inside-and}
 

@@ -1,9 +1,8 @@
 -- The next number of a set, and the steps of the walks that find it. Assumes nothing.
 use mathlib.Core.Path.{_≡_, refl, sym, ap, ap₂, subst, _∙_}
-use mathlib.Core.Bool.{Bool, true, false, not, _&&_, _||_}
+use mathlib.Core.Bool.{Bool, true, false}
 use mathlib.Core.List.{List}
-use mathlib.Core.Logic.{_⊎_, ⊎-elim}
-use mathlib.Core.Option.{Option, none, some}
+use mathlib.Core.Option.{some}
 use Prim.Native.Nat.{ℕ, zero, suc, _+_, _-_, _*_, _/_, _%_, _^_, _<_, _≤_}
 use native.Mathlib.Omega.{arith}
 use native.Mathlib.Decide.{decLt}
@@ -45,7 +44,7 @@ trailing-low (suc n) w p h = go (w % 2) refl (λ q. trailing-low n (w / 2) q (ha
 pub trailing-lowest : (w : ℕ) → 0 < w → w < 2 ^ 64 → lowest (bitAt w) 64 ≡ some (trailingZeros 64 w)
 trailing-lowest w p h = let l = trailing-low 64 w p h in lowest-is (bitAt w) 64 (trailingZeros 64 w) (l .0) (l .1) (l .2)
 
--- a shifted word
+-- bit b of a shifted word
 shift-bit : (k w b : ℕ) → bitAt (w / 2 ^ k) b ≡ bitAt w (k + b)
 unfolding bitAt
 shift-bit zero w b = ap₂ bitAt (div-one w) (sym (zero-add b))
@@ -88,7 +87,7 @@ module _ (p : ℕ → Bool) where
 
 -- ---- the walk over the words of a set
 
-module _ (set : List ℕ) (s k : ℕ) (here : k < 512) (on : s ≤ k) where
+module _ (set : List ℕ) (s k : ℕ) where
   -- the word of k from k's bit on
   abbrev pub Rest : ℕ
   Rest = wordIn set 0 (k / 64) / 2 ^ (k % 64)
@@ -98,10 +97,12 @@ module _ (set : List ℕ) (s k : ℕ) (here : k < 512) (on : s ≤ k) where
       let e : k + b ≡ k / 64 * 64 + (k % 64 + b) = omega arith in
       ap (has set 0) e ∙ has-at set 0 (k / 64) (k % 64 + b) h ∙ sym (shift-bit (k % 64) (wordIn set 0 (k / 64)) b)
 
-  pub rest-found : (b : ℕ) → wordIn set 0 (k / 64) < 2 ^ 64 → lowest (bitAt Rest) 64 ≡ some b → Free (has set 0) s k → NextAt (has set 0) s (k + b)
-  rest-found b h e f =
+  pub rest-found : (b : ℕ) → k < 512 → s ≤ k → wordIn set 0 (k / 64) < 2 ^ 64 → lowest (bitAt Rest) 64 ≡ some b
+      → Free (has set 0) s k → NextAt (has set 0) s (k + b)
+  rest-found b here on h e f =
+      let w = wordIn set 0 (k / 64) in
       let l = lowest-some (bitAt Rest) 64 b e in
-      let not-beyond : ¬ (64 ≤ k % 64 + b) = λ g. beyond 64 (wordIn set 0 (k / 64)) (k % 64 + b) h g (subst T (shift-bit (k % 64) (wordIn set 0 (k / 64)) b) (l .1)) in
+      let not-beyond : ¬ (64 ≤ k % 64 + b) = λ g. beyond 64 w (k % 64 + b) h g (subst T (shift-bit (k % 64) w b) (l .1)) in
       let i : k % 64 + b < 64 = omega arith in
       free-found (has set 0) s (k + b) (omega arith) (omega arith) (subst T (sym (rest-bit b i)) (l .1))
       (free-more (has set 0) s k b f (λ j m t. l .2 j m (subst T (rest-bit j (omega arith)) t)))
@@ -113,13 +114,14 @@ module _ (set : List ℕ) (s k : ℕ) (here : k < 512) (on : s ≤ k) where
       (free-more (has set 0) s k (64 - k % 64) f
       (λ j g t. false-not (bitAt 0 j) (zero-bit j) (subst (λ (x : ℕ). T (bitAt x j)) e (subst T (rest-bit j (omega arith)) t))))
 
--- ---- the walk over the numbers of a set that holds each number at which a test does
+-- ---- the walk over the numbers of the first set
 
 module _ (table own opposite : List ℕ) where
+  -- no number below k will do
   abbrev pub Passed : ℕ → Type 0
   Passed k = Free (coversAll table own opposite) 0 k
 
-  -- from a number that is passed to the next one of the set
+  -- numbers that are not in the set are passed over
   pub passed-next : (s r : ℕ) → Passed s → NextAt (has own 0) s r → Passed r
   unfolding coversAll
   passed-next s r f n k h l t = go (decLt k s)

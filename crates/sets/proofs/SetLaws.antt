@@ -1,21 +1,21 @@
 -- Bits of words, and sets of numbers by their words. Assumes nothing.
 use mathlib.Core.Path.{_≡_, refl, sym, ap, ap₂, subst, fun-ext, _∙_}
-use mathlib.Core.Bool.{Bool, true, false, not, _&&_, _||_}
+use mathlib.Core.Bool.{Bool, true, false, _&&_}
 use mathlib.Core.List.{List}
-use mathlib.Core.Option.{Option, none, some}
-use Prim.Native.Nat.{ℕ, zero, suc, _+_, _*_, _/_, _%_, _^_, _<_, _≤_, min}
+use mathlib.Core.Option.{none, some}
+use Prim.Native.Nat.{ℕ, zero, suc, _+_, _-_, _*_, _/_, _%_, _^_, _<_, _≤_, min}
 use native.Mathlib.Omega.{arith}
 use native.Mathlib.Numerals.{add-one}
-use native.Mathlib.Nat.{zero-add, pow-suc, mul-assoc, div-add-mod', le-of-suc-le-suc}
+use native.Mathlib.Nat.{zero-add, pow-suc, mul-assoc, div-add-mod', le-of-suc-le-suc, lt-of-lt-of-le}
 use lib.Arith.{digits-lt, digits-div, digits-mod, lt-one}
 use lib.Bits.{bitAnd, and-step, and-shr, and-le-l}
 use lib.Dec.{T, eqb, eqb→eq, lit<}
 use lib.ListN.{getD}
-use lib.Pow.{shr-lt}
+use lib.Pow.{shr-lt, pow-mono}
 use Rattle.tables.specs.Search.{lowest, bit}
 use Rattle.tables.proofs.SelectLaws.{lowest-is, lowest-nothing}
 use Rattle.tables.proofs.BufferLaws.{build-at}
-use Rattle.tables.proofs.Tests.{T-same, T-and, and-T, T-true, true-T, T-eqb, not-false}
+use Rattle.tables.proofs.Tests.{T-same, T-and, and-T, true-T, not-false}
 use Rattle.sets.specs.Sets.{bitAt, wordOf, wordIn, has, shared, NextAt}
 
 -- ---- a digit more below a number
@@ -86,17 +86,40 @@ word-is g (suc n) w h s =
 pub word-unique : (g : ℕ → Bool) (w : ℕ) → w < 2 ^ 64 → ((b : ℕ) → b < 64 → bitAt w b ≡ g b) → w ≡ wordOf g 64
 word-unique g w = word-is g 64 w
 
--- the next turn of a loop that builds a word from its high bit down
-pub word-push : (g : ℕ → Bool) (k n w : ℕ) → w ≡ wordOf (λ b. g (k + 1 + b)) n → w * 2 + bit (g k) ≡ wordOf (λ b. g (k + b)) (n + 1)
-word-push g k n w e =
-    rw add-one
-    (ap₂ (λ (x : ℕ) (t : Bool). x * 2 + bit t)
-    (e ∙ ap (λ (h : ℕ → Bool). wordOf h n) (fun-ext (λ b. ap g (omega arith))))
-    (ap g (omega arith))
-    ∙ sym (wordOf-push (λ b. g (k + b)) n))
-
 pub same-bits : (n x y : ℕ) → x < 2 ^ n → y < 2 ^ n → ((b : ℕ) → b < n → bitAt x b ≡ bitAt y b) → x ≡ y
 same-bits n x y h k s = word-is (bitAt y) n x h s ∙ sym (word-is (bitAt y) n y k (λ b l. refl))
+
+-- ---- a loop that builds the word of a test from its high bit down
+
+pub wordOf-lt : (g : ℕ → Bool) (n : ℕ) → wordOf g n < 2 ^ n
+unfolding wordOf
+wordOf-lt g zero = lit< tt
+wordOf-lt g (suc n) = rw (wordOf-push, ← add-one n) (push-lt n (wordOf (λ b. g (suc b)) n) (g 0) (wordOf-lt (λ b. g (suc b)) n))
+
+module _ (g : ℕ → Bool) where
+  -- w has the bits from k on
+  abbrev pub Built : ℕ → ℕ → Type 0
+  Built k w = w ≡ wordOf (λ b. g (k + b)) (64 - k)
+
+  pub built-none : Built 64 0
+  unfolding wordOf
+  built-none = refl
+
+  -- there is room for one more bit
+  pub built-lt : (k w : ℕ) → 0 < k → Built k w → w < 2 ^ 63
+  built-lt k w h e = rw e (lt-of-lt-of-le (wordOf-lt (λ b. g (k + b)) (64 - k)) (pow-mono {j = 63} (omega arith)))
+
+  pub built-more : (k w : ℕ) → 0 < k → k ≤ 64 → Built k w → Built (k - 1) (w * 2 + bit (g (k - 1)))
+  built-more k w h l e =
+      let n : 64 - (k - 1) ≡ suc (64 - k) = omega arith in
+      rw n
+      (ap₂ (λ (x : ℕ) (t : Bool). x * 2 + bit t)
+      (e ∙ ap (λ (f : ℕ → Bool). wordOf f (64 - k)) (fun-ext (λ b. ap g (omega arith))))
+      (ap g (omega arith))
+      ∙ sym (wordOf-push (λ b. g (k - 1 + b)) (64 - k)))
+
+  pub built-all : (w : ℕ) → Built 0 w → w ≡ wordOf g 64
+  built-all w e = e ∙ ap (λ (f : ℕ → Bool). wordOf f 64) (fun-ext (λ b. ap g (zero-add b)))
 
 -- ---- a word that is 0
 

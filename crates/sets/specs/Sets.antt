@@ -1,5 +1,4 @@
 -- Sets of numbers below 512, each as eight words of 64 bits. A table has the words of set r from place 8 × r on. Assumes nothing.
-use mathlib.Core.Path.{_≡_}
 use mathlib.Core.Bool.{Bool, not, _&&_, _||_}
 use mathlib.Core.List.{List}
 use Prim.Native.Nat.{ℕ, zero, suc, _+_, _*_, _/_, _%_, _^_, _<_, _≤_}

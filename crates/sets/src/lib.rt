@@ -1,6 +1,6 @@
 // Sets of numbers below 512 as eight words of 64 bits, and tables of such sets. Each step takes 64 numbers at a time.
 ghost use mathlib.Core.Path.{_≡_};
-ghost use mathlib.Core.Option.{Option, none, some};
+ghost use mathlib.Core.Option.{some};
 ghost use Prim.Native.Nat.{_+_, _*_, _<_, _≤_};
 ghost use lib.Bits.{bitAnd};
 ghost use lib.ListN.{length};

@@ -27,9 +27,10 @@ returns : tie.Need-returns Inv-loop μ-loop
 returns c =
     let at = c .before .before .before .before in
     let a = at .before .before .before .args in
+    let w = c .before .before .word in
     sym
-    (not-within (a .set .now) (a .table .now) (a .r) (at .loop .q) (omega arith) (rw (← c .before .before .word .ensures) (omega (arith, c .before .before .word .ok)))
-    (rw (← c .before .before .word .ensures, ← c .before .word2 .ensures) (c .if1 .taken)))
+    (not-within (a .set .now) (a .table .now) (a .r) (at .loop .q) (omega arith) (rw (← w .ensures) (omega (arith, w .ok)))
+    (rw (← w .ensures, ← c .before .word2 .ensures) (c .if1 .taken)))
 
 add-q : tie.Need-add-q Inv-loop μ-loop
 add-q c = search needs

@@ -1,6 +1,5 @@
 -- `sets::next_in` meets its contract: no number of the set stands between `from` and k. Assumes nothing.
-use mathlib.Core.Path.{_≡_}
-use Prim.Native.Nat.{ℕ, _-_, _<_, _≤_}
+use Prim.Native.Nat.{_-_, _≤_}
 use native.Mathlib.Omega.{arith}
 use borrow.Author.Needs.{needs}
 use Rattle.tables.proofs.SearchLaws.{lowest-some}
@@ -35,7 +34,7 @@ returns c =
     let at = c .before .before .before .before in
     let a = at .before .before .args in
     let w = c .before .before .word in
-    rest-found (a .set .now) (a .from) (at .loop .k) (omega arith) (at .loop .inv .0) (c .low-bit .result)
+    rest-found (a .set .now) (a .from) (at .loop .k) (c .low-bit .result) (omega arith) (at .loop .inv .0)
     (rw (← w .ensures) (omega (arith, w .ok))) (rw (← w .ensures) (c .low-bit .ensures)) (at .loop .inv .2)
 
 add-k : tie.Need-add-k Inv-loop μ-loop
@@ -53,7 +52,7 @@ loop-again c =
     let a = at .before .before .args in (
       omega arith,
       omega arith,
-      rest-none (a .set .now) (a .from) (at .loop .k) (omega arith) (at .loop .inv .0) (rw (← c .before .word .ensures) (c .if1 .left)) (at .loop .inv .2),
+      rest-none (a .set .now) (a .from) (at .loop .k) (rw (← c .before .word .ensures) (c .if1 .left)) (at .loop .inv .2),
     )
 
 returns-2 : tie.Need-returns-2 Inv-loop μ-loop
