@@ -5,11 +5,9 @@ use mathlib.Core.Bool.{Bool, true, false, not, _&&_, _||_, cond}
 use mathlib.Core.List.{List}
 use mathlib.Core.Option.{Option, none, some}
 use Prim.Native.Nat.{ℕ, zero, suc, _+_, _-_, _*_, _/_, _%_, _^_, _<_, _≤_}
-use native.Mathlib.Nat.{le-trans, add-zero, zero-add}
 use native.Mathlib.Omega.{arith}
 use lib.Dec.{T, T-not, eqb, ltb, eqb→eq, ltb→lt, lt→ltb, nltb→le}
 use lib.ListN.{length, getD}
-use lib.Pow.{pow-mono}
 use Rattle.tables.specs.Search.{lowest, bit}
 use Rattle.tables.specs.Buffers.{build, written}
 use Rattle.tables.specs.Rows.{user, file, arrowCount, arrowAt}
@@ -22,8 +20,9 @@ use Rattle.tables.proofs.AtomPlaces.{atoms-found, atom-there}
 use Rattle.tables.proofs.AtomSides.{atoms-apart}
 use Rattle.containment.specs.Contains.{around}
 use Rattle.containment.specs.Scratch.{Says}
-use Rattle.sets.specs.Sets.{bitAt, wordOf, wordIn, has, shared, inside, coversAll}
-use Rattle.sets.proofs.SetLaws.{wordOf-bit, word-unique, push-low, push-high, push-lt, shared-has}
+use Rattle.sets.specs.Sets.{has, shared, coversAll}
+use Rattle.sets.proofs.SetLaws.{wordOf-bit, shared-has}
+use Rattle.sets.proofs.InsideLaws.{has-word, covers-own, covers-each, covers-is}
 use Rattle.answers.specs.Meaning.{reaches, overrides, hits, certifies}
 use Rattle.answers.specs.Table.{beats, signed, member, setWord, setWords, setCount, userSets, fileSets, modeSets, Source, Tabled}
 use Rattle.answers.proofs.ReadyLaws.{sound-within}
@@ -79,11 +78,12 @@ module _ (rows arrows users files : List ℕ) where
 
   pub has-member : (old : List ℕ) (r k : ℕ) → r < setCount rows arrows users files → k < 512
       → has (written (setWords rows arrows users files) old) r k ≡ member rows arrows users files r k
-  unfolding has wordIn setWords setWord
+  unfolding setWords setWord
   has-member old r k h l =
       let i : 8 * r + k / 64 < 8 * setCount rows arrows users files = omega arith in
       let m : k % 64 < 64 = omega arith in
       rw (
+        has-word,
         written-at (build (setWord rows arrows users files) (8 * setCount rows arrows users files)) old (8 * r + k / 64) (rw build-length i),
         build-at (setWord rows arrows users files) (8 * setCount rows arrows users files) (8 * r + k / 64) i,
         wordOf-bit (λ b. member rows arrows users files ((8 * r + k / 64) / 8) (64 * ((8 * r + k / 64) % 8) + b)) 64 (k % 64) m,
@@ -91,37 +91,41 @@ module _ (rows arrows users files : List ℕ) where
         at-bit r k l,
       )
 
--- ---- a word is made from its highest bit down
 
-module _ (g : ℕ → Bool) where
-  -- the word has the bits from b on
-  pub record Built (b w : ℕ) : Type 0 where
-    pub at-most : b ≤ 64
-    pub small : w < 2 ^ (64 - b)
-    pub bits : (j : ℕ) → j < 64 - b → bitAt w j ≡ g (b + j)
+-- ---- the answer of a pair
 
-  pub built-none : Built 64 0
-  built-none = record { at-most = omega arith; small = omega arith; bits = λ j h. absurd (omega arith) }
+module _ {boxes rows arrows users files table : List ℕ} (d : Tabled boxes rows arrows users files table) where
+  -- only numbers of arrows are in the table
+  there : (r k : ℕ) → r < setCount rows arrows users files → k < 512 → T (has table r k) → k < arrowCount arrows
+  there r k h l t = member-there rows arrows users files r k (subst T (d .members r k h l) t)
 
-  pub built-room : (b w : ℕ) → Built b w → 0 < b → w < 2 ^ 63
-  built-room b w s h = le-trans (s .small) (pow-mono {j = 63} (omega arith))
+  -- of arrow k, by the sets of user i, file j and mode m with sign s
+  module _ (m s i j r : ℕ) (hi : i < length users) (hj : j < length files)
+      (hr : modeSets rows arrows users files ≤ r) (lr : r < setCount rows arrows users files)
+      (em : (r - modeSets rows arrows users files) / 2 ≡ m) (es : (r - modeSets rows arrows users files) % 2 ≡ s) where
+    abbrev of : List ℕ
+    of = shared table (userSets rows arrows users files + i) (fileSets rows arrows users files + j) r
 
-  pub built-more : (b w : ℕ) (t : Bool) → 0 < b → Built b w → t ≡ g (b - 1) → Built (b - 1) (w * 2 + bit t)
-  built-more b w t h s e =
-      let l = s .at-most in
-      let up : 64 - (b - 1) ≡ 64 - b + 1 = omega arith in
-      record {
-        at-most = omega arith;
-        small = rw up (push-lt (64 - b) w t (s .small));
-        bits = go;
-      }
-    where
-      go : (j : ℕ) → j < 64 - (b - 1) → bitAt (w * 2 + bit t) j ≡ g (b - 1 + j)
-      go zero k = push-low w t ∙ e ∙ ap g (sym (add-zero (b - 1)))
-      go (suc j) k =
-          let l = s .at-most in
-          let at : b + j ≡ b - 1 + suc j = omega arith in
-          push-high w j t ∙ s .bits j (omega arith) ∙ ap g at
-
-  pub built-all : (w : ℕ) → Built 0 w → w ≡ wordOf g 64
-  built-all w s = word-unique g w (s .small) (λ b h. s .bits b h ∙ ap g (zero-add b))
+    -- the three tests
+    tests : (k : ℕ) → k < arrowCount arrows → has of 0 k ≡
+        ((around rows (arrowAt arrows k .tail) (getD users i 0) && around rows (arrowAt arrows k .head) (getD files j 0)) && (eqb (arrowAt arrows k .mode) m && eqb (arrowAt arrows k .sign) s))
+    unfolding signed
+    tests k l =
+        let few = d .few-arrows in
+        let a : userSets rows arrows users files + i < setCount rows arrows users files = omega arith in
+        let b : fileSets rows arrows users files + j < setCount rows arrows users files = omega arith in
+        let at-i : userSets rows arrows users files + i - userSets rows arrows users files ≡ i = omega arith in
+        let at-j : fileSets rows arrows users files + j - fileSets rows arrows users files ≡ j = omega arith in
+        rw (
+          shared-has table (userSets rows arrows users files + i) (fileSets rows arrows users files + j) r k (omega arith),
+          d .members (userSets rows arrows users files + i) k a (omega arith),
+          d .members (fileSets rows arrows users files + j) k b (omega arith),
+          d .members r k lr (omega arith),
+          member-user rows arrows users files k l (userSets rows arrows users files + i) (omega arith) (omega arith),
+          member-file rows arrows users files k l (fileSets rows arrows users files + j) (omega arith) (omega arith),
+          member-mode rows arrows users files k l r hr,
+          at-i,
+          at-j,
+          em,
+          es,
+        )

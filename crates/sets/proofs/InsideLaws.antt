@@ -1,5 +1,5 @@
 -- One set inside another, word by word. Assumes nothing.
-use mathlib.Core.Path.{_≡_}
+use mathlib.Core.Path.{_≡_, refl}
 use mathlib.Core.Bool.{Bool, true, false, not, _||_}
 use mathlib.Core.List.{List}
 use Prim.Native.Nat.{ℕ, _+_, _*_, _/_, _%_, _^_, _<_}
@@ -7,9 +7,10 @@ use native.Mathlib.Omega.{arith}
 use lib.Arith.{digits-div, digits-mod}
 use lib.Bits.{bitAnd}
 use lib.Dec.{T}
+use lib.ListN.{getD}
 use Rattle.tables.proofs.SearchLaws.{every-at, every-is}
-use Rattle.tables.proofs.Tests.{T-true, not-false}
-use Rattle.sets.specs.Sets.{bitAt, wordIn, has, inside}
+use Rattle.tables.proofs.Tests.{T-true, not-false, and-T, T-and}
+use Rattle.sets.specs.Sets.{bitAt, wordIn, has, inside, coversAll}
 use Rattle.sets.proofs.SetLaws.{and-inside, inside-and}
 
 -- bit b of word q is number q * 64 + b
@@ -51,3 +52,27 @@ module _ (set table : List ℕ) (r : ℕ) where
 
   pub not-within : (q : ℕ) → q < 8 → wordIn set 0 q < 2 ^ 64 → (Within q → ⊥) → inside set table r ≡ false
   not-within q l h n = not-false (inside set table r) (λ t. n (within-each t q l h))
+
+-- ---- for the crates above
+
+-- where number k of set r stands
+pub has-word : (table : List ℕ) (r k : ℕ) → has table r k ≡ bitAt (getD table (8 * r + k / 64) 0) (k % 64)
+unfolding has wordIn
+has-word table r k = refl
+
+module _ (table own opposite : List ℕ) (k : ℕ) where
+  pub covers-own : T (coversAll table own opposite k) → T (has own 0 k)
+  unfolding coversAll
+  covers-own t = and-T (has own 0 k) (inside opposite table k) t .0
+
+  pub covers-each : T (coversAll table own opposite k) → (j : ℕ) → j < 512 → T (has opposite 0 j) → T (has table k j)
+  unfolding coversAll inside
+  covers-each t j l =
+      follows (has opposite 0 j) (has table k j)
+      (every-at (λ j. not (has opposite 0 j) || has table k j) 512 (and-T (has own 0 k) (inside opposite table k) t .1) j l)
+
+  pub covers-is : T (has own 0 k) → ((j : ℕ) → j < 512 → T (has opposite 0 j) → T (has table k j)) → T (coversAll table own opposite k)
+  unfolding coversAll inside
+  covers-is t h =
+      T-and (has own 0 k) (inside opposite table k) t
+      (every-is (λ j. not (has opposite 0 j) || has table k j) 512 (λ j l. T-follows (has opposite 0 j) (has table k j) (h j l)))

@@ -98,28 +98,34 @@ wordOf-lt g (suc n) = rw (wordOf-push, ← add-one n) (push-lt n (wordOf (λ b. 
 
 module _ (g : ℕ → Bool) where
   -- w has the bits from k on
-  abbrev pub Built : ℕ → ℕ → Type 0
-  Built k w = w ≡ wordOf (λ b. g (k + b)) (64 - k)
+  pub record Built (k w : ℕ) : Type 0 where
+    pub at-most : k ≤ 64
+    pub is-word : w ≡ wordOf (λ b. g (k + b)) (64 - k)
 
   pub built-none : Built 64 0
   unfolding wordOf
-  built-none = refl
+  built-none = record { at-most = omega arith; is-word = refl }
 
   -- there is room for one more bit
   pub built-lt : (k w : ℕ) → 0 < k → Built k w → w < 2 ^ 63
-  built-lt k w h e = rw e (lt-of-lt-of-le (wordOf-lt (λ b. g (k + b)) (64 - k)) (pow-mono {j = 63} (omega arith)))
+  built-lt k w h s = rw (s .is-word) (lt-of-lt-of-le (wordOf-lt (λ b. g (k + b)) (64 - k)) (pow-mono {j = 63} (omega arith)))
 
-  pub built-more : (k w : ℕ) → 0 < k → k ≤ 64 → Built k w → Built (k - 1) (w * 2 + bit (g (k - 1)))
-  built-more k w h l e =
+  pub built-more : (k w : ℕ) (t : Bool) → 0 < k → Built k w → t ≡ g (k - 1) → Built (k - 1) (w * 2 + bit t)
+  built-more k w t h s e =
+      let l = s .at-most in
       let n : 64 - (k - 1) ≡ suc (64 - k) = omega arith in
-      rw n
-      (ap₂ (λ (x : ℕ) (t : Bool). x * 2 + bit t)
-      (e ∙ ap (λ (f : ℕ → Bool). wordOf f (64 - k)) (fun-ext (λ b. ap g (omega arith))))
-      (ap g (omega arith))
-      ∙ sym (wordOf-push (λ b. g (k - 1 + b)) (64 - k)))
+      record {
+        at-most = omega arith;
+        is-word =
+          rw n
+          (ap₂ (λ (x : ℕ) (t : Bool). x * 2 + bit t)
+          (s .is-word ∙ ap (λ (f : ℕ → Bool). wordOf f (64 - k)) (fun-ext (λ b. ap g (omega arith))))
+          (e ∙ ap g (omega arith))
+          ∙ sym (wordOf-push (λ b. g (k - 1 + b)) (64 - k)));
+      }
 
   pub built-all : (w : ℕ) → Built 0 w → w ≡ wordOf g 64
-  built-all w e = e ∙ ap (λ (f : ℕ → Bool). wordOf f 64) (fun-ext (λ b. ap g (zero-add b)))
+  built-all w s = s .is-word ∙ ap (λ (f : ℕ → Bool). wordOf f 64) (fun-ext (λ b. ap g (zero-add b)))
 
 -- ---- a word that is 0
 

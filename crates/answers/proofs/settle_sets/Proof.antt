@@ -1,64 +1,53 @@
-use native.Mathlib.Omega.{arith}
+-- `answers::settle_sets` meets its contract: what the four searches find decides the answer. Assumes nothing.
 use borrow.Author.Needs.{needs}
+use Rattle.sets.proofs.SetLaws.{next-some, next-none}
+use Rattle.answers.specs.Meaning.{settle}
 use Rattle.answers.proofs.settle_sets.Statement.{statement}
 use Rattle.answers.proofs.settle_sets.Tie as tie
-use Rattle.answers.proofs.settle_sets.Reads as reads
-use Rattle.answers.proofs.settle_sets.Lts as lts
-use Rattle.sets.proofs.first_over.Reads as first-over-reads
-use Rattle.sets.proofs.next_in.Reads as next-in-reads
-use Rattle.tables.proofs.narrow.Reads as narrow-reads
 
--- src/lib.rt:555:9
 first-over-requires : tie.Need-first-over-requires
 first-over-requires c κs = search needs
 
--- src/lib.rt:557:31
 narrow-requires : tie.Need-narrow-requires
 narrow-requires c κs = search needs
 
--- src/lib.rt:557:9
 returns : tie.Need-returns
-returns c = search needs
+unfolding settle
+returns c = rw (next-some _ _ (c .before .before .first-over .ensures) (c .before .if1 .taken), c .narrow .ensures)
 
--- src/lib.rt:559:9
 first-over-requires-2 : tie.Need-first-over-requires-2
 first-over-requires-2 c κs = search needs
 
--- src/lib.rt:561:30
 narrow-requires-2 : tie.Need-narrow-requires-2
 narrow-requires-2 c κs = search needs
 
--- src/lib.rt:561:9
 returns-2 : tie.Need-returns-2
-returns-2 c = search needs
+unfolding settle
+returns-2 c = rw (next-none _ _ (c .before .before .before .before .first-over .ensures) (c .before .before .before .if1 .left), next-some _ _ (c .before .before .first-over2 .ensures) (c .before .if2 .taken), c .narrow2 .ensures)
 
--- src/lib.rt:563:9
 next-in-requires : tie.Need-next-in-requires
 next-in-requires c κs = search needs
 
--- src/lib.rt:565:9
 returns-3 : tie.Need-returns-3
-returns-3 c = search needs
+unfolding settle
+returns-3 c = rw (next-none _ _ (c .before .before .before .before .before .first-over .ensures) (c .before .before .before .before .if1 .left), next-none _ _ (c .before .before .before .first-over2 .ensures) (c .before .before .if2 .left), next-none _ _ (c .before .next-in .ensures) (c .if3 .taken))
 
--- src/lib.rt:567:9
 next-in-requires-2 : tie.Need-next-in-requires-2
 next-in-requires-2 c κs = search needs
 
--- src/lib.rt:569:9
 returns-4 : tie.Need-returns-4
-returns-4 c = search needs
+unfolding settle
+returns-4 c = rw (next-none _ _ (c .before .before .before .before .before .before .before .first-over .ensures) (c .before .before .before .before .before .before .if1 .left), next-none _ _ (c .before .before .before .before .before .first-over2 .ensures) (c .before .before .before .before .if2 .left), next-some _ _ (c .before .before .before .next-in .ensures) (c .before .before .if3 .left), next-none _ _ (c .before .next-in2 .ensures) (c .if4 .taken))
 
--- src/lib.rt:571:20
 narrow-requires-3 : tie.Need-narrow-requires-3
 narrow-requires-3 c κs = search needs
 
--- src/lib.rt:571:31
 narrow-requires-4 : tie.Need-narrow-requires-4
 narrow-requires-4 c κs = search needs
 
--- src/lib.rt:551:1
 returns-5 : tie.Need-returns-5
-returns-5 c = search needs
+unfolding settle
+returns-5 c = rw (next-none _ _ (c .before .before .before .before .before .before .before .before .before .first-over .ensures) (c .before .before .before .before .before .before .before .before .if1 .left), next-none _ _ (c .before .before .before .before .before .before .before .first-over2 .ensures) (c .before .before .before .before .before .before .if2 .left), next-some _ _ (c .before .before .before .before .before .next-in .ensures) (c .before .before .before .before .if3 .left), next-some _ _ (c .before .before .before .next-in2 .ensures) (c .before .before .if4 .left), c .before .narrow3 .ensures, c .narrow4 .ensures)
 
 pub settle-sets-spec : {M : Type 1} → statement M
 settle-sets-spec =

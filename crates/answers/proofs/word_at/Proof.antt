@@ -4,7 +4,7 @@ use native.Mathlib.Omega.{arith}
 use borrow.Author.Needs.{needs}
 use Prim.Native.Nat.{_+_, _*_, _/_, _%_}
 use Rattle.answers.specs.Table.{member, setWord}
-use Rattle.answers.proofs.TableLaws.{Built, built-none, built-room, built-more, built-all}
+use Rattle.sets.proofs.SetLaws.{Built, built-none, built-lt, built-more, built-all}
 use Rattle.answers.proofs.word_at.Statement.{statement}
 use Rattle.answers.proofs.word_at.Tie as tie
 
@@ -30,7 +30,7 @@ is-member-requires : tie.Need-is-member-requires Inv-loop μ-loop
 is-member-requires c κs = search needs
 
 push-requires : tie.Need-push-requires Inv-loop μ-loop
-push-requires c κs = built-room _ _ _ (c .before .before .loop .inv) (c .before .loop-test .taken)
+push-requires c κs = built-lt _ _ _ (c .before .loop-test .taken) (c .before .before .loop .inv)
 
 loop-less : tie.Need-loop-less Inv-loop μ-loop
 loop-less c = omega (arith, c .before .before .loop-test .taken)
