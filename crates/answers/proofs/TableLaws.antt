@@ -14,7 +14,8 @@ use Rattle.tables.specs.Rows.{user, file, arrowCount, arrowAt}
 use Rattle.tables.specs.Atoms.{atoms}
 use Rattle.tables.specs.Faults.{SoundRows, SoundArrows}
 use Rattle.tables.proofs.Tests.{or-T, and-T, T-and, T-eqb, T-true, true-T, not-false}
-use Rattle.tables.proofs.SearchLaws.{every-at, every-is}
+use Rattle.tables.proofs.SearchLaws.{lowest-some, lowest-none}
+use Rattle.tables.proofs.SelectLaws.{lowest-is, lowest-nothing}
 use Rattle.tables.proofs.BufferLaws.{written-at, written-length, build-at, build-length}
 use Rattle.tables.proofs.AtomPlaces.{atoms-found, atom-there}
 use Rattle.tables.proofs.AtomSides.{atoms-apart}
@@ -23,7 +24,7 @@ use Rattle.containment.specs.Scratch.{Says}
 use Rattle.sets.specs.Sets.{has, shared, coversAll}
 use Rattle.sets.proofs.SetLaws.{wordOf-bit, shared-has}
 use Rattle.sets.proofs.InsideLaws.{has-word, covers-own, covers-each, covers-is}
-use Rattle.answers.specs.Meaning.{reaches, overrides, hits, certifies}
+use Rattle.answers.specs.Meaning.{positive, negative, reaches, overrides, settle, hits, certifies, answer}
 use Rattle.answers.specs.Table.{beats, signed, member, setWord, setWords, setCount, userSets, fileSets, modeSets, Source, Tabled}
 use Rattle.answers.proofs.ReadyLaws.{sound-within}
 use Rattle.answers.proofs.AnswerLaws.{hit, hit-mode, hit-reaches, hit-sign, certifies-hits, certifies-over, certifies-is}
@@ -33,6 +34,18 @@ below {m} {n} h = T-true (ltb m n) (lt→ltb m n h)
 
 above : {m n : ℕ} → n ≤ m → ltb m n ≡ false
 above {m} {n} h = not-false (ltb m n) (λ t. let l = ltb→lt m n t in absurd (omega arith))
+
+-- two tests, each below its bound, that hold at the same numbers
+lowest-same : (p q : ℕ → Bool) (n m : ℕ) → ((k : ℕ) → k < n → T (p k) → (k < m) × T (q k)) → ((k : ℕ) → k < m → T (q k) → (k < n) × T (p k))
+    → lowest p n ≡ lowest q m
+lowest-same p q n m f g = go (lowest q m) refl
+  where
+    go : (x : Option ℕ) → lowest q m ≡ x → lowest p n ≡ x
+    go none e = lowest-nothing p n (λ k l t. lowest-none q m e k (f k l t .0) (f k l t .1))
+    go (some k) e =
+        let s = lowest-some q m k e in
+        let h = g k (s .0) (s .1) in
+        lowest-is p n k (h .0) (h .1) (λ j l t. s .2 j l (f j (omega (arith, h .0)) t .1))
 
 -- ---- what the sets are
 
@@ -99,18 +112,23 @@ module _ {boxes rows arrows users files table : List ℕ} (d : Tabled boxes rows
   there : (r k : ℕ) → r < setCount rows arrows users files → k < 512 → T (has table r k) → k < arrowCount arrows
   there r k h l t = member-there rows arrows users files r k (subst T (d .members r k h l) t)
 
+  -- set r has the arrows of mode m and sign s
+  pub record OfMode (m s r : ℕ) : Type 0 where
+    pub after : modeSets rows arrows users files ≤ r
+    pub before : r < setCount rows arrows users files
+    pub mode-is : (r - modeSets rows arrows users files) / 2 ≡ m
+    pub sign-is : (r - modeSets rows arrows users files) % 2 ≡ s
+
   -- of arrow k, by the sets of user i, file j and mode m with sign s
-  module _ (m s i j r : ℕ) (hi : i < length users) (hj : j < length files)
-      (hr : modeSets rows arrows users files ≤ r) (lr : r < setCount rows arrows users files)
-      (em : (r - modeSets rows arrows users files) / 2 ≡ m) (es : (r - modeSets rows arrows users files) % 2 ≡ s) where
-    abbrev of : List ℕ
-    of = shared table (userSets rows arrows users files + i) (fileSets rows arrows users files + j) r
+  module _ (m i j : ℕ) (hi : i < length users) (hj : j < length files) where
+    abbrev of : ℕ → List ℕ
+    of r = shared table (userSets rows arrows users files + i) (fileSets rows arrows users files + j) r
 
     -- the three tests
-    tests : (k : ℕ) → k < arrowCount arrows → has of 0 k ≡
+    tests : (s r : ℕ) → OfMode m s r → (k : ℕ) → k < arrowCount arrows → has (of r) 0 k ≡
         ((around rows (arrowAt arrows k .tail) (getD users i 0) && around rows (arrowAt arrows k .head) (getD files j 0)) && (eqb (arrowAt arrows k .mode) m && eqb (arrowAt arrows k .sign) s))
     unfolding signed
-    tests k l =
+    tests s r o k l =
         let few = d .few-arrows in
         let a : userSets rows arrows users files + i < setCount rows arrows users files = omega arith in
         let b : fileSets rows arrows users files + j < setCount rows arrows users files = omega arith in
@@ -120,12 +138,86 @@ module _ {boxes rows arrows users files table : List ℕ} (d : Tabled boxes rows
           shared-has table (userSets rows arrows users files + i) (fileSets rows arrows users files + j) r k (omega arith),
           d .members (userSets rows arrows users files + i) k a (omega arith),
           d .members (fileSets rows arrows users files + j) k b (omega arith),
-          d .members r k lr (omega arith),
+          d .members r k (o .before) (omega arith),
           member-user rows arrows users files k l (userSets rows arrows users files + i) (omega arith) (omega arith),
           member-file rows arrows users files k l (fileSets rows arrows users files + j) (omega arith) (omega arith),
-          member-mode rows arrows users files k l r hr,
+          member-mode rows arrows users files k l r (o .after),
           at-i,
           at-j,
-          em,
-          es,
+          o .mode-is,
+          o .sign-is,
         )
+
+    -- arrow k is in the set they share exactly if it reaches the pair
+    pub hit-has : (s r : ℕ) → OfMode m s r → (k : ℕ) → k < arrowCount arrows
+        → T (hits rows arrows m s (getD users i 0) (getD files j 0) k) → T (has (of r) 0 k)
+    unfolding reaches
+    hit-has s r o k l h =
+        let x = hit-reaches rows arrows m (getD users i 0) (getD files j 0) s k h in
+        subst T (sym (tests s r o k l))
+        (T-and (around rows (arrowAt arrows k .tail) (getD users i 0) && around rows (arrowAt arrows k .head) (getD files j 0)) _ x
+        (T-and (eqb (arrowAt arrows k .mode) m) (eqb (arrowAt arrows k .sign) s)
+        (T-eqb (hit-mode rows arrows m (getD users i 0) (getD files j 0) s k h))
+        (T-eqb (hit-sign rows arrows m (getD users i 0) (getD files j 0) s k h))))
+
+    pub has-hit : (s r : ℕ) → OfMode m s r → (k : ℕ) → k < 512 → T (has (of r) 0 k)
+        → (k < arrowCount arrows) × T (hits rows arrows m s (getD users i 0) (getD files j 0) k)
+    unfolding reaches
+    has-hit s r o k h t =
+        let a = userSets rows arrows users files + i in
+        let b = fileSets rows arrows users files + j in
+        let both = and-T (has table a k && has table b k) (has table r k) (subst T (shared-has table a b r k h) t) .0 in
+        let l = there a k (omega arith) h (and-T (has table a k) (has table b k) both .0) in
+        let parts = and-T (around rows (arrowAt arrows k .tail) (getD users i 0) && around rows (arrowAt arrows k .head) (getD files j 0)) _ (subst T (tests s r o k l) t) in
+        let kind = and-T (eqb (arrowAt arrows k .mode) m) (eqb (arrowAt arrows k .sign) s) (parts .1) in
+        (l, hit rows arrows m (getD users i 0) (getD files j 0) s k (eqb→eq _ _ (kind .0)) (eqb→eq _ _ (kind .1)) (parts .0))
+
+    -- and it is a certificate exactly if the set of what it overrides has all that the opposite arrows share
+    module _ (s o r q : ℕ) (own : OfMode m s r) (opposite : OfMode m o q) where
+      set-in : (k : ℕ) → k < arrowCount arrows → k < setCount rows arrows users files
+      set-in k l = omega arith
+
+      covers-certifies : (k : ℕ) → k < 512 → T (coversAll table (of r) (of q) k)
+          → (k < arrowCount arrows) × T (certifies rows arrows m s o (getD users i 0) (getD files j 0) k)
+      unfolding beats
+      covers-certifies k h t =
+          let x = has-hit s r own k h (covers-own table (of r) (of q) k t) in
+          let few = d .few-arrows in (
+            x .0,
+            certifies-is rows arrows m (getD users i 0) (getD files j 0) s o k (x .1)
+            (λ n l y.
+            and-T (eqb (arrowAt arrows k .mode) (arrowAt arrows n .mode)) _
+            (subst T (d .members k n (set-in k (x .0)) (omega arith) ∙ member-arrow rows arrows users files n l k (x .0))
+            (covers-each table (of r) (of q) k t n (omega arith) (hit-has o q opposite n l y))) .1),
+          )
+
+      certifies-covers : (k : ℕ) → k < arrowCount arrows → T (certifies rows arrows m s o (getD users i 0) (getD files j 0) k)
+          → (k < 512) × T (coversAll table (of r) (of q) k)
+      unfolding beats
+      certifies-covers k l c =
+          let few = d .few-arrows in
+          let h = certifies-hits rows arrows m (getD users i 0) (getD files j 0) s o k c in (
+            omega arith,
+            covers-is table (of r) (of q) k (hit-has s r own k l h)
+            (λ n g t.
+            let y = has-hit o q opposite n g t in
+            subst T (sym (d .members k n (set-in k l) g ∙ member-arrow rows arrows users files n (y .0) k l))
+            (T-and (eqb (arrowAt arrows k .mode) (arrowAt arrows n .mode)) _
+            (T-eqb (hit-mode rows arrows m (getD users i 0) (getD files j 0) s k h ∙ sym (hit-mode rows arrows m (getD users i 0) (getD files j 0) o n (y .1))))
+            (certifies-over rows arrows m (getD users i 0) (getD files j 0) s o k c n (y .0) (y .1)))),
+          )
+
+      pub certificate-is : lowest (coversAll table (of r) (of q)) 512
+          ≡ lowest (certifies rows arrows m s o (getD users i 0) (getD files j 0)) (arrowCount arrows)
+      certificate-is = lowest-same _ _ _ _ covers-certifies certifies-covers
+
+    pub hit-is : (s r : ℕ) → OfMode m s r
+        → lowest (has (of r) 0) 512 ≡ lowest (hits rows arrows m s (getD users i 0) (getD files j 0)) (arrowCount arrows)
+    hit-is s r o = let few = d .few-arrows in lowest-same _ _ _ _ (has-hit s r o) (λ k l h. (omega arith, hit-has s r o k l h))
+
+    pub answer-is : (r q : ℕ) → OfMode m positive r → OfMode m negative q
+        → settle (lowest (coversAll table (of r) (of q)) 512) (lowest (coversAll table (of q) (of r)) 512) (lowest (has (of r) 0) 512) (lowest (has (of q) 0) 512)
+        ≡ answer rows arrows m (getD users i 0) (getD files j 0)
+    unfolding answer
+    answer-is r q p n =
+        rw (certificate-is positive negative r q p n, certificate-is negative positive q r n p, hit-is positive r p, hit-is negative q n)
