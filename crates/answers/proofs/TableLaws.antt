@@ -119,6 +119,12 @@ module _ {boxes rows arrows users files table : List ℕ} (d : Tabled boxes rows
     pub mode-is : (r - modeSets rows arrows users files) / 2 ≡ m
     pub sign-is : (r - modeSets rows arrows users files) % 2 ≡ s
 
+  pub of-positive : (m w : ℕ) → w ≡ m → m < 8 → OfMode m positive (modeSets rows arrows users files + 2 * w + 1)
+  of-positive m w e h = record { after = omega arith; before = omega arith; mode-is = omega arith; sign-is = omega arith }
+
+  pub of-negative : (m w : ℕ) → w ≡ m → m < 8 → OfMode m negative (modeSets rows arrows users files + 2 * w)
+  of-negative m w e h = record { after = omega arith; before = omega arith; mode-is = omega arith; sign-is = omega arith }
+
   -- of arrow k, by the sets of user i, file j and mode m with sign s
   module _ (m i j : ℕ) (hi : i < length users) (hj : j < length files) where
     abbrev of : ℕ → List ℕ

@@ -10,11 +10,11 @@ use native.Mathlib.Nat.{zero-add, pow-suc, mul-assoc, div-add-mod', le-of-suc-le
 use lib.Arith.{digits-lt, digits-div, digits-mod, lt-one}
 use lib.Bits.{bitAnd, and-step, and-shr, and-le-l}
 use lib.Dec.{T, eqb, eqb→eq, lit<}
-use lib.ListN.{getD}
+use lib.ListN.{length, getD}
 use lib.Pow.{shr-lt, pow-mono}
 use Rattle.tables.specs.Search.{lowest, bit}
 use Rattle.tables.proofs.SelectLaws.{lowest-is, lowest-nothing}
-use Rattle.tables.proofs.BufferLaws.{build-at}
+use Rattle.tables.proofs.BufferLaws.{build-at, build-length}
 use Rattle.tables.proofs.Tests.{T-same, T-and, and-T, true-T, not-false}
 use Rattle.sets.specs.Sets.{bitAt, wordOf, wordIn, has, shared, NextAt}
 
@@ -172,6 +172,10 @@ inside-and n x y h s =
     ∙ T-same (bitAt x b && bitAt y b) (bitAt x b) (λ t. and-T (bitAt x b) (bitAt y b) t .0) (λ t. T-and (bitAt x b) (bitAt y b) t (s b l t)))
 
 -- ---- what three sets share
+
+pub shared-length : (table : List ℕ) (a b c : ℕ) → length (shared table a b c) ≡ 8
+unfolding shared
+shared-length table a b c = build-length _ 8
 
 pub shared-has : (table : List ℕ) (a b c k : ℕ) → k < 512 → has (shared table a b c) 0 k ≡ ((has table a k && has table b k) && has table c k)
 unfolding has shared wordIn

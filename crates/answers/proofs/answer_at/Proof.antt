@@ -1,76 +1,81 @@
+-- `answers::answer_at` meets its contract: the sets of the place's user and file, and of the mode's two signs, give the arrows that
+-- reach the pair. Assumes nothing.
+use mathlib.Core.Path.{sym}
+use Prim.Native.Nat.{_/_, _%_, _<_}
 use native.Mathlib.Omega.{arith}
 use borrow.Author.Needs.{needs}
+use lib.ListN.{length}
+use Rattle.sets.proofs.SetLaws.{shared-length}
+use Rattle.answers.specs.Pairs.{answerAt}
+use Rattle.answers.proofs.PairLaws.{place-there, user-read, file-read}
+use Rattle.answers.proofs.TableLaws.{answer-is, of-positive, of-negative}
 use Rattle.answers.proofs.answer_at.Statement.{statement}
 use Rattle.answers.proofs.answer_at.Tie as tie
-use Rattle.answers.proofs.answer_at.Reads as reads
-use Rattle.answers.proofs.answer_at.Lts as lts
-use Rattle.answers.proofs.settle_sets.Reads as settle-sets-reads
-use Rattle.sets.proofs.share.Reads as share-reads
-use Rattle.tables.proofs.wide.Reads as wide-reads
 
--- src/lib.rt:589:20
+-- the place's user and file
+placed : (c : tie.Start) → let a = c .args in (a .p / length (a .files .now) < length (a .users .now)) × (a .p % length (a .files .now) < length (a .files .now))
+placed c = let a = c .args in
+    place-there (a .boxes .now) (a .rows .now) (a .users .now) (a .files .now) (c .pre .0 .users-are) (c .pre .0 .files-are) (a .p) (c .pre .2)
+
 add-of-files : tie.Need-add-of-files
 add-of-files c = search needs
 
--- src/lib.rt:590:19
 add-of-mode : tie.Need-add-of-mode
 add-of-mode c = search needs
 
--- src/lib.rt:590:48
 wide-requires : tie.Need-wide-requires
 wide-requires c κs = search needs
 
--- src/lib.rt:590:44
 mul-of-mode : tie.Need-mul-of-mode
 mul-of-mode c = search needs
 
--- src/lib.rt:590:19
 add-of-mode-2 : tie.Need-add-of-mode-2
 add-of-mode-2 c = search needs
 
--- src/lib.rt:591:27
 div-user : tie.Need-div-user
-div-user c = search needs
+div-user c = omega (arith, placed (c .before .before .before .before .before .before .before))
 
--- src/lib.rt:591:16
 add-user : tie.Need-add-user
-add-user c = search needs
+add-user c = let d = c .before .before .before .before .before .before .before .pre .0 in omega (arith, placed (c .before .before .before .before .before .before .before), d .few-arrows, d .few-sets)
 
--- src/lib.rt:592:27
 rem-file : tie.Need-rem-file
-rem-file c = search needs
+rem-file c = omega (arith, placed (c .before .before .before .before .before .before .before))
 
--- src/lib.rt:592:16
 add-file : tie.Need-add-file
-add-file c = search needs
+add-file c = let d = c .before .before .before .before .before .before .before .pre .0 in omega (arith, placed (c .before .before .before .before .before .before .before), d .few-arrows, d .few-sets)
 
--- src/lib.rt:593:39
 add-share : tie.Need-add-share
 add-share c = search needs
 
--- src/lib.rt:593:14
 share-requires : tie.Need-share-requires
-share-requires c κs = search needs
+share-requires c κs = let start = c .before .before .before .before .before .before .before in let d = start .pre .0 in let e = c .wide .ensures in
+    (omega (arith, placed start, d .few-sets), omega (arith, placed start, d .few-sets), omega (arith, start .pre .1, d .few-sets))
 
--- src/lib.rt:594:14
 share-requires-2 : tie.Need-share-requires-2
-share-requires-2 c κs = search needs
+share-requires-2 c κs = let start = c .before .before .before .before .before .before .before .before in let d = start .pre .0 in let e = c .before .wide .ensures in
+    (omega (arith, placed start, d .few-sets), omega (arith, placed start, d .few-sets), omega (arith, start .pre .1, d .few-sets))
 
--- src/lib.rt:595:24
 slice-aggregate-settle-sets : tie.Need-slice-aggregate-settle-sets
-slice-aggregate-settle-sets c = search needs
+slice-aggregate-settle-sets c = rw (c .before .before .share .ensures) (sym (shared-length _ _ _ _))
 
--- src/lib.rt:595:29
 slice-aggregate-settle-sets-2 : tie.Need-slice-aggregate-settle-sets-2
-slice-aggregate-settle-sets-2 c = search needs
+slice-aggregate-settle-sets-2 c = rw (c .before .before .share2 .ensures) (sym (shared-length _ _ _ _))
 
--- src/lib.rt:595:5
 settle-sets-requires : tie.Need-settle-sets-requires
-settle-sets-requires c κs = search needs
+settle-sets-requires c κs = (c .before .before .before .before .before .before .before .before .before .before .before .pre .0 .room, rw (c .before .before .before .share .ensures, shared-length) (omega arith), rw (c .before .before .share2 .ensures, shared-length) (omega arith))
 
--- src/lib.rt:575:1
 returns : tie.Need-returns
-returns c = search needs
+unfolding answerAt
+returns c = let start = c .before .before .before .before .before .before .before .before .before .before .before .before in
+    let a = start .args in
+    rw (
+      c .settle-sets .ensures,
+      c .before .before .before .before .share .ensures,
+      c .before .before .before .share2 .ensures,
+      answer-is (start .pre .0) (a .mode) _ _ (placed start .0) (placed start .1) _ _ (of-positive (start .pre .0) _ _ (c .before .before .before .before .before .wide .ensures) (start .pre .1)) (of-negative (start .pre .0) _ _ (c .before .before .before .before .before .wide .ensures) (start .pre .1)),
+      user-read (a .boxes .now) (a .rows .now) (a .users .now) (a .files .now) (start .pre .0 .users-are) (start .pre .0 .files-are) (a .p),
+      file-read (a .boxes .now) (a .rows .now) (a .users .now) (a .files .now) (start .pre .0 .users-are) (start .pre .0 .files-are) (a .p),
+    )
 
 pub answer-at-spec : {M : Type 1} → statement M
 answer-at-spec =

@@ -2,11 +2,6 @@ use native.Mathlib.Omega.{arith}
 use borrow.Author.Needs.{needs}
 use Rattle.answers.proofs.fill_pairs.Statement.{statement}
 use Rattle.answers.proofs.fill_pairs.Tie as tie
-use Rattle.answers.proofs.fill_pairs.Reads as reads
-use Rattle.answers.proofs.fill_pairs.Lts as lts
-use Rattle.answers.proofs.answer_at.Reads as answer-at-reads
-use Rattle.answers.proofs.byte_of.Reads as byte-of-reads
-use Rattle.answers.proofs.number_of.Reads as number-of-reads
 
 abbrev Inv-loop : tie.InvT-loop
 Inv-loop boxes rows arrows users files table mode bytes₀ numbers₀ p₀ p-end bytes numbers p = ?
@@ -14,59 +9,45 @@ Inv-loop boxes rows arrows users files table mode bytes₀ numbers₀ p₀ p-end
 abbrev μ-loop : tie.MeasureT-loop
 μ-loop boxes rows arrows users files table mode bytes₀ numbers₀ p₀ p-end bytes numbers p = ?
 
--- src/lib.rt:746:17
 mul-p-end : tie.Need-mul-p-end Inv-loop μ-loop
 mul-p-end c = search needs
 
--- src/lib.rt:746:5
 loop-holds : tie.Need-loop-holds Inv-loop μ-loop
 loop-holds c = search needs
 
--- src/lib.rt:747:13
 answer-at-requires : tie.Need-answer-at-requires Inv-loop μ-loop
 answer-at-requires c κs = search needs
 
--- src/lib.rt:748:20
 byte-of-requires : tie.Need-byte-of-requires Inv-loop μ-loop
 byte-of-requires c κs = search needs
 
--- src/lib.rt:748:9
 slice-write-bytes : tie.Need-slice-write-bytes Inv-loop μ-loop
 slice-write-bytes c = search needs
 
--- src/lib.rt:749:22
 number-of-requires : tie.Need-number-of-requires Inv-loop μ-loop
 number-of-requires c κs = search needs
 
--- src/lib.rt:749:9
 mul-numbers : tie.Need-mul-numbers Inv-loop μ-loop
 mul-numbers c = search needs
 
--- src/lib.rt:749:9
 slice-write-numbers : tie.Need-slice-write-numbers Inv-loop μ-loop
 slice-write-numbers c = search needs
 
--- src/lib.rt:746:9
 add-p : tie.Need-add-p Inv-loop μ-loop
 add-p c = search needs
 
--- src/lib.rt:746:5
 loop-less : tie.Need-loop-less Inv-loop μ-loop
 loop-less c = search needs
 
--- src/lib.rt:746:5
 loop-again : tie.Need-loop-again Inv-loop μ-loop
 loop-again c = search needs
 
--- src/lib.rt:732:1
 same-length : tie.Need-same-length Inv-loop μ-loop
 same-length c = search needs
 
--- src/lib.rt:732:1
 same-length-2 : tie.Need-same-length-2 Inv-loop μ-loop
 same-length-2 c = search needs
 
--- src/lib.rt:732:1
 returns : tie.Need-returns Inv-loop μ-loop
 returns c = search needs
 
