@@ -17,7 +17,7 @@ use Rattle.tables.specs.declared.Verdict.{Verdict}
 use Rattle.tables.specs.declared.Verdict.the-variants.{Passed, Refused as Stopped}
 use Rattle.tables.proofs.Tests.{and-T}
 use Rattle.tables.proofs.SearchLaws.{given-none}
-use Rattle.tables.proofs.TableLaws.{both-none, not-not, room-passed}
+use Rattle.tables.proofs.TableLaws.{both-none, not-not, mode-passed, room-passed}
 use Rattle.tables.proofs.AtomPlaces.{atom-there}
 use Rattle.tables.proofs.Verdicts.{passed, refused, either-verdict, orElse-assoc}
 use Rattle.containment.specs.Contains.{loopFault}
@@ -99,13 +99,18 @@ module _ (boxes rows arrows s : List ℕ) (m : ℕ) where
 
     -- where they pass, the buffers suffice
     pub rest-rooms : rest ≡ none
-        → (scratchFault (length boxes) s ≡ none) × (pairCount boxes rows ≤ length bytes) × (pairCount boxes rows ≤ length numbers)
+        → (scratchFault (length boxes) s ≡ none) × (pairCount boxes rows ≤ length bytes) × (pairCount boxes rows ≤ length numbers) × (m < 8)
     rest-rooms e =
         let first = roomFault 1 (length bytes) (pairCount boxes rows) in
         let last = roomFault 2 (length numbers) (pairCount boxes rows) in
-        let a = both-none (scratchFault (length boxes) s) (orElse first last) (both-none (modeFault m) _ e .1) in
-        let b = both-none first last (a .1) in
-        (a .0, room-passed 1 (length bytes) (pairCount boxes rows) (b .0), room-passed 2 (length numbers) (pairCount boxes rows) (b .1))
+        let x = both-none (modeFault m) (orElse (scratchFault (length boxes) s) (orElse first last)) e in
+        let a = both-none (scratchFault (length boxes) s) (orElse first last) (x .1) in
+        let b = both-none first last (a .1) in (
+          a .0,
+          room-passed 1 (length bytes) (pairCount boxes rows) (b .0),
+          room-passed 2 (length numbers) (pairCount boxes rows) (b .1),
+          mode-passed m (x .0),
+        )
 
     -- what the call answers, and the scratch and the two buffers at the end
     abbrev pub MatrixEnds : Verdict → List ℕ → List ℕ → List ℕ → Type 0

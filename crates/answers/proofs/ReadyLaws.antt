@@ -26,9 +26,9 @@ pub room : {l : List ℕ} (n : ℕ) → l ≡ zeros n → n ≤ length l
 room n e = let len = ap length e ∙ zeros-length n in omega arith
 
 pub boxes-within : (boxes rows : List ℕ) (s : ℕ) (old : List ℕ) (count : ℕ) (out : List ℕ)
-    → SoundRows boxes rows → old ≡ zeros 256 → Wrote (atoms boxes rows s) old count out → count ≤ length out
-boxes-within boxes rows s old count out sound e w =
-    part-within (atoms boxes rows s) old count out w (omega (arith, room 256 e, atoms-most boxes rows s, sound .few-boxes))
+    → SoundRows boxes rows → 256 ≤ length old → Wrote (atoms boxes rows s) old count out → count ≤ length out
+boxes-within boxes rows s old count out sound l w =
+    part-within (atoms boxes rows s) old count out w (omega (arith, atoms-most boxes rows s, sound .few-boxes))
 
 pub mode-within : (arrows : List ℕ) (m : ℕ) (old : List ℕ) (count : ℕ) (out : List ℕ)
     → arrowCount arrows ≤ 512 → old ≡ zeros 512 → Wrote (modeArrows arrows m) old count out → count ≤ length out

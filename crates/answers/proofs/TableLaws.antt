@@ -7,16 +7,17 @@ use mathlib.Core.Option.{Option, none, some}
 use Prim.Native.Nat.{ℕ, zero, suc, _+_, _-_, _*_, _/_, _%_, _^_, _<_, _≤_}
 use native.Mathlib.Omega.{arith}
 use lib.Dec.{T, T-not, eqb, ltb, eqb→eq, ltb→lt, lt→ltb, nltb→le}
-use lib.ListN.{length, getD}
+use lib.ListN.{length, getD, take}
 use Rattle.tables.specs.Search.{lowest, bit}
-use Rattle.tables.specs.Buffers.{build, written}
+use Rattle.tables.specs.Buffers.{build, written, zeros}
 use Rattle.tables.specs.Rows.{user, file, arrowCount, arrowAt}
-use Rattle.tables.specs.Atoms.{atoms}
+use Rattle.tables.specs.Atoms.{atoms, pairCount}
 use Rattle.tables.specs.Faults.{SoundRows, SoundArrows}
 use Rattle.tables.proofs.Tests.{or-T, and-T, T-and, T-eqb, T-true, true-T, not-false}
 use Rattle.tables.proofs.SearchLaws.{lowest-some, lowest-none}
 use Rattle.tables.proofs.SelectLaws.{lowest-is, lowest-nothing}
 use Rattle.tables.proofs.BufferLaws.{written-at, written-length, build-at, build-length}
+use Rattle.tables.proofs.PartLaws.{part-is, part-length}
 use Rattle.tables.proofs.AtomPlaces.{atoms-found, atom-there}
 use Rattle.tables.proofs.AtomSides.{atoms-apart}
 use Rattle.containment.specs.Contains.{around}
@@ -25,8 +26,10 @@ use Rattle.sets.specs.Sets.{has, shared, coversAll}
 use Rattle.sets.proofs.SetLaws.{wordOf-bit, shared-has}
 use Rattle.sets.proofs.InsideLaws.{has-word, covers-own, covers-each, covers-is}
 use Rattle.answers.specs.Meaning.{positive, negative, reaches, overrides, settle, hits, certifies, answer}
-use Rattle.answers.specs.Table.{beats, signed, member, setWord, setWords, setCount, userSets, fileSets, modeSets, Source, Tabled}
-use Rattle.answers.proofs.ReadyLaws.{sound-within}
+use Rattle.answers.specs.Table.{beats, signed, member, setWord, setWords, setCount, userSets, fileSets, modeSets, Source, Tabled, Tabulates}
+use Rattle.answers.specs.declared.Sides.{Sides}
+use Rattle.answers.proofs.ReadyLaws.{sound-within, boxes-within, room}
+use Rattle.answers.proofs.PairLaws.{pairs-are, pairs-fit}
 use Rattle.answers.proofs.AnswerLaws.{hit, hit-mode, hit-reaches, hit-sign, certifies-hits, certifies-over, certifies-is}
 
 below : {m n : ℕ} → m < n → ltb m n ≡ true
@@ -89,6 +92,10 @@ module _ (rows arrows users files : List ℕ) where
   at-bit : (r k : ℕ) → k < 512 → 64 * ((8 * r + k / 64) % 8) + k % 64 ≡ k
   at-bit r k h = omega arith
 
+  pub words-length : length (setWords rows arrows users files) ≡ 8 * setCount rows arrows users files
+  unfolding setWords
+  words-length = build-length (setWord rows arrows users files) (8 * setCount rows arrows users files)
+
   pub has-member : (old : List ℕ) (r k : ℕ) → r < setCount rows arrows users files → k < 512
       → has (written (setWords rows arrows users files) old) r k ≡ member rows arrows users files r k
   unfolding setWords setWord
@@ -104,10 +111,73 @@ module _ (rows arrows users files : List ℕ) where
         at-bit r k l,
       )
 
+-- ---- the table of a picture
+
+module _ {boxes rows arrows users files : List ℕ} (sr : SoundRows boxes rows) (sa : SoundArrows boxes arrows)
+    (eu : users ≡ atoms boxes rows user) (ef : files ≡ atoms boxes rows file) where
+  pub few-atoms : length users + length files ≤ 256
+  few-atoms = rw (eu, ef) (omega (arith, atoms-apart boxes rows, sr .few-boxes))
+
+  pub sets-fit : (n : ℕ) → 6272 ≤ n → 8 * setCount rows arrows users files ≤ n
+  sets-fit n h = omega (arith, few-atoms, sa .few-arrows)
+
+  pub source : {scratch : List ℕ} → Says (length boxes) rows scratch → Source (length boxes) rows scratch arrows users files
+  source {scratch} says = record {
+    says = says;
+    within = sound-within boxes arrows sa;
+    users-in = rw eu (λ i l. atom-there boxes rows user _ (atoms-found boxes rows user i l));
+    files-in = rw ef (λ i l. atom-there boxes rows file _ (atoms-found boxes rows file i l));
+    few-arrows = sa .few-arrows;
+    few-atoms = few-atoms;
+  }
+
+  pub tabled : (old table : List ℕ) → 6272 ≤ length old → table ≡ written (setWords rows arrows (atoms boxes rows user) (atoms boxes rows file)) old
+      → Tabled boxes rows arrows users files table
+  tabled old table h e =
+      let made : table ≡ written (setWords rows arrows users files) old = rw (eu, ef) e in
+      let fit = sets-fit (length old) h in
+      let long : length table ≡ length old = ap length made ∙ written-length (setWords rows arrows users files) old (rw words-length fit) in
+      record {
+        users-are = eu;
+        files-are = ef;
+        few-boxes = sr .few-boxes;
+        few-arrows = sa .few-arrows;
+        few-sets = omega arith;
+        room = omega arith;
+        members = λ r k l g. rw made (has-member rows arrows users files old r k l g);
+      }
+
+-- what the table was made into, as a walk is given it
+module _ {boxes rows arrows : List ℕ} {counts : Sides} {us users fs files ts table : List ℕ}
+    (sr : SoundRows boxes rows) (d : Tabulates boxes rows arrows counts us users fs files ts table) where
+  pub users-within : us ≡ zeros 256 → counts .users ≤ length users
+  users-within e = boxes-within boxes rows user us (counts .users) users sr (room 256 e) (d .users-counted, d .users-written)
+
+  pub files-within : fs ≡ zeros 256 → counts .files ≤ length files
+  files-within e = boxes-within boxes rows file fs (counts .files) files sr (room 256 e) (d .files-counted, d .files-written)
+
+  pub users-length : counts .users ≡ length (take (counts .users) users)
+  users-length = part-length (atoms boxes rows user) us (counts .users) users (d .users-counted, d .users-written)
+
+  pub files-length : counts .files ≡ length (take (counts .files) files)
+  files-length = part-length (atoms boxes rows file) fs (counts .files) files (d .files-counted, d .files-written)
+
+  pub made : SoundArrows boxes arrows → ts ≡ zeros 6272 → Tabled boxes rows arrows (take (counts .users) users) (take (counts .files) files) table
+  made sa e =
+      tabled sr sa
+      (part-is (atoms boxes rows user) us (counts .users) users (d .users-counted, d .users-written))
+      (part-is (atoms boxes rows file) fs (counts .files) files (d .files-counted, d .files-written))
+      ts table (room 6272 e) (d .table-written)
 
 -- ---- the answer of a pair
 
 module _ {boxes rows arrows users files table : List ℕ} (d : Tabled boxes rows arrows users files table) where
+  pub tabled-pairs : (length users * length files ≡ pairCount boxes rows) × (length users * length files ≤ 65536)
+  tabled-pairs = (
+    pairs-are boxes rows users files (d .users-are) (d .files-are) 0,
+    pairs-fit boxes rows users files (d .users-are) (d .files-are) 0 (d .few-boxes),
+  )
+
   -- only numbers of arrows are in the table
   there : (r k : ℕ) → r < setCount rows arrows users files → k < 512 → T (has table r k) → k < arrowCount arrows
   there r k h l t = member-there rows arrows users files r k (subst T (d .members r k h l) t)
@@ -191,10 +261,10 @@ module _ {boxes rows arrows users files table : List ℕ} (d : Tabled boxes rows
           let few = d .few-arrows in (
             x .0,
             certifies-is rows arrows m (getD users i 0) (getD files j 0) s o k (x .1)
-            (λ n l y.
-            and-T (eqb (arrowAt arrows k .mode) (arrowAt arrows n .mode)) _
-            (subst T (d .members k n (set-in k (x .0)) (omega arith) ∙ member-arrow rows arrows users files n l k (x .0))
-            (covers-each table (of r) (of q) k t n (omega arith) (hit-has o q opposite n l y))) .1),
+                (λ n l y.
+                and-T (eqb (arrowAt arrows k .mode) (arrowAt arrows n .mode)) _
+                (subst T (d .members k n (set-in k (x .0)) (omega arith) ∙ member-arrow rows arrows users files n l k (x .0))
+                (covers-each table (of r) (of q) k t n (omega arith) (hit-has o q opposite n l y))) .1),
           )
 
       certifies-covers : (k : ℕ) → k < arrowCount arrows → T (certifies rows arrows m s o (getD users i 0) (getD files j 0) k)
@@ -205,12 +275,12 @@ module _ {boxes rows arrows users files table : List ℕ} (d : Tabled boxes rows
           let h = certifies-hits rows arrows m (getD users i 0) (getD files j 0) s o k c in (
             omega arith,
             covers-is table (of r) (of q) k (hit-has s r own k l h)
-            (λ n g t.
-            let y = has-hit o q opposite n g t in
-            subst T (sym (d .members k n (set-in k l) g ∙ member-arrow rows arrows users files n (y .0) k l))
-            (T-and (eqb (arrowAt arrows k .mode) (arrowAt arrows n .mode)) _
-            (T-eqb (hit-mode rows arrows m (getD users i 0) (getD files j 0) s k h ∙ sym (hit-mode rows arrows m (getD users i 0) (getD files j 0) o n (y .1))))
-            (certifies-over rows arrows m (getD users i 0) (getD files j 0) s o k c n (y .0) (y .1)))),
+                (λ n g t.
+                let y = has-hit o q opposite n g t in
+                subst T (sym (d .members k n (set-in k l) g ∙ member-arrow rows arrows users files n (y .0) k l))
+                (T-and (eqb (arrowAt arrows k .mode) (arrowAt arrows n .mode)) _
+                (T-eqb (hit-mode rows arrows m (getD users i 0) (getD files j 0) s k h ∙ sym (hit-mode rows arrows m (getD users i 0) (getD files j 0) o n (y .1))))
+                (certifies-over rows arrows m (getD users i 0) (getD files j 0) s o k c n (y .0) (y .1)))),
           )
 
       pub certificate-is : lowest (coversAll table (of r) (of q)) 512

@@ -6,7 +6,7 @@ use mathlib.Core.List.{List}
 use Prim.Native.Nat.{ℕ, _+_, _-_, _*_, _/_, _%_, _<_, _≤_}
 use lib.Dec.{eqb, ltb}
 use lib.ListN.{length, getD}
-use Rattle.tables.specs.Buffers.{build}
+use Rattle.tables.specs.Buffers.{build, written}
 use Rattle.tables.specs.Rows.{user, file, arrowCount, arrowAt}
 use Rattle.tables.specs.Atoms.{atoms}
 use Rattle.containment.specs.Contains.{around}
@@ -14,6 +14,7 @@ use Rattle.containment.specs.Scratch.{Says}
 use Rattle.sets.specs.Sets.{wordOf, has}
 use Rattle.answers.specs.Meaning.{overrides}
 use Rattle.answers.specs.Among.{Within}
+use Rattle.answers.specs.declared.Sides.{Sides}
 
 -- arrows r and k have the same mode, and r overrides k
 unfoldable pub beats : List ℕ → List ℕ → ℕ → ℕ → Bool
@@ -71,3 +72,11 @@ pub record Tabled (boxes rows arrows users files table : List ℕ) : Type 0 wher
   pub few-sets : 8 * setCount rows arrows users files ≤ length table
   pub room : 4096 ≤ length table
   pub members : (r k : ℕ) → r < setCount rows arrows users files → k < 512 → has table r k ≡ member rows arrows users files r k
+
+-- what making the table leaves: the atomic boxes of each side, and how many, and the table
+pub record Tabulates (boxes rows arrows : List ℕ) (counts : Sides) (users₀ users files₀ files table₀ table : List ℕ) : Type 0 where
+  pub users-counted : counts .users ≡ length (atoms boxes rows user)
+  pub files-counted : counts .files ≡ length (atoms boxes rows file)
+  pub users-written : users ≡ written (atoms boxes rows user) users₀
+  pub files-written : files ≡ written (atoms boxes rows file) files₀
+  pub table-written : table ≡ written (setWords rows arrows (atoms boxes rows user) (atoms boxes rows file)) table₀

@@ -18,7 +18,7 @@ ghost use Rattle.answers.specs.Pairs.{userAt, fileAt, answerAt, matrixBy
 ghost use Rattle.answers.specs.Calls.{askedFault, replyOf, entryEarly, entryFault, judgeFault, matrixEarly, matrixFault, bytesAfter, numbersAfter};
 ghost use Rattle.sets.specs.Sets.{has, coversAll};
 ghost use Rattle.answers.specs.Among.{modeArrows, reachesBy, reaching, overridesAll, Within, Numbers, FirstAt, wins, NoneBefore};
-ghost use Rattle.answers.specs.Table.{beats, signed, member, setWord, setWords, setCount, Source, Tabled};
+ghost use Rattle.answers.specs.Table.{beats, signed, member, setWord, setWords, setCount, Source, Tabled, Tabulates};
 use containment::check_scratch;
 use containment::contain;
 use containment::does_contain;
@@ -529,9 +529,7 @@ pub fn tabulate(
     table: &mut [u64],
 ) -> Sides
     requires { ⌜ SoundRows (now boxes) (now rows) × SoundArrows (now boxes) (now arrows) × Says (length (now boxes)) (now rows) (now scratch) × (256 ≤ length (now users)) × (256 ≤ length (now files)) × (6272 ≤ length (now table)) ⌝ }
-    ensures { λ r. ⌜ (r .users ≡ length (atoms (now (boxes .entry)) (now (rows .entry)) user)) × (r .files ≡ length (atoms (now (boxes .entry)) (now (rows .entry)) file)) ⌝ }
-    ensures { λ _. ⌜ (now (users .exit) ≡ written (atoms (now (boxes .entry)) (now (rows .entry)) user) (now (users .entry))) × (now (files .exit) ≡ written (atoms (now (boxes .entry)) (now (rows .entry)) file) (now (files .entry))) ⌝ }
-    ensures { λ _. ⌜ now (table .exit) ≡ written (setWords (now (rows .entry)) (now (arrows .entry)) (atoms (now (boxes .entry)) (now (rows .entry)) user) (atoms (now (boxes .entry)) (now (rows .entry)) file)) (now (table .entry)) ⌝ }
+    ensures { λ r. ⌜ Tabulates (now (boxes .entry)) (now (rows .entry)) (now (arrows .entry)) r (now (users .entry)) (now (users .exit)) (now (files .entry)) (now (files .exit)) (now (table .entry)) (now (table .exit)) ⌝ }
 {
     let u = atoms_of(boxes, rows, BoxRow::USER, users);
     let f = atoms_of(boxes, rows, BoxRow::FILE, files);

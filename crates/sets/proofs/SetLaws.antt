@@ -117,11 +117,11 @@ module _ (g : ℕ → Bool) where
       record {
         at-most = omega arith;
         is-word =
-          rw n
-          (ap₂ (λ (x : ℕ) (t : Bool). x * 2 + bit t)
-          (s .is-word ∙ ap (λ (f : ℕ → Bool). wordOf f (64 - k)) (fun-ext (λ b. ap g (omega arith))))
-          (e ∙ ap g (omega arith))
-          ∙ sym (wordOf-push (λ b. g (k - 1 + b)) (64 - k)));
+            rw n
+            (ap₂ (λ (x : ℕ) (t : Bool). x * 2 + bit t)
+            (s .is-word ∙ ap (λ (f : ℕ → Bool). wordOf f (64 - k)) (fun-ext (λ b. ap g (omega arith))))
+            (e ∙ ap g (omega arith))
+            ∙ sym (wordOf-push (λ b. g (k - 1 + b)) (64 - k)));
       }
 
   pub built-all : (w : ℕ) → Built 0 w → w ≡ wordOf g 64

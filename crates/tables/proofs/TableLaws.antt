@@ -4,12 +4,13 @@ use mathlib.Core.Bool.{Bool, true, false, not, _&&_}
 use mathlib.Core.List.{List}
 use mathlib.Core.Option.{Option, none, some}
 use Prim.Native.Nat.{ℕ, _<_, _≤_, _%_}
+use native.Mathlib.Omega.{arith}
 use lib.Dec.{T, eqb, ltb, leb, not-T, eqb→eq, nltb→le, nleb→lt}
 use lib.ListN.{length, getD}
 use Rattle.tables.specs.Search.{orElse, given}
 use Rattle.tables.specs.Rows.{user, file, sideOf, onSide, rowCount, rowAt, arrowCount, arrowAt}
 use Rattle.tables.specs.Refusals.{ragged, tooMany, badByte, badRow, tooShort}
-use Rattle.tables.specs.Faults.{raggedFault, countFault, byteFault, namesNoBox, acrossSides, wrongEnds, wrongMode, rowFault, tableFault, roomFault, SoundRows, SoundArrows}
+use Rattle.tables.specs.Faults.{raggedFault, countFault, byteFault, namesNoBox, acrossSides, wrongEnds, wrongMode, rowFault, tableFault, roomFault, modeFault, SoundRows, SoundArrows}
 use Rattle.tables.specs.declared.Refusal.{Refusal}
 use Rattle.tables.proofs.Tests.{and-T, T-or₁, T-or₂}
 use Rattle.tables.proofs.SearchLaws.{first-none, given-none, some-none}
@@ -32,6 +33,10 @@ at-most most n r e = nltb→le most n (not-T (ltb most n) (given-none (ltb most 
 pub room-passed : (buffer have need : ℕ) → roomFault buffer have need ≡ none → need ≤ have
 unfolding roomFault
 room-passed buffer have need e = nltb→le have need (not-T (ltb have need) (given-none (ltb have need) (tooShort buffer need) e))
+
+pub mode-passed : (mode : ℕ) → modeFault mode ≡ none → mode < 8
+unfolding modeFault
+mode-passed mode e = let h = at-most 7 mode _ e in omega arith
 
 whole-rows : (n width : ℕ) (r : Refusal) → given (not (eqb (n % width) 0)) r ≡ none → n % width ≡ 0
 whole-rows n width r e = eqb→eq (n % width) 0 (not-not (eqb (n % width) 0) (given-none (not (eqb (n % width) 0)) r e))

@@ -1,55 +1,92 @@
+-- `answers::fill_pairs` meets its contract: the places before p of both buffers are written. Assumes nothing.
+use mathlib.Core.Path.{_≡_, sym}
+use Prim.Native.Nat.{_*_, _-_, _≤_, _<_}
 use native.Mathlib.Omega.{arith}
 use borrow.Author.Needs.{needs}
+use lib.ListN.{length}
+use Rattle.tables.specs.Atoms.{pairCount}
+use Rattle.tables.specs.Buffers.{build, written}
+use Rattle.tables.proofs.BufferLaws.{written-none}
+use Rattle.tables.proofs.PartLaws.{built-length, built-more}
+use Rattle.answers.specs.Pairs.{byteAt, numberAt, matrixBytes, matrixNumbers}
+use Rattle.answers.proofs.TableLaws.{tabled-pairs}
 use Rattle.answers.proofs.fill_pairs.Statement.{statement}
 use Rattle.answers.proofs.fill_pairs.Tie as tie
 
 abbrev Inv-loop : tie.InvT-loop
-Inv-loop boxes rows arrows users files table mode bytes₀ numbers₀ p₀ p-end bytes numbers p = ?
+Inv-loop boxes rows arrows users files table mode bytes₀ numbers₀ p₀ p-end bytes numbers p =
+    (p ≤ pairCount boxes rows) × (bytes ≡ written (build (byteAt boxes rows arrows mode) p) bytes₀) × (numbers ≡ written (build (numberAt boxes rows arrows mode) p) numbers₀)
 
 abbrev μ-loop : tie.MeasureT-loop
-μ-loop boxes rows arrows users files table mode bytes₀ numbers₀ p₀ p-end bytes numbers p = ?
+μ-loop boxes rows arrows users files table mode bytes₀ numbers₀ p₀ p-end bytes numbers p = pairCount boxes rows - p
+
+counted : (c : tie.Start Inv-loop μ-loop) → let a = c .args in
+    (length (a .users .now) * length (a .files .now) ≡ pairCount (a .boxes .now) (a .rows .now)) × (length (a .users .now) * length (a .files .now) ≤ 65536)
+counted c = tabled-pairs (c .pre .0)
 
 mul-p-end : tie.Need-mul-p-end Inv-loop μ-loop
-mul-p-end c = search needs
+mul-p-end c = omega (arith, counted (c .before .before .before .before .before .before .before .before))
 
 loop-holds : tie.Need-loop-holds Inv-loop μ-loop
-loop-holds c = search needs
+unfolding build
+loop-holds c = let a = c .before .before .before .before .before .before .before .before .args in (search needs, sym (written-none (a .bytes .now)), sym (written-none (a .numbers .now)))
 
 answer-at-requires : tie.Need-answer-at-requires Inv-loop μ-loop
-answer-at-requires c κs = search needs
+answer-at-requires c κs = let start = c .before .before .before .before .before .before .before .before .before .before in (start .pre .0, start .pre .1, omega (arith, counted start, c .loop-test .taken))
 
 byte-of-requires : tie.Need-byte-of-requires Inv-loop μ-loop
 byte-of-requires c κs = search needs
 
+-- the buffers keep their lengths
+bytes-long : (c : tie.At-loop Inv-loop μ-loop) → length (c .loop .bytes) ≡ length (c .before .before .before .before .before .before .before .before .before .args .bytes .now)
+bytes-long c = let a = c .before .before .before .before .before .before .before .before .before .args in
+    built-length (byteAt (a .boxes .now) (a .rows .now) (a .arrows .now) (a .mode)) (a .bytes .now) (c .loop .p) (c .loop .bytes) (c .loop .inv .1) (omega (arith, c .loop .inv .0, c .before .before .before .before .before .before .before .before .before .pre .2))
+
+numbers-long : (c : tie.At-loop Inv-loop μ-loop) → length (c .loop .numbers) ≡ length (c .before .before .before .before .before .before .before .before .before .args .numbers .now)
+numbers-long c = let a = c .before .before .before .before .before .before .before .before .before .args in
+    built-length (numberAt (a .boxes .now) (a .rows .now) (a .arrows .now) (a .mode)) (a .numbers .now) (c .loop .p) (c .loop .numbers) (c .loop .inv .2) (omega (arith, c .loop .inv .0, c .before .before .before .before .before .before .before .before .before .pre .3))
+
 slice-write-bytes : tie.Need-slice-write-bytes Inv-loop μ-loop
-slice-write-bytes c = search needs
+slice-write-bytes c = omega (arith, bytes-long (c .before .before .before), counted (c .before .before .before .before .before .before .before .before .before .before .before .before), c .before .before .before .before .before .before .before .before .before .before .before .before .pre .2, c .before .before .loop-test .taken)
 
 number-of-requires : tie.Need-number-of-requires Inv-loop μ-loop
 number-of-requires c κs = search needs
 
 mul-numbers : tie.Need-mul-numbers Inv-loop μ-loop
-mul-numbers c = search needs
+mul-numbers c = omega (arith, counted (c .before .before .before .before .before .before .before .before .before .before .before .before .before), c .before .before .before .loop-test .taken)
 
 slice-write-numbers : tie.Need-slice-write-numbers Inv-loop μ-loop
-slice-write-numbers c = search needs
+slice-write-numbers c = omega (arith, numbers-long (c .before .before .before .before), counted (c .before .before .before .before .before .before .before .before .before .before .before .before .before), c .before .before .before .before .before .before .before .before .before .before .before .before .before .pre .3, c .before .before .before .loop-test .taken)
 
 add-p : tie.Need-add-p Inv-loop μ-loop
-add-p c = search needs
+add-p c = omega (arith, counted (c .before .before .before .before .before .before .before .before .before .before .before .before .before), c .before .before .before .loop-test .taken)
 
 loop-less : tie.Need-loop-less Inv-loop μ-loop
-loop-less c = search needs
+loop-less c = omega (arith, counted (c .before .before .before .before .before .before .before .before .before .before .before .before .before), c .before .before .before .loop-test .taken)
 
 loop-again : tie.Need-loop-again Inv-loop μ-loop
-loop-again c = search needs
+unfolding byteAt numberAt
+loop-again c = let start = c .before .before .before .before .before .before .before .before .before .before .before .before .before in
+    let a = start .args in
+    let l = c .before .before .before .before .loop in
+    let in-pairs : l .p < pairCount (a .boxes .now) (a .rows .now) = omega (arith, counted start, c .before .before .before .loop-test .taken) in (
+      omega arith,
+      built-more (byteAt (a .boxes .now) (a .rows .now) (a .arrows .now) (a .mode)) (a .bytes .now) (l .p) (l .bytes) (l .inv .1) _ (omega (arith, start .pre .2)) (rw (c .before .byte-of .ensures, c .before .before .answer-at .ensures)),
+      built-more (numberAt (a .boxes .now) (a .rows .now) (a .arrows .now) (a .mode)) (a .numbers .now) (l .p) (l .numbers) (l .inv .2) _ (omega (arith, start .pre .3)) (rw (c .number-of .ensures, c .before .before .answer-at .ensures)),
+    )
 
 same-length : tie.Need-same-length Inv-loop μ-loop
-same-length c = search needs
+same-length c = bytes-long (c .before)
 
 same-length-2 : tie.Need-same-length-2 Inv-loop μ-loop
-same-length-2 c = search needs
+same-length-2 c = numbers-long (c .before)
 
 returns : tie.Need-returns Inv-loop μ-loop
-returns c = search needs
+unfolding matrixBytes matrixNumbers
+returns c = let a = c .before .before .before .before .before .before .before .before .before .before .args in
+    let l = c .before .loop in
+    let e : l .p ≡ pairCount (a .boxes .now) (a .rows .now) = omega (arith, counted (c .before .before .before .before .before .before .before .before .before .before), c .loop-test .left) in
+    rw (← e) (l .inv .1, l .inv .2)
 
 pub fill-pairs-spec : {M : Type 1} → statement M
 fill-pairs-spec =

@@ -1,13 +1,21 @@
+-- `answers::fill_table` meets its contract: the words before i are written. Assumes nothing.
+use mathlib.Core.Path.{_≡_, sym}
+use Prim.Native.Nat.{_*_, _-_, _≤_}
 use native.Mathlib.Omega.{arith}
 use borrow.Author.Needs.{needs}
+use lib.ListN.{length}
+use Rattle.tables.specs.Buffers.{build, written}
+use Rattle.tables.proofs.BufferLaws.{written-none}
+use Rattle.tables.proofs.PartLaws.{built-length, built-more}
+use Rattle.answers.specs.Table.{setWord, setWords, setCount}
 use Rattle.answers.proofs.fill_table.Statement.{statement}
 use Rattle.answers.proofs.fill_table.Tie as tie
 
 abbrev Inv-loop : tie.InvT-loop
-Inv-loop n rows scratch arrows users files table₀ sets i₀ i-end table i = ?
+Inv-loop n rows scratch arrows users files table₀ sets i₀ i-end table i = (i ≤ 8 * setCount rows arrows users files) × (table ≡ written (build (setWord rows arrows users files) i) table₀)
 
 abbrev μ-loop : tie.MeasureT-loop
-μ-loop n rows scratch arrows users files table₀ sets i₀ i-end table i = ?
+μ-loop n rows scratch arrows users files table₀ sets i₀ i-end table i = 8 * setCount rows arrows users files - i
 
 add-sets : tie.Need-add-sets Inv-loop μ-loop
 add-sets c = search needs
@@ -22,7 +30,8 @@ mul-i-end : tie.Need-mul-i-end Inv-loop μ-loop
 mul-i-end c = search needs
 
 loop-holds : tie.Need-loop-holds Inv-loop μ-loop
-loop-holds c = search needs
+unfolding build
+loop-holds c = let a = c .before .before .before .before .before .before .args in (search needs, sym (written-none (a .table .now)))
 
 word-at-requires : tie.Need-word-at-requires Inv-loop μ-loop
 word-at-requires c κs = search needs
@@ -30,23 +39,36 @@ word-at-requires c κs = search needs
 mul-table : tie.Need-mul-table Inv-loop μ-loop
 mul-table c = search needs
 
+long : (c : tie.At-loop Inv-loop μ-loop) → length (c .loop .table) ≡ length (c .before .before .before .before .before .before .before .args .table .now)
+long c = let a = c .before .before .before .before .before .before .before .args in
+    built-length (setWord (a .rows .now) (a .arrows .now) (a .users .now) (a .files .now)) (a .table .now) (c .loop .i) (c .loop .table) (c .loop .inv .1) (omega (arith, c .loop .inv .0, c .before .before .before .before .before .before .before .pre .1))
+
 slice-write-table : tie.Need-slice-write-table Inv-loop μ-loop
-slice-write-table c = search needs
+slice-write-table c = omega (arith, long (c .before .before), c .before .before .before .before .before .before .before .before .before .pre .1, c .before .loop-test .taken)
 
 add-i : tie.Need-add-i Inv-loop μ-loop
 add-i c = search needs
 
 loop-less : tie.Need-loop-less Inv-loop μ-loop
-loop-less c = search needs
+loop-less c = omega (arith, c .before .loop-test .taken)
 
 loop-again : tie.Need-loop-again Inv-loop μ-loop
-loop-again c = search needs
+loop-again c = let a = c .before .before .before .before .before .before .before .before .before .args in
+    let l = c .before .before .loop in
+    let h = c .before .loop-test .taken in (
+      omega arith,
+      built-more (setWord (a .rows .now) (a .arrows .now) (a .users .now) (a .files .now)) (a .table .now) (l .i) (l .table) (l .inv .1) _ (omega (arith, c .before .before .before .before .before .before .before .before .before .pre .1)) (c .word-at .ensures),
+    )
 
 same-length : tie.Need-same-length Inv-loop μ-loop
-same-length c = search needs
+same-length c = long (c .before)
 
 returns : tie.Need-returns Inv-loop μ-loop
-returns c = search needs
+unfolding setWords
+returns c = let a = c .before .before .before .before .before .before .before .before .args in
+    let l = c .before .loop in
+    let e : l .i ≡ 8 * setCount (a .rows .now) (a .arrows .now) (a .users .now) (a .files .now) = omega (arith, l .inv .0, c .loop-test .left) in
+    rw (← e) (l .inv .1)
 
 pub fill-table-spec : {M : Type 1} → statement M
 fill-table-spec =

@@ -109,7 +109,7 @@ fill-matrix-requires : tie.Need-fill-matrix-requires
 fill-matrix-requires c κs = let a = c .before .before .before .before .before .before .before .before .before .before .before .before .before .before .before .before .before .before .before .before .before .before .before .before .before .before .before .before .before .args in
     let r = ready (c .before .before .before .before .before .before .before .before .before) in
     let rooms = rest-rooms (a .boxes .now) (a .rows .now) (a .arrows .now) (a .scratch .now) (a .mode) (a .bytes .now) (a .numbers .now) (passed _ (rest-passed (c .before .before .before .before .before .before .before .before .before))) in
-    (r .rows-sound, r .arrows-sound, rw (c .before .before .before .before .before .before .before .contain .ensures .1) (r .says), rooms .1, rooms .2)
+    (r .rows-sound, r .arrows-sound, rw (c .before .before .before .before .before .before .before .contain .ensures .1) (r .says), rooms .3, rooms .1, rooms .2)
 
 same-length-3 : tie.Need-same-length-3
 same-length-3 c = search needs
