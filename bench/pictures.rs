@@ -109,7 +109,6 @@ pub fn typical(arrows: usize) -> Picture {
         n,
         scratch: &scratch,
     };
-    let mut room = twin::Room::new();
     while p.arrows.len() < 4 * arrows {
         let mode = (p.arrows.len() / 4 % 4) as u16;
         let tail = match random.below(8) {
@@ -124,24 +123,13 @@ pub fn typical(arrows: usize) -> Picture {
         };
         let sign = (random.below(5) < 3) as u16;
         p.arrows.extend([tail as u16, head as u16, mode, sign]);
-        let own: Vec<u16> = (0..p.arrows.len() / 4)
-            .filter(|k| p.arrows[4 * k + 2] == mode)
-            .map(|k| k as u16)
-            .collect();
-        let answers = twin::Mode {
-            contains,
-            arrows: &p.arrows,
-            own: &own,
-            users: &[],
-            files: &[],
-        };
         let clear = (users..groups)
             .filter(|&u| contains.around(tail, u))
             .all(|u| {
                 (files..folders)
                     .filter(|&f| contains.around(head, f))
                     .all(|f| {
-                        let e = answers.answer(u as u16, f as u16, &mut room);
+                        let e = twin::answer_pair(contains, &p.arrows, mode, u as u16, f as u16);
                         !matches!(e, twin::Entry::Unclear(..))
                     })
             });

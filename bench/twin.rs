@@ -303,31 +303,59 @@ fn settle(c: Filled, arrows: &[u16], ps: &[u16], ns: &[u16]) -> Entry {
     }
 }
 
-/// What all pairs of a mode are answered by.
-pub struct Mode<'a> {
-    pub contains: Filled<'a>,
-    pub arrows: &'a [u16],
-    pub own: &'a [u16],
-    pub users: &'a [u16],
-    pub files: &'a [u16],
+/// The answer for one pair: gathers the arrows that reach it, strikes, and checks what is left.
+pub fn answer_pair(c: Filled, arrows: &[u16], mode: u16, u: u16, f: u16) -> Entry {
+    let mut own = [0; ARROWS];
+    let (mut ps, mut ns) = ([0; ARROWS], [0; ARROWS]);
+    let m = mode_arrows(arrows, mode, &mut own);
+    let p = gather(c, arrows, &own[..m], 1, u, f, &mut ps);
+    let q = gather(c, arrows, &own[..m], 0, u, f, &mut ns);
+    settle(c, arrows, &ps[..p], &ns[..q])
 }
 
-/// Room for the arrows that reach a pair.
-pub struct Room {
-    ps: [u16; ARROWS],
-    ns: [u16; ARROWS],
-}
+/// A set of arrow numbers.
+type Set = [u64; ARROWS / 64];
 
-impl Room {
-    pub fn new() -> Room {
-        Room {
-            ps: [0; ARROWS],
-            ns: [0; ARROWS],
-        }
+/// At most a set for each arrow, each box, and each sign of each mode.
+const SETS: usize = ARROWS + BOXES + 16;
+
+fn set_of(count: usize, test: impl Fn(u16) -> bool) -> Set {
+    let mut set = [0; ARROWS / 64];
+    for k in 0..count {
+        set[k / 64] |= (test(k as u16) as u64) << (k % 64);
     }
+    set
 }
 
-impl Mode<'_> {
+fn shared(a: &Set, b: &Set, c: &Set) -> Set {
+    std::array::from_fn(|q| a[q] & b[q] & c[q])
+}
+
+/// The lowest number of the set from `from` on.
+fn next_in(set: &Set, from: usize) -> Option<usize> {
+    let mut k = from;
+    while k < ARROWS {
+        let rest = set[k / 64] >> (k % 64);
+        if rest != 0 {
+            return Some(k + rest.trailing_zeros() as usize);
+        }
+        k = (k / 64 + 1) * 64;
+    }
+    None
+}
+
+/// What all pairs are answered by: the atomic boxes, and the sets of what each arrow overrides,
+/// of what comes from around each user, of what goes to around each file, and of each mode's two
+/// signs.
+struct All<'a> {
+    contains: Filled<'a>,
+    arrows: &'a [u16],
+    users: &'a [u16],
+    files: &'a [u16],
+    sets: &'a [Set],
+}
+
+impl All<'_> {
     fn pairs(&self) -> usize {
         self.users.len() * self.files.len()
     }
@@ -337,36 +365,75 @@ impl Mode<'_> {
         (self.users[p / columns], self.files[p % columns])
     }
 
-    pub fn answer(&self, u: u16, f: u16, room: &mut Room) -> Entry {
-        let (c, arrows, own) = (self.contains, self.arrows, self.own);
-        let p = gather(c, arrows, own, 1, u, f, &mut room.ps);
-        let q = gather(c, arrows, own, 0, u, f, &mut room.ns);
-        settle(c, arrows, &room.ps[..p], &room.ns[..q])
+    /// The lowest of the set's arrows that overrides all of the opposite ones.
+    fn first_over(&self, own: &Set, opposite: &Set) -> Option<usize> {
+        let mut from = 0;
+        while let Some(k) = next_in(own, from) {
+            if (0..opposite.len()).all(|q| opposite[q] & self.sets[k][q] == opposite[q]) {
+                return Some(k);
+            }
+            from = k + 1;
+        }
+        None
     }
 
-    fn answer_at(&self, p: usize, room: &mut Room) -> Entry {
-        let (u, f) = self.pair_at(p);
-        self.answer(u, f, room)
+    fn answer_at(&self, mode: u16, p: usize) -> Entry {
+        let columns = self.files.len();
+        let first = self.arrows.len() / 4;
+        let user = &self.sets[first + p / columns];
+        let file = &self.sets[first + self.users.len() + p % columns];
+        let signs = first + self.users.len() + columns + 2 * mode as usize;
+        let ps = shared(user, file, &self.sets[signs + 1]);
+        let ns = shared(user, file, &self.sets[signs]);
+        if let Some(k) = self.first_over(&ps, &ns) {
+            return Entry::Granted(k as u16);
+        }
+        if let Some(k) = self.first_over(&ns, &ps) {
+            return Entry::Denied(k as u16);
+        }
+        match (next_in(&ps, 0), next_in(&ns, 0)) {
+            (Some(p), Some(n)) => Entry::Unclear(p as u16, n as u16),
+            _ => Entry::Default,
+        }
     }
 }
 
-/// Gathers the atomic boxes and the mode's arrows, and hands them to the work.
-fn with_mode<R>(t: Tables, scratch: &[u8], mode: u16, work: impl FnOnce(&Mode) -> R) -> R {
+/// Gathers the atomic boxes and makes the sets, and hands them to the work.
+fn with_all<R>(t: Tables, scratch: &[u8], work: impl FnOnce(&All) -> R) -> R {
     let mut users = [0; BOXES];
     let mut files = [0; BOXES];
-    let mut own = [0; ARROWS];
+    let mut sets = [[0; ARROWS / 64]; SETS];
     let u = atoms_of(t.boxes, t.rows, 0, &mut users);
     let f = atoms_of(t.boxes, t.rows, 1, &mut files);
-    let m = mode_arrows(t.arrows, mode, &mut own);
-    work(&Mode {
-        contains: Filled {
-            n: t.boxes.len(),
-            scratch,
-        },
+    let c = Filled {
+        n: t.boxes.len(),
+        scratch,
+    };
+    let count = t.arrows.len() / 4;
+    let arrow = |k| arrow_at(t.arrows, k);
+    for r in 0..count {
+        let a = arrow(r as u16);
+        sets[r] = set_of(count, |k| {
+            a.mode == arrow(k).mode && c.overrides(a, arrow(k))
+        });
+    }
+    for (i, &b) in users[..u].iter().enumerate() {
+        sets[count + i] = set_of(count, |k| c.around(arrow(k).tail, b as usize));
+    }
+    for (j, &b) in files[..f].iter().enumerate() {
+        sets[count + u + j] = set_of(count, |k| c.around(arrow(k).head, b as usize));
+    }
+    for d in 0..16 {
+        sets[count + u + f + d] = set_of(count, |k| {
+            arrow(k).mode as usize == d / 2 && arrow(k).sign as usize == d % 2
+        });
+    }
+    work(&All {
+        contains: c,
         arrows: t.arrows,
-        own: &own[..m],
         users: &users[..u],
         files: &files[..f],
+        sets: &sets,
     })
 }
 
@@ -375,26 +442,19 @@ fn pair_count(t: Tables) -> usize {
     atoms_of(t.boxes, t.rows, 0, &mut atoms) * atoms_of(t.boxes, t.rows, 1, &mut atoms)
 }
 
-/// Check 12 for a mode.
-fn check_clear(t: Tables, scratch: &[u8], mode: u16) -> Result<(), Refusal> {
-    with_mode(t, scratch, mode, |m| {
-        let mut room = Room::new();
-        for p in 0..m.pairs() {
-            if let Entry::Unclear(..) = m.answer_at(p, &mut room) {
-                let (u, f) = m.pair_at(p);
-                return refuse(12, mode as usize, u as usize, f as usize);
+pub fn judge(t: Tables, scratch: &mut [u8]) -> Result<(), Refusal> {
+    prepare(t, scratch)?;
+    with_all(t, scratch, |all| {
+        for mode in 0..8 {
+            for p in 0..all.pairs() {
+                if let Entry::Unclear(..) = all.answer_at(mode, p) {
+                    let (u, f) = all.pair_at(p);
+                    return refuse(12, mode as usize, u as usize, f as usize);
+                }
             }
         }
         Ok(())
     })
-}
-
-pub fn judge(t: Tables, scratch: &mut [u8]) -> Result<(), Refusal> {
-    prepare(t, scratch)?;
-    for mode in 0..8 {
-        check_clear(t, scratch, mode)?;
-    }
-    Ok(())
 }
 
 pub fn entry(
@@ -412,19 +472,11 @@ pub fn entry(
     if !is_atom(t.boxes, t.rows, 0, u) || !is_atom(t.boxes, t.rows, 1, f) {
         return refuse(11, u, f, 0);
     }
-    let mut own = [0; ARROWS];
-    let m = mode_arrows(t.arrows, mode, &mut own);
-    let mode = Mode {
-        contains: Filled {
-            n: t.boxes.len(),
-            scratch,
-        },
-        arrows: t.arrows,
-        own: &own[..m],
-        users: &[],
-        files: &[],
+    let c = Filled {
+        n: t.boxes.len(),
+        scratch,
     };
-    Ok(mode.answer(user, file, &mut Room::new()))
+    Ok(answer_pair(c, t.arrows, mode, user, file))
 }
 
 fn byte_of(e: Entry) -> u8 {
@@ -456,10 +508,9 @@ pub fn matrix(
     check_room(1, bytes.len(), pairs)?;
     check_room(2, numbers.len(), pairs)?;
     contain(t, scratch)?;
-    with_mode(t, scratch, mode, |m| {
-        let mut room = Room::new();
-        for p in 0..m.pairs() {
-            let e = m.answer_at(p, &mut room);
+    with_all(t, scratch, |all| {
+        for p in 0..all.pairs() {
+            let e = all.answer_at(mode, p);
             bytes[p] = byte_of(e);
             numbers[p] = number_of(e);
         }
@@ -469,36 +520,44 @@ pub fn matrix(
 
 // ---- Lists
 
-impl Mode<'_> {
+impl All<'_> {
     /// The first place from `from` on that the arrow reaches, whose byte is neither that of a
-    /// reached pair nor the one to skip.
+    /// reached pair nor the one to skip. Rows of users that the arrow does not reach are passed
+    /// over.
     fn advance(&self, a: Arrow, work: &[u8], skip: u8, from: usize) -> usize {
         let columns = self.files.len();
-        if columns == 0 {
+        if work.len() <= from {
             return from;
         }
-        let (mut row, mut col) = (from / columns, from % columns);
-        for (p, &byte) in work.iter().enumerate().skip(from) {
-            if byte < 2
-                && byte != skip
-                && self.contains.reaches(a, self.users[row], self.files[col])
-            {
-                return p;
+        let mut start = from % columns;
+        for row in from / columns..self.users.len() {
+            if self.contains.around(a.tail, self.users[row] as usize) {
+                for col in start..columns {
+                    let byte = work[row * columns + col];
+                    if byte < 2
+                        && byte != skip
+                        && self.contains.around(a.head, self.files[col] as usize)
+                    {
+                        return row * columns + col;
+                    }
+                }
             }
-            col += 1;
-            if col == columns {
-                row += 1;
-                col = 0;
-            }
+            start = 0;
         }
         work.len()
     }
 
     /// The first place of the numbers whose arrow may follow and reaches something new. The
     /// pointers only move forward.
-    fn pick(&self, work: &[u8], blocked: &mut [usize], fresh: &mut [usize]) -> Option<usize> {
-        for t in 0..self.own.len() {
-            let a = arrow_at(self.arrows, self.own[t]);
+    fn pick(
+        &self,
+        own: &[u16],
+        work: &[u8],
+        blocked: &mut [usize],
+        fresh: &mut [usize],
+    ) -> Option<usize> {
+        for t in 0..own.len() {
+            let a = arrow_at(self.arrows, own[t]);
             blocked[t] = self.advance(a, work, a.sign as u8, blocked[t]);
             if blocked[t] < work.len() {
                 continue;
@@ -514,48 +573,42 @@ impl Mode<'_> {
     /// Marks the pairs that the arrow is the first to reach.
     fn mark(&self, a: Arrow, work: &mut [u8]) {
         let columns = self.files.len();
-        let (mut row, mut col) = (0, 0);
-        for byte in work {
-            if *byte < 2 && self.contains.reaches(a, self.users[row], self.files[col]) {
-                *byte += 2;
-            }
-            col += 1;
-            if col == columns {
-                row += 1;
-                col = 0;
+        for (row, &u) in self.users.iter().enumerate() {
+            if self.contains.around(a.tail, u as usize) {
+                for (col, &f) in self.files.iter().enumerate() {
+                    let byte = &mut work[row * columns + col];
+                    if *byte < 2 && self.contains.around(a.head, f as usize) {
+                        *byte += 2;
+                    }
+                }
             }
         }
     }
 
     /// Check 12, and a byte for each pair, 1 if it is granted.
     fn fill_granted(&self, mode: u16, bytes: &mut [u8]) -> Result<(), Refusal> {
-        let mut room = Room::new();
-        let (mut row, mut col) = (0, 0);
-        for byte in bytes {
-            let (u, f) = (self.users[row], self.files[col]);
-            *byte = match self.answer(u, f, &mut room) {
-                Entry::Unclear(..) => return refuse(12, mode as usize, u as usize, f as usize),
+        for (p, byte) in bytes.iter_mut().enumerate() {
+            *byte = match self.answer_at(mode, p) {
+                Entry::Unclear(..) => {
+                    let (u, f) = self.pair_at(p);
+                    return refuse(12, mode as usize, u as usize, f as usize);
+                }
                 Entry::Granted(_) => 1,
                 Entry::Denied(_) | Entry::Default => 0,
             };
-            col += 1;
-            if col == self.files.len() {
-                row += 1;
-                col = 0;
-            }
         }
         Ok(())
     }
 
     /// Writes the list and answers its length; the work bytes end as answer and reached.
-    fn order(&self, list: &mut [u16], work: &mut [u8]) -> usize {
+    fn order(&self, own: &[u16], list: &mut [u16], work: &mut [u8]) -> usize {
         let mut blocked = [0; ARROWS];
         let mut fresh = [0; ARROWS];
         let mut count = 0;
-        while let Some(t) = self.pick(work, &mut blocked, &mut fresh) {
-            list[count] = self.own[t];
+        while let Some(t) = self.pick(own, work, &mut blocked, &mut fresh) {
+            list[count] = own[t];
             count += 1;
-            self.mark(arrow_at(self.arrows, self.own[t]), work);
+            self.mark(arrow_at(self.arrows, own[t]), work);
         }
         count
     }
@@ -570,25 +623,26 @@ pub fn list(
 ) -> Result<usize, Refusal> {
     check(t)?;
     let pairs = pair_count(t);
-    let own = t.arrows.chunks_exact(4).filter(|a| a[2] == mode).count();
+    let mut own = [0; ARROWS];
+    let m = mode_arrows(t.arrows, mode, &mut own);
     check_mode(mode)?;
     check_scratch(t, scratch)?;
-    check_room(3, list.len(), own)?;
+    check_room(3, list.len(), m)?;
     check_room(4, work.len(), pairs)?;
     contain(t, scratch)?;
-    with_mode(t, scratch, mode, |m| {
+    with_all(t, scratch, |all| {
         let mut bytes = [0; PAIRS];
-        m.fill_granted(mode, &mut bytes[..pairs])?;
+        all.fill_granted(mode, &mut bytes[..pairs])?;
         let work = &mut work[..pairs];
         work.copy_from_slice(&bytes[..pairs]);
-        let count = m.order(list, work);
+        let count = all.order(&own[..m], list, work);
         let left = work.iter().position(|&byte| byte == 1);
         work.fill(0);
         let Some(p) = left else {
             return Ok(count);
         };
-        list[..own].fill(NO_ARROW);
-        let (u, f) = m.pair_at(p);
+        list[..m].fill(NO_ARROW);
+        let (u, f) = all.pair_at(p);
         refuse(13, mode as usize, u as usize, f as usize)
     })
 }
