@@ -325,7 +325,7 @@ fn ask() -> Question {
     }
 }
 
-// The call that a letter stands for.
+// The call that a letter stands for, with the places that are lent.
 fn call(
     letter: u8,
     boxes: &[u8],
@@ -336,6 +336,12 @@ fn call(
     bytes: &mut [u8],
     numbers: &mut [u16],
 ) {
+    let s = bytes_lent(scratch, q.scratch);
+    let b = bytes_lent(bytes, q.bytes);
+    let n = numbers_lent(numbers, q.numbers);
+    let scratch = &mut scratch[..s];
+    let bytes = &mut bytes[..b];
+    let numbers = &mut numbers[..n];
     match letter {
         b'p' => {
             show_verdict(containment::prepare(boxes, rows, arrows, scratch));
@@ -355,42 +361,12 @@ fn call(
     }
 }
 
-// The line of a call.
-fn show_call(
-    letter: u8,
-    boxes: &[u8],
-    rows: &[u16],
-    arrows: &[u16],
-    q: Question,
-    scratch: &mut [u8],
-    bytes: &mut [u8],
-    numbers: &mut [u16],
-) {
-    let s = bytes_lent(scratch, q.scratch);
-    let b = bytes_lent(bytes, q.bytes);
-    let n = numbers_lent(numbers, q.numbers);
-    call(
-        letter,
-        boxes,
-        rows,
-        arrows,
-        q,
-        &mut scratch[..s],
-        &mut bytes[..b],
-        &mut numbers[..n],
-    );
-    show_bytes(scratch);
-    show_bytes(bytes);
-    show_numbers(numbers);
-    io::write_all(STDOUT_FILENO, b"\n");
-}
-
-// The same with fresh buffers.
+// The line of a call, on fresh buffers.
 fn run(letter: u8, boxes: &[u8], rows: &[u16], arrows: &[u16], q: Question) {
     let mut scratch = bytes();
     let mut bytes = bytes();
     let mut numbers = numbers();
-    show_call(
+    call(
         letter,
         boxes,
         rows,
@@ -400,6 +376,10 @@ fn run(letter: u8, boxes: &[u8], rows: &[u16], arrows: &[u16], q: Question) {
         &mut bytes,
         &mut numbers,
     );
+    show_bytes(&scratch);
+    show_bytes(&bytes);
+    show_numbers(&numbers);
+    io::write_all(STDOUT_FILENO, b"\n");
 }
 
 fn run_all(letter: u8, boxes: &[u8], rows: &[u16], arrows: &[u16], q: Question) {
