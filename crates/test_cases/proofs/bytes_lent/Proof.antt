@@ -4,11 +4,8 @@ use borrow.Author.Needs.{needs}
 use Rattle.test_cases.proofs.bytes_lent.Statement.{statement}
 use Rattle.test_cases.proofs.bytes_lent.Tie as tie
 
-least-requires : tie.Need-least-requires
-least-requires c κs = search needs
-
 returns : tie.Need-returns
 returns c = (search needs, simp length-take (omega arith))
 
 pub bytes-lent-spec : {M : Type 1} → statement M
-bytes-lent-spec = tie.close (tie.spec least-requires returns)
+bytes-lent-spec = tie.close (tie.spec (λ c κs. search needs) returns)

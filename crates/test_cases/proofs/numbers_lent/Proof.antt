@@ -4,11 +4,8 @@ use borrow.Author.Needs.{needs}
 use Rattle.test_cases.proofs.numbers_lent.Statement.{statement}
 use Rattle.test_cases.proofs.numbers_lent.Tie as tie
 
-least-requires : tie.Need-least-requires
-least-requires c κs = search needs
-
 returns : tie.Need-returns
 returns c = (search needs, simp length-take (omega arith))
 
 pub numbers-lent-spec : {M : Type 1} → statement M
-numbers-lent-spec = tie.close (tie.spec least-requires returns)
+numbers-lent-spec = tie.close (tie.spec (λ c κs. search needs) returns)
