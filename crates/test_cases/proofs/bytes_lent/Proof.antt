@@ -8,4 +8,4 @@ returns : tie.Need-returns
 returns c = (search needs, simp length-take (omega arith))
 
 pub bytes-lent-spec : {M : Type 1} → statement M
-bytes-lent-spec = tie.close (tie.spec (λ c κs. search needs) returns)
+bytes-lent-spec = tie.close (tie.spec (search needs) returns)
