@@ -324,13 +324,14 @@ LISTS = [
 ]
 
 
-def listed(picture, mode, lent, said, places):
-    """The line of a list: before 8 and 9 nothing is written, and the scratch is filled as for the matrix."""
-    boxes, rows, arrows = picture
+def listed(picture, said, places):
+    """The line of a list. The scratch is filled after 8 and 9, as by the first line of a picture."""
+    boxes, rows, _ = picture
     words = said.split()
-    scratch = expected(*picture, 0 if words[1] in "89" and words[0] == "refused" else 65536, 0, 0, 0, 0, 0)[0][1][0]
-    pairs = len(atoms(boxes, rows, 0)) * len(atoms(boxes, rows, 1))
+    early = words[:2] in (["refused", "8"], ["refused", "9"])
     done = words[0] == "written" or words[1] == "13"
+    scratch = [] if early else expected(*picture, 65536, *QUESTION)[0][1][0]
+    pairs = len(atoms(boxes, rows, 0)) * len(atoms(boxes, rows, 1))
     return words, [scratch, [0] * pairs if done else []], [places]
 
 
@@ -338,5 +339,4 @@ def cases():
     for k, case in enumerate(PICTURES):
         yield f"picture {k}", case, expected(*case)
     for k, (picture, mode, (scratch, out, work), said, places) in enumerate(LISTS):
-        case = *picture, scratch, mode, 0, 0, work, out
-        yield f"list {k}", case, [listed(picture, mode, (scratch, out, work), said, places)]
+        yield f"list {k}", (*picture, scratch, mode, 0, 0, work, out), [listed(picture, said, places)]
