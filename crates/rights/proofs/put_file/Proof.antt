@@ -9,7 +9,5 @@ put-tables-requires c κs = let fits = read-fits (rw (c .before .before .before 
 
 pub put-file-spec : {M : Type 1} → statement M
 put-file-spec =
-    tie.close
-    (tie.spec (λ c κs. search needs) (search needs) (λ c κs. search needs) (search needs) put-tables-requires (search needs)
-    (search needs) (search needs) (search needs) (search needs) (search needs) (search needs) (search needs) (search needs)
-    (search needs) (search needs))
+    tie.close (tie.spec (search needs) (search needs) (search needs) (search needs) put-tables-requires (search needs) (search needs) (search needs)
+    (search needs) (search needs) (search needs) (search needs) (search needs) (search needs) (search needs) (search needs))

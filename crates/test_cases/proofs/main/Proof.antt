@@ -10,6 +10,4 @@ abbrev μ-loop : tie.MeasureT-loop
 μ-loop i₀ i = 1000 - i
 
 pub main-spec : {M : Type 1} → statement M
-main-spec =
-    tie.close
-    (tie.spec Inv-loop μ-loop (search needs) (search needs) (search needs) (search needs) (search needs) (search needs))
+main-spec = tie.close (tie.spec Inv-loop μ-loop (search needs) (search needs) (search needs) (search needs) (search needs) (search needs))
