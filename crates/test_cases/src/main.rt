@@ -1,12 +1,13 @@
 // Runs the calls on the cases of standard input; tests/test_cases.py makes them, and what must be written for them.
 // A case is a label of 25 bytes and then numbers, each with one byte after it. A table is how many places it has and what they
 // hold, where V*N stands for N places that hold V. The label's first letter says what the case is:
-//   p, l   a picture's three tables, how much scratch is lent, a mode, a user and a file, and how many bytes and numbers are lent;
-//          p: for prepare, judge, one_entry and matrix, a line each; l: for list, whose work are the bytes
-//   f      a block file, and how many places of the three tables are lent
-//   c      bytes, for their check
-// Every buffer has 65,600 places, which hold 170 or 43690 before each call. A line is what the call answers, and then what all
-// places of its buffers hold, those that are not lent too, written as a table is.
+//   p   a picture: its three tables, how many places of the scratch are lent, a mode, a user and a file, and how many places of
+//       the bytes and of the numbers are lent; for prepare, judge, one_entry and matrix
+//   l   the same for list, whose list is the numbers and whose work is the bytes
+//   f   a block file, and how many places of the three tables are lent; for read
+//   c   bytes, for their check
+// Every buffer has 65,600 places, which hold 170 or 43690 before each call. What is written is the label and a line for each call:
+// what it answers, and then what every place of every buffer holds, as in a table.
 ghost use Prim.Native.Nat.{_<_, _≤_};
 ghost use mathlib.Core.Path.{_≡_};
 ghost use lib.ListN.{length};
@@ -41,7 +42,7 @@ fn least(a: usize, b: usize) -> usize
     if a < b { a } else { b }
 }
 
-// As many places of a buffer as are asked for, or all.
+// So many places of a buffer, or all if it has fewer.
 fn bytes_lent(s: &[u8], n: usize) -> usize
     ensures { λ r. ⌜ Counts r (now (s .entry)) ⌝ }
 {
@@ -92,14 +93,14 @@ fn low(x: usize) -> u16 {
     (x % 65536) as u16
 }
 
-// What places of a table hold, and how many.
+// What the next places of a table hold, and how many they are.
 struct Same {
     value: usize,
     left: usize,
 }
 
 impl Same {
-    // The run from the next place on.
+    // The same, one place on.
     fn next(self) -> Self {
         if 1 < self.left {
             return Self {
@@ -123,10 +124,8 @@ impl Same {
 }
 
 // A table of bytes or of numbers: the other slice is empty.
-fn table(bytes: &mut [u8], numbers: &mut [u16]) -> usize
-    ensures { λ r. ⌜ (r ≤ 65600) × (length (now (bytes .exit)) ≡ length (now (bytes .entry))) × (length (now (numbers .exit)) ≡ length (now (numbers .entry))) ⌝ }
-{
-    let count = least(number().value, PLACES);
+fn table(bytes: &mut [u8], numbers: &mut [u16]) -> usize {
+    let count = number().value;
     let mut run = Same { value: 0, left: 0 };
     for i in 0..count {
         run = run.next();
@@ -136,22 +135,20 @@ fn table(bytes: &mut [u8], numbers: &mut [u16]) -> usize
 }
 
 fn byte_table(out: &mut [u8]) -> usize
-    ensures { λ r. ⌜ Counts r (now (out .exit)) × (length (now (out .exit)) ≡ length (now (out .entry))) ⌝ }
+    ensures { λ r. ⌜ Counts r (now (out .exit)) ⌝ }
 {
     let n = table(out, &mut []);
     bytes_lent(out, n)
 }
 
 fn number_table(out: &mut [u16]) -> usize
-    ensures { λ r. ⌜ Counts r (now (out .exit)) × (length (now (out .exit)) ≡ length (now (out .entry))) ⌝ }
+    ensures { λ r. ⌜ Counts r (now (out .exit)) ⌝ }
 {
     let n = table(&mut [], out);
     numbers_lent(out, n)
 }
 
-fn put(bytes: &mut [u8], numbers: &mut [u16], i: usize, x: u16)
-    ensures { λ _. ⌜ (length (now (bytes .exit)) ≡ length (now (bytes .entry))) × (length (now (numbers .exit)) ≡ length (now (numbers .entry))) ⌝ }
-{
+fn put(bytes: &mut [u8], numbers: &mut [u16], i: usize, x: u16) {
     if i < bytes.len() {
         bytes[i] = (x % 256) as u8;
         return;
