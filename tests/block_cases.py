@@ -1,15 +1,10 @@
-#!/usr/bin/env python3
-"""Cases for the program block_cases, and what it should write.
+"""Cases of block files for the program crates/test_cases, and what it must write.
 
-The reader here is written from document 01, "Block files" and "The disk", apart from the Rattle code.
-usage: tests/block_cases.py [--check]    writes crates/block_cases/stdin and stdout; --check only compares them
+The reader here is written from document 01, "Block files" and "The disk", apart from the Rattle code. A case is (label, input,
+lines), as in tests/picture_cases.py.
 """
-import pathlib
-import sys
-
 CAPACITY = {1: 500, 2: 125, 3: 83}
 SIZE = {1: 1, 2: 4, 3: 6}
-BOXES, ROWS, ARROWS = 600, 2200, 2200  # the program's tables, with the places beyond the lent ones
 
 
 def fnv1a(data):
@@ -87,72 +82,34 @@ def said(file):
     return tables[1], tables[2], tables[3]
 
 
-def read(file, lent, tables):
-    """The answer, with the tables as reading leaves them."""
+def read(file, lent):
+    """The answer's words, and the tables that are written."""
     found = said(file)
+    nothing = [], [], []
     if found[0] == "refused":
-        return found
+        return found, nothing
     counts = [len(found[0]), len(found[1]) // 2, len(found[2]) // 4]
     for table, limit in enumerate((256, 1024, 512)):
         if counts[table] > limit:
-            return ("refused", 2, table, counts[table], 0)
+            return ("refused", 2, table, counts[table], 0), nothing
     for buffer in range(3):
         if lent[buffer] < len(found[buffer]):
-            return ("refused", 9, 5 + buffer, len(found[buffer]), 0)
-    for table, new in zip(tables, found):
-        table[:len(new)] = new
-    return ("counts", *counts)
+            return ("refused", 9, 5 + buffer, len(found[buffer]), 0), nothing
+    return ("counts", *counts), found
 
 
-def digest(values):
-    total = 0
-    for value in values:
-        total = (total * 31 + value + 1) % 1000003
-    return total
-
-
-def parts(file):
-    """OFFSET TIMES COUNT BYTE.. for all bytes but long runs of zeros; what repeats is written once."""
-    words, start, i = [], 0, 0
-
-    def plain(end):
-        if any(file[start:end]):
-            words.extend([start, 1, end - start] + file[start:end])
-
-    while i < len(file):
-        best = (0, 1)
-        for count in (1, 4, 6):
-            times = 1
-            while file[i + times * count:i + (times + 1) * count] == file[i:i + count]:
-                times += 1
-            best = max(best, (times * count, count))
-        if best[0] < 24:
-            i += 1
-            continue
-        plain(i)
-        if any(file[i:i + best[1]]):
-            words += [i, best[0] // best[1], best[1]] + file[i:i + best[1]]
-        start = i = i + best[0]
-    plain(len(file))
-    return words
-
-
-CASES, EXPECTED = [], []
+CASES = []
 
 
 def case(name, file, lent=(300, 2100, 2100)):
-    assert len(file) <= 33792
-    CASES.append(" ".join(map(str, ["file", name, *lent, len(file), *parts(file)])))
-    tables = [[170] * BOXES, [43690] * ROWS, [43690] * ARROWS]
-    answer = read(file, lent, tables)
-    EXPECTED.append(" ".join(map(str, [name, *answer, *map(digest, tables)])))
+    words, (boxes, rows, arrows) = read(file, lent)
+    CASES.append((f"file {name}", (file, *lent), [(words, [boxes], [rows, arrows])]))
 
 
 def vector(name, data, check):
     """A published vector of FNV-1a at 32 bits: the value is the publication's."""
     assert fnv1a(data) == check
-    CASES.append(" ".join(map(str, ["check", name, len(data), *data])))
-    EXPECTED.append(f"{name} {check:08x}")
+    CASES.append((f"check {name}", (list(data),), [([f"{check:08x}"], [], [])]))
 
 
 vector("empty", b"", 0x811C9DC5)
@@ -242,13 +199,3 @@ case("rows-short", B, (4, 3, 8))
 case("arrows-short", B, (4, 4, 7))
 case("lowest-buffer", B, (3, 3, 7))
 case("no-room-needed", block(1, 0, []), (0, 0, 0))
-
-here = pathlib.Path(__file__).resolve().parent.parent / "crates" / "block_cases"
-files = {"stdin": "\n".join(CASES) + "\n", "stdout": "\n".join(EXPECTED) + "\n"}
-assert len(files["stdin"]) < 65536
-for name, text in files.items():
-    if "--check" not in sys.argv[1:]:
-        (here / name).write_text(text)
-    elif (here / name).read_text() != text:
-        sys.exit(f"block_cases.py: {name} is not what it makes")
-print(len(CASES), "cases")

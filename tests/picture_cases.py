@@ -1,14 +1,8 @@
-#!/usr/bin/env python3
-"""Test pictures for crates/picture_cases: its standard input, and what it must write, from document 01's text alone.
+"""Cases of pictures for the program crates/test_cases, and what it must write, from document 01's text alone.
 
-usage: picture_cases.py [--check]     writes crates/picture_cases/stdin and stdout; --check only compares them
+A case is (label, input, lines): the input's numbers and tables, and for each line the answer's words, the byte buffers and the
+number buffers, each as far as a call writes it (tests/test_cases.py).
 """
-import pathlib
-import sys
-
-HERE = pathlib.Path(__file__).resolve().parent.parent / "crates" / "picture_cases"
-SCRATCH = 65600  # places of the program's scratch buffer
-PLACES = 40  # places of each of its two matrix buffers, at most; every place is 7 before a call
 
 
 def closure(n, pairs):
@@ -80,64 +74,54 @@ def answer(rows, arrows, mode, u, f):
     return "unclear", reach[1][0][0], reach[0][0][0]
 
 
-def said(fault, words=("passed",)):
-    return " ".join(map(str, ("refused", *fault) if fault else words))
+def atoms(boxes, rows, side):
+    return [b for b in range(len(boxes)) if boxes[b] == side and b not in rows[::2]]
+
+
+def first(faults):
+    return next((f for f in faults if f), None)
 
 
 def expected(boxes, rows, arrows, lent, mode, u, f, nb, nn):
     """The four lines for a picture."""
     n = len(boxes)
-    pairs = list(zip(rows[::2], rows[1::2]))
     fault = refusal(boxes, rows, arrows)
-    sound = not fault
     room = None if n * n <= lent else (9, 0, n * n, 0)
-    loop = None
-    filled = [7] * SCRATCH
+    asked = (8, mode, 0, 0) if mode > 7 else None
+    filled, loop, unclear = [], None, None
     users = files = []
-    if sound:
-        inside = closure(n, pairs)
-        for a in range(n if not room else 0):
-            for b in range(n):
-                filled[a * n + b] = int(b in inside[a])
+    if not fault:
+        inside = closure(n, list(zip(rows[::2], rows[1::2])))
+        filled = [int(b in inside[a]) for a in range(n) for b in range(n)]
         own = [b for b in range(n) if b in inside[b]]
         loop = (10, own[0], 0, 0) if own else None
-        outer = {a for a, _ in pairs}
-        users, files = ([b for b in range(n) if boxes[b] == side and b not in outer] for side in (0, 1))
-    cells = len(users) * len(files)
-    asked = (8, mode, 0, 0) if mode > 7 else None
-
-    def line(early, late, words=("passed",)):
-        """Refused by the first of the early checks, else by the first of the late ones; the scratch is filled between them."""
-        before = next((e for e in [fault, *early] if e), None)
-        scratch = [7] * SCRATCH if before else filled
-        after = before or next((e for e in late if e), None)
-        counts = " : " + " ".join(str(scratch.count(v)) for v in (0, 1, 7))
-        return after, said(after, words), counts, scratch
-
-    _, prepare, counts, scratch = line([room], [loop])
-    prepare += counts + " : " + " ".join(map(str, scratch[:16]))
-
-    unclear = None
-    if sound and not room and not loop:
-        unclear = next(((12, m, a, b) for m in range(8) for a in users for b in files if answer(rows, arrows, m, a, b)[0] == "unclear"), None)
-    _, judge, counts, _ = line([room], [loop, unclear])
-    judge += counts
-
+        users, files = (atoms(boxes, rows, side) for side in (0, 1))
+        if not room and not loop:
+            unclear = first((12, m, a, b) if answer(rows, arrows, m, a, b)[0] == "unclear" else None for m in range(8) for a in users for b in files)
+    cells = [(a, b) for a in users for b in files]
+    short = [(9, k, len(cells), 0) if have < len(cells) else None for k, have in ((1, nb), (2, nn))]
     atomic = None if u in users and f in files else (11, u, f, 0)
-    words = answer(rows, arrows, mode, u, f) if sound and not atomic else ("?",)
-    _, entry, counts, _ = line([asked, room], [loop, atomic], words)
-    entry += counts
 
-    short = [(9, k, cells, 0) if have < cells else None for k, have in ((1, nb), (2, nn))]
-    refused, matrix, counts, _ = line([asked, room, *short], [loop])
-    both = [7] * nb, [7] * nn
-    if not refused:
-        for p, (a, b) in enumerate((a, b) for a in users for b in files):
-            e = answer(rows, arrows, mode, a, b)
-            both[0][p] = {"granted": 1, "denied": 0, "default": 0, "unclear": 2}[e[0]]
-            both[1][p] = e[1] if e[0] in ("granted", "denied") else 65535
-    matrix += "".join(" :" + "".join(f" {v}" for v in x[:16]) for x in both) + counts
-    return "\n".join([prepare, judge, entry, matrix])
+    def line(early, late, words=lambda: ["passed"], both=lambda: ([], [])):
+        """Refused by the first of the early checks, else by the first of the late ones; the scratch is filled between them."""
+        before = first([fault, *early])
+        after = before or first(late)
+        scratch = [] if before else filled
+        if after:
+            return ["refused", *after], [scratch, []], [[]]
+        return words(), [scratch, both()[0]], [both()[1]]
+
+    def matrix():
+        codes = {"granted": 1, "denied": 0, "default": 0, "unclear": 2}
+        entries = [answer(rows, arrows, mode, a, b) for a, b in cells]
+        return [codes[e[0]] for e in entries], [e[1] if e[0] in ("granted", "denied") else 65535 for e in entries]
+
+    return [
+        line([room], [loop]),
+        line([room], [loop, unclear]),
+        line([asked, room], [loop, atomic], words=lambda: answer(rows, arrows, mode, u, f)),
+        line([asked, room, *short], [loop], both=matrix),
+    ]
 
 
 B = [0, 0, 0, 1], [2, 0, 2, 1], [0, 3, 0, 1, 2, 3, 0, 0]
@@ -215,8 +199,8 @@ CASES = [
 ]
 
 
-# The cases above ask about user 0, file 1 in mode 0, with as many matrix places as there are.
-QUESTION = 0, 0, 1, PLACES, PLACES
+# The cases above ask in mode 0 about user 0, file 1, with 40 places of each matrix buffer.
+QUESTION = 0, 0, 1, 40, 40
 
 C = [0, 1], [], [0, 1, 0, 1, 0, 1, 0, 0]
 D = [0, 0, 0, 1], [1, 0, 2, 0], [1, 3, 0, 1, 2, 3, 0, 0]
@@ -275,16 +259,13 @@ WORKED = [
 def worked(picture, mode, judged, answers):
     """Holds the model above to what was worked by hand."""
     boxes, rows, arrows = picture
-    outer = set(rows[::2])
-    users, files = ([b for b in range(len(boxes)) if boxes[b] == side and b not in outer] for side in (0, 1))
+    users, files = (atoms(boxes, rows, side) for side in (0, 1))
     letters = {"granted": "g", "denied": "d", "unclear": "u", "default": "-"}
     entries = [answer(rows, arrows, mode, u, f) for u in users for f in files]
     assert " ".join(letters[e[0]] + ",".join(map(str, e[1:])) for e in entries) == answers, (picture, entries)
-    n = len(boxes)
-    ask = mode, users[0] if users else 0, files[-1] if files else 0, PLACES, PLACES
-    lines = expected(*picture, n * n, *ask)
-    assert lines.split("\n")[1].split(" : ")[0] == said(judged), (picture, lines)
-    return (*picture, n * n, *ask)
+    case = *picture, len(boxes) ** 2, mode, users[0] if users else 0, files[-1] if files else 0, 40, 40
+    assert expected(*case)[1][0] == (["refused", *judged] if judged else ["passed"]), case
+    return case
 
 
 # 8, 9 for the matrix buffers, 11, and their order
@@ -306,25 +287,56 @@ FAULTS = [
     ([0, 0, 1], [1, 1], [], 9, 0, 1, 2, 1, 1),
     ([0, 1, 1], [1, 1], [0, 3, 9, 9], 9, 9, 9, 9, 0, 0),
 ]
-ALL = [(*case, *QUESTION) for case in CASES] + [worked(*w) for w in WORKED] + FAULTS
+PICTURES = [(*case, *QUESTION) for case in CASES] + [worked(*w) for w in WORKED] + FAULTS
+
+# Lists, worked by hand: a picture, a mode, the lent places of scratch, list and work, the answer, and the list that is written.
+# With an answer of 13 the list holds 65535 for each arrow of the mode. Where a list is written or the answer is 13, the work holds
+# 0 for each pair.
+ENOUGH = 2400, 520, 600
+TWO = [0, 0, 0, 1, 1], [2, 0, 2, 1]  # two users in a group, and two files
+UNCLEAR = *TWO, [2, 3, 1, 0, 0, 3, 1, 1, 1, 4, 2, 1, 1, 4, 2, 0]
+LISTS = [
+    (([], [], []), 0, ENOUGH, "written 0", []),
+    # B, with buffers that suffice, that just do, and that are too short; modes without arrows; a mode above 7
+    (B, 0, ENOUGH, "written 2", [0, 1]),
+    (B, 0, (16, 2, 2), "written 2", [0, 1]),
+    (B, 0, (15, 1, 1), "refused 9 0 16 0", []),
+    (B, 0, (16, 1, 1), "refused 9 3 2 0", []),
+    (B, 0, (16, 2, 1), "refused 9 4 2 0", []),
+    (B, 1, ENOUGH, "written 0", []),
+    (B, 7, ENOUGH, "written 0", []),
+    (B, 8, ENOUGH, "refused 8 8 0 0", []),
+    # the ring J; J with an arrow to one granted pair, which lets the others follow; J beside a user with an arrow of its own
+    (J, 0, ENOUGH, "refused 13 0 0 7", [65535] * 4),
+    (J, 0, (144, 4, 4), "refused 13 0 0 7", [65535] * 4),
+    ((*J[:2], [*J[2], 1, 6, 0, 1]), 0, ENOUGH, "written 4", [4, 3, 0, 1]),
+    (([*J[0], 0], J[1], [12, 6, 0, 1, *J[2]]), 0, ENOUGH, "refused 13 0 0 7", [65535] * 5),
+    # only negative arrows; two granted pairs that need two arrows, once with a repeated arrow; a box in itself
+    ((*TWO, [2, 3, 0, 0, 0, 4, 0, 0]), 0, ENOUGH, "written 2", [0, 1]),
+    ((*TWO, [0, 3, 0, 1, 1, 4, 0, 1]), 0, ENOUGH, "written 2", [0, 1]),
+    ((*TWO, [1, 4, 0, 1, 0, 3, 0, 1, 1, 4, 0, 1, 2, 4, 0, 0]), 0, ENOUGH, "written 3", [0, 1, 3]),
+    ((TWO[0], [2, 0, 2, 2], [0, 3, 0, 1, 1, 4, 0, 1]), 0, ENOUGH, "refused 10 2 0 0", []),
+    # an unclear pair in mode 2 and none in mode 1
+    (UNCLEAR, 1, ENOUGH, "written 2", [1, 0]),
+    (UNCLEAR, 2, ENOUGH, "refused 12 2 1 4", []),
+    # 512 arrows of mode 3: from each of 16 users to each of 32 files, every third of them positive
+    (([0] * 16 + [1] * 32, [], [x for k in range(512) for x in (k // 32, 16 + k % 32, 3, k % 3 % 2)]), 3, ENOUGH, "written 512", [*range(512)]),
+]
 
 
-def text(numbers):
-    return " ".join(map(str, [len(numbers), *numbers]))
+def listed(picture, said, places):
+    """The line of a list. The scratch is filled after 8 and 9, as by the first line of a picture."""
+    boxes, rows, _ = picture
+    words = said.split()
+    early = words[:2] in (["refused", "8"], ["refused", "9"])
+    done = words[0] == "written" or words[1] == "13"
+    scratch = [] if early else expected(*picture, 65536, *QUESTION)[0][1][0]
+    pairs = len(atoms(boxes, rows, 0)) * len(atoms(boxes, rows, 1))
+    return words, [scratch, [0] * pairs if done else []], [places]
 
 
-def main():
-    stdin = "".join("\n".join([text(b), text(r), text(a), " ".join(map(str, ask))]) + "\n" for b, r, a, *ask in ALL)
-    stdout = "".join(expected(*case) + "\n" for case in ALL)
-    assert len(stdin) <= 65536
-    files = {"stdin": stdin, "stdout": stdout}
-    if "--check" in sys.argv[1:]:
-        stale = [name for name, body in files.items() if (HERE / name).read_text() != body]
-        if stale:
-            sys.exit("picture_cases.py: not what it makes: " + ", ".join(stale))
-        return
-    for name, body in files.items():
-        (HERE / name).write_text(body)
-
-
-main()
+def cases():
+    for k, case in enumerate(PICTURES):
+        yield f"picture {k}", case, expected(*case)
+    for k, (picture, mode, (scratch, out, work), said, places) in enumerate(LISTS):
+        yield f"list {k}", (*picture, scratch, mode, 0, 0, work, out), [listed(picture, said, places)]

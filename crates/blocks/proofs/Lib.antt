@@ -7,4 +7,5 @@ pub mod Held
 pub mod Searches
 pub mod Counting
 pub mod Order
+pub mod Rooms
 pub mod Made

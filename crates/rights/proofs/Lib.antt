@@ -1,1 +1,2 @@
 mod Lists
+mod Ready

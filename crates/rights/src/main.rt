@@ -314,24 +314,13 @@ fn put_tables(
     arrows: &[u16],
     scratch: &mut [u8],
     out: &mut [u8],
-) -> usize {
+) -> usize
+    requires { ⌜ (c .boxes ≤ length (now boxes)) × (2 * c .containments ≤ length (now rows)) × (4 * c .arrows ≤ length (now arrows)) ⌝ }
+{
     let nb = c.boxes;
-    let nr = c.containments;
-    let na = c.arrows;
-    let most_rows = rows.len() / 2;
-    let most_arrows = arrows.len() / 4;
-    if boxes.len() < nb {
-        return 0;
-    }
-    if most_rows < nr {
-        return 0;
-    }
-    if most_arrows < na {
-        return 0;
-    }
-    let er = 2 * nr;
-    let ea = 4 * na;
-    put_picture(&boxes[..nb], &rows[..er], &arrows[..ea], scratch, out)
+    let nr = 2 * c.containments;
+    let na = 4 * c.arrows;
+    put_picture(&boxes[..nb], &rows[..nr], &arrows[..na], scratch, out)
 }
 
 fn main() {

@@ -10,42 +10,6 @@ use Rattle.answers.proofs.ReadyLaws.{room, boxes-within, mode-within, sound-wit
 use Rattle.rights.proofs.put_mode.Statement.{statement}
 use Rattle.rights.proofs.put_mode.Tie as tie
 
-boxes-of-requires : tie.Need-boxes-of-requires
-boxes-of-requires c κs = search needs
-
-boxes-of-requires-2 : tie.Need-boxes-of-requires-2
-boxes-of-requires-2 c κs = search needs
-
-numbers-requires : tie.Need-numbers-requires
-numbers-requires c κs = search needs
-
-numbers-requires-2 : tie.Need-numbers-requires-2
-numbers-requires-2 c κs = search needs
-
-numbers-requires-3 : tie.Need-numbers-requires-3
-numbers-requires-3 c κs = search needs
-
-slice-aggregate-atoms-of : tie.Need-slice-aggregate-atoms-of
-slice-aggregate-atoms-of c = search needs
-
-atoms-of-requires : tie.Need-atoms-of-requires
-atoms-of-requires c κs = search needs
-
-slice-aggregate-atoms-of-2 : tie.Need-slice-aggregate-atoms-of-2
-slice-aggregate-atoms-of-2 c = search needs
-
-atoms-of-requires-2 : tie.Need-atoms-of-requires-2
-atoms-of-requires-2 c κs = search needs
-
-slice-aggregate-mode-arrows : tie.Need-slice-aggregate-mode-arrows
-slice-aggregate-mode-arrows c = search needs
-
-mode-arrows-requires : tie.Need-mode-arrows-requires
-mode-arrows-requires c κs = search needs
-
-returns : tie.Need-returns
-returns c = search needs
-
 array-share-prefix-own : tie.Need-array-share-prefix-own
 array-share-prefix-own c = mode-within _ _ _ _ _ (c .before .before .before .before .before .before .before .before .before .before .before .before .before .before .before .before .before .before .before .before .pre .1 .few-arrows) (c .before .before .before .before .before .before .before .before .before .before .before .before .numbers .ensures) (c .before .before .mode-arrows .ensures)
 
@@ -64,12 +28,6 @@ array-share-prefix-files c = boxes-within _ _ file _ _ _ (c .before .before .bef
 slice-aggregate-put-users-3 : tie.Need-slice-aggregate-put-users-3
 slice-aggregate-put-users-3 c = part-length _ _ _ _ (c .before .before .before .before .before .before .before .before .atoms-of2 .ensures)
 
-slice-aggregate-put-users-4 : tie.Need-slice-aggregate-put-users-4
-slice-aggregate-put-users-4 c = search needs
-
-slice-aggregate-put-users-5 : tie.Need-slice-aggregate-put-users-5
-slice-aggregate-put-users-5 c = search needs
-
 put-users-requires : tie.Need-put-users-requires
 put-users-requires c κs = let start = c .before .before .before .before .before .before .before .before .before .before .before .before .before .before .before .before .before .before .before .before .before .before .before .before .before .before in
     let a = start .args in
@@ -87,36 +45,9 @@ put-users-requires c κs = let start = c .before .before .before .before .before
       omega (arith, start .pre .1 .few-arrows),
     )
 
-same-length : tie.Need-same-length
-same-length c = search needs
-
-returns-2 : tie.Need-returns-2
-returns-2 c = search needs
-
 pub put-mode-spec : {M : Type 1} → statement M
 put-mode-spec =
-    tie.close
-    (tie.spec
-    boxes-of-requires
-    boxes-of-requires-2
-    numbers-requires
-    numbers-requires-2
-    numbers-requires-3
-    slice-aggregate-atoms-of
-    atoms-of-requires
-    slice-aggregate-atoms-of-2
-    atoms-of-requires-2
-    slice-aggregate-mode-arrows
-    mode-arrows-requires
-    returns
-    array-share-prefix-own
-    slice-aggregate-put-users
-    array-share-prefix-users
-    slice-aggregate-put-users-2
-    array-share-prefix-files
-    slice-aggregate-put-users-3
-    slice-aggregate-put-users-4
-    slice-aggregate-put-users-5
-    put-users-requires
-    same-length
-    returns-2)
+    tie.close (tie.spec (λ c κs. search needs) (λ c κs. search needs) (λ c κs. search needs) (λ c κs. search needs) (λ c κs. search needs)
+    (search needs) (λ c κs. search needs) (search needs) (λ c κs. search needs) (search needs) (λ c κs. search needs) (search needs)
+    array-share-prefix-own slice-aggregate-put-users array-share-prefix-users slice-aggregate-put-users-2 array-share-prefix-files
+    slice-aggregate-put-users-3 (search needs) (search needs) put-users-requires (search needs) (search needs))

@@ -12,15 +12,6 @@ Inv-loop n rows scratch arrows mode own users files ps₀ ns₀ out₀ from at�
 abbrev μ-loop : tie.MeasureT-loop
 μ-loop n rows scratch arrows mode own users files ps₀ ns₀ out₀ from at₀ i₀ i-end ps ns out at i = length users - i
 
-loop-holds : tie.Need-loop-holds Inv-loop μ-loop
-loop-holds c = search needs
-
-mul-put-user : tie.Need-mul-put-user Inv-loop μ-loop
-mul-put-user c = search needs
-
-shared-slice-read-put-user : tie.Need-shared-slice-read-put-user Inv-loop μ-loop
-shared-slice-read-put-user c = search needs
-
 put-user-requires : tie.Need-put-user-requires Inv-loop μ-loop
 put-user-requires c κs = let at = c .before .before .before .before .before in
     let pre = at .before .before .before .before .before .before .before .before .before .before .pre in
@@ -31,38 +22,7 @@ add-i c = let test = c .before .before .before .before .before .before .before .
     let start = test .before .before .before .before .before .before .before .before .before .before .before in
     omega (arith, test .loop-test .taken, start .good .1 .1 .1 .1 .1 .1 .0 .0)
 
-loop-less : tie.Need-loop-less Inv-loop μ-loop
-loop-less c = search needs
-
-loop-again : tie.Need-loop-again Inv-loop μ-loop
-loop-again c = search needs
-
-same-length : tie.Need-same-length Inv-loop μ-loop
-same-length c = search needs
-
-same-length-2 : tie.Need-same-length-2 Inv-loop μ-loop
-same-length-2 c = search needs
-
-same-length-3 : tie.Need-same-length-3 Inv-loop μ-loop
-same-length-3 c = search needs
-
-returns : tie.Need-returns Inv-loop μ-loop
-returns c = search needs
-
 pub put-users-spec : {M : Type 1} → statement M
 put-users-spec =
-    tie.close
-    (tie.spec
-    Inv-loop
-    μ-loop
-    loop-holds
-    mul-put-user
-    shared-slice-read-put-user
-    put-user-requires
-    add-i
-    loop-less
-    loop-again
-    same-length
-    same-length-2
-    same-length-3
-    returns)
+    tie.close (tie.spec Inv-loop μ-loop (search needs) (search needs) (search needs) put-user-requires add-i (search needs) (search needs)
+    (search needs) (search needs) (search needs) (search needs))

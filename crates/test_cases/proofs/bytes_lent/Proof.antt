@@ -1,0 +1,11 @@
+use lib.ListN.{length-take}
+use native.Mathlib.Omega.{arith}
+use borrow.Author.Needs.{needs}
+use Rattle.test_cases.proofs.bytes_lent.Statement.{statement}
+use Rattle.test_cases.proofs.bytes_lent.Tie as tie
+
+returns : tie.Need-returns
+returns c = (search needs, simp length-take (omega arith))
+
+pub bytes-lent-spec : {M : Type 1} → statement M
+bytes-lent-spec = tie.close (tie.spec (search needs) returns)

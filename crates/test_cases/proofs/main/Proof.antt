@@ -1,0 +1,13 @@
+use Prim.Native.Nat.{_-_, _≤_}
+use borrow.Author.Needs.{needs}
+use Rattle.test_cases.proofs.main.Statement.{statement}
+use Rattle.test_cases.proofs.main.Tie as tie
+
+abbrev Inv-loop : tie.InvT-loop
+Inv-loop i₀ i = i ≤ 1000
+
+abbrev μ-loop : tie.MeasureT-loop
+μ-loop i₀ i = 1000 - i
+
+pub main-spec : {M : Type 1} → statement M
+main-spec = tie.close (tie.spec Inv-loop μ-loop (search needs) (search needs) (search needs) (search needs) (search needs) (search needs))
