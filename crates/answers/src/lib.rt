@@ -370,7 +370,7 @@ pub fn answer_pair(
 // ---- All pairs of an atomic user and an atomic file, by place: rows are the users, columns the files.
 
 // Room for box numbers.
-fn no_boxes() -> [u16; 256]
+pub fn no_boxes() -> [u16; 256]
     ensures { λ r. ⌜ r ≡ zeros 256 ⌝ }
 {
     [0u16; 256]
@@ -617,7 +617,7 @@ fn first_unclear(
 }
 
 // Check 12 for all modes, by the table.
-fn first_mode(
+pub fn first_mode(
     boxes: &[u8],
     rows: &[u16],
     arrows: &[u16],
@@ -638,14 +638,14 @@ fn first_mode(
 }
 
 // Room for the table: 512 arrows, 256 boxes, and two signs of 8 modes make 784 sets.
-fn no_words() -> [u64; 6272]
+pub fn no_words() -> [u64; 6272]
     ensures { λ r. ⌜ r ≡ zeros 6272 ⌝ }
 {
     [0u64; 6272]
 }
 
 // Check 12 for all modes.
-pub fn check_modes(boxes: &[u8], rows: &[u16], scratch: &[u8], arrows: &[u16]) -> Verdict
+fn check_modes(boxes: &[u8], rows: &[u16], scratch: &[u8], arrows: &[u16]) -> Verdict
     requires { ⌜ SoundRows (now boxes) (now rows) × SoundArrows (now boxes) (now arrows) × Says (length (now boxes)) (now rows) (now scratch) ⌝ }
     ensures { λ r. ⌜ r ≡ verdictOf (anyUnclear (now (boxes .entry)) (now (rows .entry)) (now (arrows .entry))) ⌝ }
 {

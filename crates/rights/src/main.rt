@@ -4,13 +4,13 @@ ghost use mathlib.Core.Path.{_≡_};
 ghost use lib.ListN.{length, getD};
 ghost use Rattle.tables.specs.Faults.{SoundRows, SoundArrows};
 ghost use Rattle.containment.specs.Scratch.{Says};
-ghost use Rattle.answers.specs.Among.{modeArrows, Within};
-ghost use Rattle.tables.specs.Buffers.{zeros};
+ghost use Rattle.answers.specs.Table.{Tabled};
 use answers::Entry;
 use blocks::Counts;
 use blocks::Reading;
 use libc::STDIN_FILENO;
 use libc::STDOUT_FILENO;
+use tables::Arrow;
 use tables::BoxRow;
 use tables::Refusal;
 use tables::Verdict;
@@ -113,138 +113,78 @@ fn put_verdict(out: &mut [u8], at: usize, v: Verdict) -> usize {
     }
 }
 
-// ---- The pairs of a mode, by user, then file, on a filled scratch.
+// ---- The pairs of each mode, by user, then file, from the table that was made once.
 
-// The lines of one user.
-fn put_user(
-    n: usize,
-    rows: &[u16],
-    scratch: &[u8],
-    arrows: &[u16],
-    mode: u16,
-    own: &[u16],
-    u: u16,
-    files: &[u16],
-    ps: &mut [u16],
-    ns: &mut [u16],
-    out: &mut [u8],
-    from: usize,
-) -> usize
-    requires { ⌜ Says n (now rows) (now scratch) × Within n (now arrows) × (now own ≡ modeArrows (now arrows) mode) × (u < n) × ((j : ℕ) → j < length (now files) → getD (now files) j 0 < n) × (length (now own) ≤ length (now ps)) × (length (now own) ≤ length (now ns)) ⌝ }
-{
-    let mut at = from;
-    for j in 0..files.len() {
-        let e = answers::answer_among(n, rows, scratch, arrows, mode, own, u, files[j], ps, ns);
-        at = put_pair(out, at, mode, u, files[j], e);
+// Whether the mode has an arrow.
+fn is_used(arrows: &[u16], mode: u16) -> bool {
+    for k in 0..arrows.len() / 4 {
+        if Arrow::at(arrows, k).mode == mode {
+            return true;
+        }
     }
-    at
+    false
 }
 
-// The lines of all users.
-fn put_users(
-    n: usize,
-    rows: &[u16],
-    scratch: &[u8],
-    arrows: &[u16],
-    mode: u16,
-    own: &[u16],
-    users: &[u16],
-    files: &[u16],
-    ps: &mut [u16],
-    ns: &mut [u16],
-    out: &mut [u8],
-    from: usize,
-) -> usize
-    requires { ⌜ Says n (now rows) (now scratch) × Within n (now arrows) × (now own ≡ modeArrows (now arrows) mode) × ((i : ℕ) → i < length (now users) → getD (now users) i 0 < n) × ((j : ℕ) → j < length (now files) → getD (now files) j 0 < n) × (length (now own) ≤ length (now ps)) × (length (now own) ≤ length (now ns)) ⌝ }
-{
-    let mut at = from;
-    for i in 0..users.len() {
-        at = put_user(
-            n,
-            rows,
-            scratch,
-            arrows,
-            mode,
-            own,
-            users[i],
-            files,
-            ps,
-            ns,
-            out,
-            at,
-        );
-    }
-    at
-}
-
-// Room for arrow numbers.
-fn numbers() -> [u16; 512]
-    ensures { λ r. ⌜ r ≡ zeros 512 ⌝ }
-{
-    [0u16; 512]
-}
-
-// Room for box numbers.
-fn boxes_of() -> [u16; 256]
-    ensures { λ r. ⌜ r ≡ zeros 256 ⌝ }
-{
-    [0u16; 256]
-}
-
-// The lines of a mode that has an arrow.
-fn put_mode(
+// The lines of a mode, if it has an arrow.
+fn put_pairs(
     boxes: &[u8],
     rows: &[u16],
-    scratch: &[u8],
     arrows: &[u16],
+    users: &[u16],
+    files: &[u16],
+    table: &[u64],
     mode: u16,
     out: &mut [u8],
-    at: usize,
+    from: usize,
 ) -> usize
-    requires { ⌜ SoundRows (now boxes) (now rows) × SoundArrows (now boxes) (now arrows) × Says (length (now boxes)) (now rows) (now scratch) ⌝ }
+    requires { ⌜ Tabled (now boxes) (now rows) (now arrows) (now users) (now files) (now table) × (mode < 8) ⌝ }
 {
-    let mut users = boxes_of();
-    let mut files = boxes_of();
-    let mut own = numbers();
-    let mut ps = numbers();
-    let mut ns = numbers();
-    let u = tables::atoms_of(boxes, rows, BoxRow::USER, &mut users);
-    let f = tables::atoms_of(boxes, rows, BoxRow::FILE, &mut files);
-    let m = answers::mode_arrows(arrows, mode, &mut own);
-    if m == 0 {
-        return at;
+    if !is_used(arrows, mode) {
+        return from;
     }
-    put_users(
-        boxes.len(),
-        rows,
-        scratch,
-        arrows,
-        mode,
-        &own[..m],
-        &users[..u],
-        &files[..f],
-        &mut ps,
-        &mut ns,
-        out,
-        at,
-    )
+    let mut at = from;
+    for p in 0..users.len() * files.len() {
+        let e = answers::answer_at(boxes, rows, arrows, users, files, table, mode, p);
+        let pair = answers::pair_at(boxes, rows, users, files, p);
+        at = put_pair(out, at, mode, pair.user, pair.file, e);
+    }
+    at
 }
 
+// The lines of the modes that have an arrow.
 fn put_modes(
     boxes: &[u8],
     rows: &[u16],
-    scratch: &[u8],
     arrows: &[u16],
+    users: &[u16],
+    files: &[u16],
+    table: &[u64],
     out: &mut [u8],
     from: usize,
 ) -> usize
-    requires { ⌜ SoundRows (now boxes) (now rows) × SoundArrows (now boxes) (now arrows) × Says (length (now boxes)) (now rows) (now scratch) ⌝ }
+    requires { ⌜ Tabled (now boxes) (now rows) (now arrows) (now users) (now files) (now table) ⌝ }
 {
     let mut at = from;
     for m in 0..8 {
-        at = put_mode(boxes, rows, scratch, arrows, m, out, at);
+        at = put_pairs(boxes, rows, arrows, users, files, table, m, out, at);
     }
     at
+}
+
+// The listing of a picture whose containments are in the scratch.
+fn put_listing(boxes: &[u8], rows: &[u16], arrows: &[u16], scratch: &[u8], out: &mut [u8]) -> usize
+    requires { ⌜ SoundRows (now boxes) (now rows) × SoundArrows (now boxes) (now arrows) × Says (length (now boxes)) (now rows) (now scratch) ⌝ }
+{
+    let mut u = answers::no_boxes();
+    let mut f = answers::no_boxes();
+    let mut table = answers::no_words();
+    let s = answers::tabulate(boxes, rows, scratch, arrows, &mut u, &mut f, &mut table);
+    let users = &u[..s.users];
+    let files = &f[..s.files];
+    let head = put_counts(out, 0, boxes.len(), rows.len() / 2, arrows.len() / 4);
+    let at = put_modes(boxes, rows, arrows, users, files, &table, out, head);
+    let v = answers::first_mode(boxes, rows, arrows, users, files, &table);
+    put_verdict(out, at, v)
 }
 
 // The listing of a picture, or its refusal.
@@ -259,9 +199,7 @@ fn put_picture(
     if let Verdict::Refused(r) = v {
         return put_refusal(out, 0, r);
     }
-    let head = put_counts(out, 0, boxes.len(), rows.len() / 2, arrows.len() / 4);
-    let at = put_modes(boxes, rows, scratch, arrows, out, head);
-    put_verdict(out, at, answers::check_modes(boxes, rows, scratch, arrows))
+    put_listing(boxes, rows, arrows, scratch, out)
 }
 
 fn flush(out: &[u8], at: usize) {
