@@ -22,7 +22,7 @@ use Rattle.tables.proofs.AtomPlaces.{atoms-found, atom-there}
 use Rattle.tables.proofs.AtomSides.{atoms-apart}
 use Rattle.containment.specs.Contains.{around}
 use Rattle.containment.specs.Scratch.{Says}
-use Rattle.sets.specs.Sets.{has, shared, coversAll}
+use Rattle.sets.specs.Sets.{has, shared, overAll}
 use Rattle.sets.proofs.SetLaws.{wordOf-bit, shared-has}
 use Rattle.sets.proofs.InsideLaws.{has-word, covers-own, covers-each, covers-is}
 use Rattle.answers.specs.Meaning.{positive, negative, reaches, overrides, settle, hits, certifies, answer}
@@ -253,7 +253,7 @@ module _ {boxes rows arrows users files table : List ℕ} (d : Tabled boxes rows
       set-in : (k : ℕ) → k < arrowCount arrows → k < setCount rows arrows users files
       set-in k l = omega arith
 
-      covers-certifies : (k : ℕ) → k < 512 → T (coversAll table (of r) (of q) k)
+      covers-certifies : (k : ℕ) → k < 512 → T (overAll table (of r) (of q) k)
           → (k < arrowCount arrows) × T (certifies rows arrows m s o (getD users i 0) (getD files j 0) k)
       unfolding beats
       covers-certifies k h t =
@@ -268,7 +268,7 @@ module _ {boxes rows arrows users files table : List ℕ} (d : Tabled boxes rows
           )
 
       certifies-covers : (k : ℕ) → k < arrowCount arrows → T (certifies rows arrows m s o (getD users i 0) (getD files j 0) k)
-          → (k < 512) × T (coversAll table (of r) (of q) k)
+          → (k < 512) × T (overAll table (of r) (of q) k)
       unfolding beats
       certifies-covers k l c =
           let few = d .few-arrows in
@@ -283,7 +283,7 @@ module _ {boxes rows arrows users files table : List ℕ} (d : Tabled boxes rows
                 (certifies-over rows arrows m (getD users i 0) (getD files j 0) s o k c n (y .0) (y .1)))),
           )
 
-      pub certificate-is : lowest (coversAll table (of r) (of q)) 512
+      pub certificate-is : lowest (overAll table (of r) (of q)) 512
           ≡ lowest (certifies rows arrows m s o (getD users i 0) (getD files j 0)) (arrowCount arrows)
       certificate-is = lowest-same _ _ _ _ covers-certifies certifies-covers
 
@@ -292,7 +292,7 @@ module _ {boxes rows arrows users files table : List ℕ} (d : Tabled boxes rows
     hit-is s r o = let few = d .few-arrows in lowest-same _ _ _ _ (has-hit s r o) (λ k l h. (omega arith, hit-has s r o k l h))
 
     pub answer-is : (r q : ℕ) → OfMode m positive r → OfMode m negative q
-        → settle (lowest (coversAll table (of r) (of q)) 512) (lowest (coversAll table (of q) (of r)) 512) (lowest (has (of r) 0) 512) (lowest (has (of q) 0) 512)
+        → settle (lowest (overAll table (of r) (of q)) 512) (lowest (overAll table (of q) (of r)) 512) (lowest (has (of r) 0) 512) (lowest (has (of q) 0) 512)
         ≡ answer rows arrows m (getD users i 0) (getD files j 0)
     unfolding answer
     answer-is r q p n =

@@ -16,7 +16,7 @@ ghost use Rattle.containment.specs.Scratch.{Says, scratchAfter, earlyFault};
 ghost use Rattle.answers.specs.Meaning.{positive, negative, reaches, nests, overrides, settle, answer, byteOf, numberOf, isUnclear, grantingOf};
 ghost use Rattle.answers.specs.Pairs.{userAt, fileAt, answerAt, matrixBytes, matrixNumbers, unclearFault, anyUnclear};
 ghost use Rattle.answers.specs.Calls.{askedFault, replyOf, entryEarly, entryFault, judgeFault, matrixEarly, matrixFault, bytesAfter, numbersAfter};
-ghost use Rattle.sets.specs.Sets.{has, coversAll};
+ghost use Rattle.sets.specs.Sets.{has, overAll};
 ghost use Rattle.answers.specs.Among.{modeArrows, reachesBy, reaching, overridesAll, Within, Numbers, FirstAt, wins, NoneBefore};
 ghost use Rattle.answers.specs.Table.{beats, signed, member, setWord, setWords, setCount, Source, Tabled, Tabulates};
 use containment::check_scratch;
@@ -548,7 +548,7 @@ pub fn tabulate(
 // The answer, by the sets of the positive and of the negative arrows that reach the pair.
 fn settle_sets(table: &[u64], ps: &[u64], ns: &[u64]) -> Entry
     requires { ⌜ (4096 ≤ length (now table)) × (8 ≤ length (now ps)) × (8 ≤ length (now ns)) ⌝ }
-    ensures { λ r. ⌜ r ≡ settle (lowest (coversAll (now (table .entry)) (now (ps .entry)) (now (ns .entry))) 512) (lowest (coversAll (now (table .entry)) (now (ns .entry)) (now (ps .entry))) 512) (lowest (has (now (ps .entry)) 0) 512) (lowest (has (now (ns .entry)) 0) 512) ⌝ }
+    ensures { λ r. ⌜ r ≡ settle (lowest (overAll (now (table .entry)) (now (ps .entry)) (now (ns .entry))) 512) (lowest (overAll (now (table .entry)) (now (ns .entry)) (now (ps .entry))) 512) (lowest (has (now (ps .entry)) 0) 512) (lowest (has (now (ns .entry)) 0) 512) ⌝ }
 {
     let p = first_over(table, ps, ns);
     if p < 512 {

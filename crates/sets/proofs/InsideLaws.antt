@@ -10,7 +10,7 @@ use lib.Dec.{T}
 use lib.ListN.{getD}
 use Rattle.tables.proofs.SearchLaws.{every-at, every-is}
 use Rattle.tables.proofs.Tests.{T-true, not-false, and-T, T-and}
-use Rattle.sets.specs.Sets.{bitAt, wordIn, has, inside, coversAll}
+use Rattle.sets.specs.Sets.{bitAt, wordIn, has, inside, overAll}
 use Rattle.sets.proofs.SetLaws.{and-inside, inside-and}
 
 -- bit b of word q is number q * 64 + b
@@ -61,18 +61,18 @@ unfolding has wordIn
 has-word table r k = refl
 
 module _ (table own opposite : List ℕ) (k : ℕ) where
-  pub covers-own : T (coversAll table own opposite k) → T (has own 0 k)
-  unfolding coversAll
+  pub covers-own : T (overAll table own opposite k) → T (has own 0 k)
+  unfolding overAll
   covers-own t = and-T (has own 0 k) (inside opposite table k) t .0
 
-  pub covers-each : T (coversAll table own opposite k) → (j : ℕ) → j < 512 → T (has opposite 0 j) → T (has table k j)
-  unfolding coversAll inside
+  pub covers-each : T (overAll table own opposite k) → (j : ℕ) → j < 512 → T (has opposite 0 j) → T (has table k j)
+  unfolding overAll inside
   covers-each t j l =
       follows (has opposite 0 j) (has table k j)
       (every-at (λ j. not (has opposite 0 j) || has table k j) 512 (and-T (has own 0 k) (inside opposite table k) t .1) j l)
 
-  pub covers-is : T (has own 0 k) → ((j : ℕ) → j < 512 → T (has opposite 0 j) → T (has table k j)) → T (coversAll table own opposite k)
-  unfolding coversAll inside
+  pub covers-is : T (has own 0 k) → ((j : ℕ) → j < 512 → T (has opposite 0 j) → T (has table k j)) → T (overAll table own opposite k)
+  unfolding overAll inside
   covers-is t h =
       T-and (has own 0 k) (inside opposite table k) t
       (every-is (λ j. not (has opposite 0 j) || has table k j) 512 (λ j l. T-follows (has opposite 0 j) (has table k j) (h j l)))

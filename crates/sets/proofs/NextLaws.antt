@@ -16,7 +16,7 @@ use Rattle.tables.specs.Search.{lowest}
 use Rattle.tables.proofs.SearchLaws.{lowest-some}
 use Rattle.tables.proofs.SelectLaws.{lowest-is}
 use Rattle.tables.proofs.Tests.{T-and, and-T, true-T, false-not, T-eqb}
-use Rattle.sets.specs.Sets.{bitAt, wordIn, has, inside, coversAll, NextAt}
+use Rattle.sets.specs.Sets.{bitAt, wordIn, has, inside, overAll, NextAt}
 use Rattle.sets.proofs.SetLaws.{zero-bit, half-lt}
 use Rattle.sets.proofs.InsideLaws.{has-at}
 
@@ -119,11 +119,11 @@ module _ (set : List ℕ) (s k : ℕ) where
 module _ (table own opposite : List ℕ) where
   -- no number below k will do
   abbrev pub Passed : ℕ → Type 0
-  Passed k = Free (coversAll table own opposite) 0 k
+  Passed k = Free (overAll table own opposite) 0 k
 
   -- numbers that are not in the set are passed over
   pub passed-next : (s r : ℕ) → Passed s → NextAt (has own 0) s r → Passed r
-  unfolding coversAll
+  unfolding overAll
   passed-next s r f n k h l t = go (decLt k s)
     where
       go : Dec (k < s) → ⊥
@@ -131,16 +131,16 @@ module _ (table own opposite : List ℕ) where
       go (no u) = n .none-between k (omega arith) l (and-T (has own 0 k) (inside opposite table k) t .0)
 
   pub passed-more : (k : ℕ) → Passed k → inside opposite table k ≡ false → Passed (k + 1)
-  unfolding coversAll
+  unfolding overAll
   passed-more k f e =
-      free-more (coversAll table own opposite) 0 k 1 f
+      free-more (overAll table own opposite) 0 k 1 f
       (λ b h t.
       let i : k + b ≡ k = omega arith in
       false-not (inside opposite table k) e
       (subst (λ (z : ℕ). T (inside opposite table z)) i (and-T (has own 0 (k + b)) (inside opposite table (k + b)) t .1)))
 
-  pub passed-found : (k : ℕ) → k < 512 → T (has own 0 k) → inside opposite table k ≡ true → Passed k → NextAt (coversAll table own opposite) 0 k
-  unfolding coversAll
+  pub passed-found : (k : ℕ) → k < 512 → T (has own 0 k) → inside opposite table k ≡ true → Passed k → NextAt (overAll table own opposite) 0 k
+  unfolding overAll
   passed-found k h t e f =
-      free-found (coversAll table own opposite) 0 k (omega arith) h
+      free-found (overAll table own opposite) 0 k (omega arith) h
       (T-and (has own 0 k) (inside opposite table k) t (true-T (inside opposite table k) e)) f

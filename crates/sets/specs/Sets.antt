@@ -35,8 +35,8 @@ unfoldable pub inside : List ℕ → List ℕ → ℕ → Bool
 inside set table r = every (λ k. not (has set 0 k) || has table r k) 512
 
 -- k is in the first set, and set k of the table has all of the second
-unfoldable pub coversAll : List ℕ → List ℕ → List ℕ → ℕ → Bool
-coversAll table own opposite k = has own 0 k && inside opposite table k
+unfoldable pub overAll : List ℕ → List ℕ → List ℕ → ℕ → Bool
+overAll table own opposite k = has own 0 k && inside opposite table k
 
 -- r is the lowest number from s on at which the test holds, or 512 where there is none below that
 pub record NextAt (p : ℕ → Bool) (s r : ℕ) : Type 0 where

@@ -5,7 +5,7 @@ ghost use Prim.Native.Nat.{_+_, _*_, _<_, _≤_};
 ghost use lib.Bits.{bitAnd};
 ghost use lib.ListN.{length};
 ghost use Rattle.tables.specs.Search.{lowest};
-ghost use Rattle.sets.specs.Sets.{bitAt, wordIn, has, shared, inside, coversAll, NextAt};
+ghost use Rattle.sets.specs.Sets.{bitAt, wordIn, has, shared, inside, overAll, NextAt};
 
 // Word q of set r.
 fn word(table: &[u64], r: usize, q: usize) -> u64
@@ -81,7 +81,7 @@ pub fn next_in(set: &[u64], from: usize) -> usize
 // The lowest number of the first set whose own set in the table has all of the second, or 512.
 pub fn first_over(table: &[u64], own: &[u64], opposite: &[u64]) -> usize
     requires { ⌜ (4096 ≤ length (now table)) × (8 ≤ length (now own)) × (8 ≤ length (now opposite)) ⌝ }
-    ensures { λ r. ⌜ NextAt (coversAll (now (table .entry)) (now (own .entry)) (now (opposite .entry))) 0 r ⌝ }
+    ensures { λ r. ⌜ NextAt (overAll (now (table .entry)) (now (own .entry)) (now (opposite .entry))) 0 r ⌝ }
 {
     let mut k = next_in(own, 0);
     while k < 512 {

@@ -57,15 +57,5 @@ returns c = let a = c .before .before .before .before .before .before .before .b
 
 pub answer-among-spec : {M : Type 1} → statement M
 answer-among-spec =
-    tie.close
-    (tie.spec
-    gather-requires
-    gather-requires-2
-    slice-reshare-prefix-settle
-    slice-aggregate-settle
-    slice-reshare-prefix-settle-2
-    slice-aggregate-settle-2
-    settle-requires
-    same-length
-    same-length-2
-    returns)
+    tie.close (tie.spec gather-requires gather-requires-2 slice-reshare-prefix-settle slice-aggregate-settle slice-reshare-prefix-settle-2
+    slice-aggregate-settle-2 settle-requires same-length same-length-2 returns)

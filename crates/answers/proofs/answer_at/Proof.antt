@@ -17,21 +17,6 @@ placed : (c : tie.Start) → let a = c .args in (a .p / length (a .files .now) <
 placed c = let a = c .args in
     place-there (a .boxes .now) (a .rows .now) (a .users .now) (a .files .now) (c .pre .0 .users-are) (c .pre .0 .files-are) (a .p) (c .pre .2)
 
-add-of-files : tie.Need-add-of-files
-add-of-files c = search needs
-
-add-of-mode : tie.Need-add-of-mode
-add-of-mode c = search needs
-
-wide-requires : tie.Need-wide-requires
-wide-requires c κs = search needs
-
-mul-of-mode : tie.Need-mul-of-mode
-mul-of-mode c = search needs
-
-add-of-mode-2 : tie.Need-add-of-mode-2
-add-of-mode-2 c = search needs
-
 div-user : tie.Need-div-user
 div-user c = omega (arith, placed (c .before .before .before .before .before .before .before))
 
@@ -43,9 +28,6 @@ rem-file c = omega (arith, placed (c .before .before .before .before .before .be
 
 add-file : tie.Need-add-file
 add-file c = let d = c .before .before .before .before .before .before .before .pre .0 in omega (arith, placed (c .before .before .before .before .before .before .before), d .few-arrows, d .few-sets)
-
-add-share : tie.Need-add-share
-add-share c = search needs
 
 share-requires : tie.Need-share-requires
 share-requires c κs = let start = c .before .before .before .before .before .before .before in let d = start .pre .0 in let e = c .wide .ensures in
@@ -79,21 +61,6 @@ returns c = let start = c .before .before .before .before .before .before .befor
 
 pub answer-at-spec : {M : Type 1} → statement M
 answer-at-spec =
-    tie.close
-    (tie.spec
-    add-of-files
-    add-of-mode
-    wide-requires
-    mul-of-mode
-    add-of-mode-2
-    div-user
-    add-user
-    rem-file
-    add-file
-    add-share
-    share-requires
-    share-requires-2
-    slice-aggregate-settle-sets
-    slice-aggregate-settle-sets-2
-    settle-sets-requires
+    tie.close (tie.spec (search needs) (search needs) (λ c κs. search needs) (search needs) (search needs) div-user add-user rem-file
+    add-file (search needs) share-requires share-requires-2 slice-aggregate-settle-sets slice-aggregate-settle-sets-2 settle-sets-requires
     returns)

@@ -14,32 +14,11 @@ use Rattle.answers.proofs.answer_pair.Tie as tie
 few : (c : tie.Start) → length (modeArrows (c .args .arrows .now) (c .args .mode)) ≤ 512
 few c = omega (arith, mode-most (c .args .arrows .now) (c .args .mode), c .pre .2)
 
-no-numbers-requires : tie.Need-no-numbers-requires
-no-numbers-requires c κs = search needs
-
-no-numbers-requires-2 : tie.Need-no-numbers-requires-2
-no-numbers-requires-2 c κs = search needs
-
-no-numbers-requires-3 : tie.Need-no-numbers-requires-3
-no-numbers-requires-3 c κs = search needs
-
-slice-aggregate-mode-arrows : tie.Need-slice-aggregate-mode-arrows
-slice-aggregate-mode-arrows c = search needs
-
-mode-arrows-requires : tie.Need-mode-arrows-requires
-mode-arrows-requires c κs = search needs
-
 array-share-prefix-own : tie.Need-array-share-prefix-own
 array-share-prefix-own c = part-within _ _ _ _ (c .before .mode-arrows .ensures) (omega (arith, few (c .before .before .before .before .before .before .before .before .before), ap length (c .before .before .before .before .before .no-numbers .ensures) ∙ zeros-length 512))
 
 slice-aggregate-answer-among : tie.Need-slice-aggregate-answer-among
 slice-aggregate-answer-among c = part-length _ _ _ _ (c .before .before .mode-arrows .ensures)
-
-slice-aggregate-answer-among-2 : tie.Need-slice-aggregate-answer-among-2
-slice-aggregate-answer-among-2 c = search needs
-
-slice-aggregate-answer-among-3 : tie.Need-slice-aggregate-answer-among-3
-slice-aggregate-answer-among-3 c = search needs
 
 answer-among-requires : tie.Need-answer-among-requires
 answer-among-requires c κs = let start = c .before .before .before .before .before .before .before .before .before .before .before .before in
@@ -59,16 +38,5 @@ returns c = c .before .before .answer-among .ensures .0
 
 pub answer-pair-spec : {M : Type 1} → statement M
 answer-pair-spec =
-    tie.close
-    (tie.spec
-    no-numbers-requires
-    no-numbers-requires-2
-    no-numbers-requires-3
-    slice-aggregate-mode-arrows
-    mode-arrows-requires
-    array-share-prefix-own
-    slice-aggregate-answer-among
-    slice-aggregate-answer-among-2
-    slice-aggregate-answer-among-3
-    answer-among-requires
-    returns)
+    tie.close (tie.spec (λ c κs. search needs) (λ c κs. search needs) (λ c κs. search needs) (search needs) (λ c κs. search needs)
+    array-share-prefix-own slice-aggregate-answer-among (search needs) (search needs) answer-among-requires returns)

@@ -4,18 +4,6 @@ use Rattle.answers.specs.Meaning.{byteOf}
 use Rattle.answers.proofs.byte_of.Statement.{statement}
 use Rattle.answers.proofs.byte_of.Tie as tie
 
-enum-told : tie.Need-enum-told
-enum-told c = search needs
-
-enum-told-2 : tie.Need-enum-told-2
-enum-told-2 c = search needs
-
-enum-told-3 : tie.Need-enum-told-3
-enum-told-3 c = search needs
-
-enum-told-4 : tie.Need-enum-told-4
-enum-told-4 c = search needs
-
 returns : tie.Need-returns
 unfolding byteOf
 returns c = rw (c .enum-told .given .1)
@@ -34,5 +22,4 @@ returns-4 c = rw (c .enum-told4 .given .1)
 
 pub byte-of-spec : {M : Type 1} → statement M
 byte-of-spec =
-    tie.close
-    (tie.spec enum-told enum-told-2 enum-told-3 enum-told-4 returns returns-2 returns-3 returns-4)
+    tie.close (tie.spec (search needs) (search needs) (search needs) (search needs) returns returns-2 returns-3 returns-4)

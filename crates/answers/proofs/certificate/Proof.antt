@@ -19,12 +19,6 @@ abbrev μ-loop : tie.MeasureT-loop
 loop-holds : tie.Need-loop-holds Inv-loop μ-loop
 loop-holds c = c .before .before .before .before .before .pre .4
 
-mul-arrow-at : tie.Need-mul-arrow-at Inv-loop μ-loop
-mul-arrow-at c = search needs
-
-shared-slice-read-arrow-at : tie.Need-shared-slice-read-arrow-at Inv-loop μ-loop
-shared-slice-read-arrow-at c = search needs
-
 arrow-at-requires : tie.Need-arrow-at-requires Inv-loop μ-loop
 arrow-at-requires c κs = c .before .before .before .before .before .before .before .before .pre .2 (c .before .before .loop .i) (c .before .loop-test .taken)
 
@@ -43,12 +37,6 @@ tried c = rw (← c .before .arrow-at .ensures) (sym (c .overrides-all .ensures)
 returns : tie.Need-returns Inv-loop μ-loop
 returns c = record { none-before = c .before .before .before .before .before .loop .inv; holds = λ h. true-T _ (tried (c .before) ∙ c .if1 .taken) }
 
-add-i : tie.Need-add-i Inv-loop μ-loop
-add-i c = search needs
-
-loop-less : tie.Need-loop-less Inv-loop μ-loop
-loop-less c = search needs
-
 loop-again : tie.Need-loop-again Inv-loop μ-loop
 loop-again c = below-more _ _ (c .before .before .before .before .before .loop .inv) (false-not _ (tried (c .before) ∙ c .if1 .left))
 
@@ -57,17 +45,5 @@ returns-2 c = record { none-before = c .before .loop .inv; holds = λ h. absurd 
 
 pub certificate-spec : {M : Type 1} → statement M
 certificate-spec =
-    tie.close
-    (tie.spec
-    Inv-loop
-    μ-loop
-    loop-holds
-    mul-arrow-at
-    shared-slice-read-arrow-at
-    arrow-at-requires
-    overrides-all-requires
-    returns
-    add-i
-    loop-less
-    loop-again
-    returns-2)
+    tie.close (tie.spec Inv-loop μ-loop loop-holds (search needs) (search needs) arrow-at-requires overrides-all-requires returns
+    (search needs) (search needs) loop-again returns-2)

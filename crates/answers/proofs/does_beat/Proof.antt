@@ -4,9 +4,6 @@ use borrow.Author.Needs.{needs}
 use Rattle.answers.proofs.does_beat.Statement.{statement}
 use Rattle.answers.proofs.does_beat.Tie as tie
 
-does-override-requires : tie.Need-does-override-requires
-does-override-requires c κs = search needs
-
 returns : tie.Need-returns
 returns c = rw (c .does-override .ensures, eq-eqb _ _ (c .before .if1 .taken))
 
@@ -14,4 +11,5 @@ returns-2 : tie.Need-returns-2
 returns-2 c = rw (ne-eqb _ _ (c .if1 .left))
 
 pub does-beat-spec : {M : Type 1} → statement M
-does-beat-spec = tie.close (tie.spec does-override-requires returns returns-2)
+does-beat-spec =
+    tie.close (tie.spec (λ c κs. search needs) returns returns-2)

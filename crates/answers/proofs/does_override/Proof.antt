@@ -5,23 +5,11 @@ use Rattle.answers.proofs.AnswerLaws.{outer-tail, outer-head, no-outer}
 use Rattle.answers.proofs.does_override.Statement.{statement}
 use Rattle.answers.proofs.does_override.Tie as tie
 
-is-nested-requires : tie.Need-is-nested-requires
-is-nested-requires c κs = search needs
-
 returns : tie.Need-returns
 returns c = sym (outer-tail _ _ _ (sym (c .before .is-nested .ensures) ∙ c .if1 .taken))
 
-is-nested-requires-2 : tie.Need-is-nested-requires-2
-is-nested-requires-2 c κs = search needs
-
 returns-2 : tie.Need-returns-2
 returns-2 c = sym (outer-head _ _ _ (sym (c .before .before .before .is-nested .ensures) ∙ c .before .before .if1 .left) (sym (c .before .is-nested2 .ensures) ∙ c .if2 .taken))
-
-is-nested-requires-3 : tie.Need-is-nested-requires-3
-is-nested-requires-3 c κs = search needs
-
-is-nested-requires-4 : tie.Need-is-nested-requires-4
-is-nested-requires-4 c κs = search needs
 
 returns-3 : tie.Need-returns-3
 returns-3 c = let a = c .before .before .before .before .before .before .before .before .args in
@@ -46,13 +34,5 @@ returns-4 c = let a = c .before .before .before .before .before .before .before 
 
 pub does-override-spec : {M : Type 1} → statement M
 does-override-spec =
-    tie.close
-    (tie.spec
-    is-nested-requires
-    returns
-    is-nested-requires-2
-    returns-2
-    is-nested-requires-3
-    is-nested-requires-4
-    returns-3
-    returns-4)
+    tie.close (tie.spec (λ c κs. search needs) returns (λ c κs. search needs) returns-2 (λ c κs. search needs) (λ c κs. search needs)
+    returns-3 returns-4)

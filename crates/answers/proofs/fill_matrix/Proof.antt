@@ -4,27 +4,6 @@ use Rattle.answers.proofs.TableLaws.{users-within, files-within, users-
 use Rattle.answers.proofs.fill_matrix.Statement.{statement}
 use Rattle.answers.proofs.fill_matrix.Tie as tie
 
-no-boxes-requires : tie.Need-no-boxes-requires
-no-boxes-requires c κs = search needs
-
-no-boxes-requires-2 : tie.Need-no-boxes-requires-2
-no-boxes-requires-2 c κs = search needs
-
-no-words-requires : tie.Need-no-words-requires
-no-words-requires c κs = search needs
-
-slice-aggregate-tabulate : tie.Need-slice-aggregate-tabulate
-slice-aggregate-tabulate c = search needs
-
-slice-aggregate-tabulate-2 : tie.Need-slice-aggregate-tabulate-2
-slice-aggregate-tabulate-2 c = search needs
-
-slice-aggregate-tabulate-3 : tie.Need-slice-aggregate-tabulate-3
-slice-aggregate-tabulate-3 c = search needs
-
-tabulate-requires : tie.Need-tabulate-requires
-tabulate-requires c κs = search needs
-
 array-share-prefix-users : tie.Need-array-share-prefix-users
 array-share-prefix-users c = users-within (c .before .before .before .before .before .before .before .before .before .before .before .before .before .before .before .before .pre .0) (c .before .before .before .tabulate .ensures) (c .before .before .before .before .before .before .before .before .before .no-boxes .ensures)
 
@@ -37,38 +16,11 @@ array-share-prefix-files c = files-within (c .before .before .before .before .be
 slice-aggregate-fill-pairs-2 : tie.Need-slice-aggregate-fill-pairs-2
 slice-aggregate-fill-pairs-2 c = files-length (c .before .before .before .before .before .before .before .before .before .before .before .before .before .before .before .before .before .before .pre .0) (c .before .before .before .before .before .tabulate .ensures)
 
-slice-aggregate-fill-pairs-3 : tie.Need-slice-aggregate-fill-pairs-3
-slice-aggregate-fill-pairs-3 c = search needs
-
 fill-pairs-requires : tie.Need-fill-pairs-requires
 fill-pairs-requires c κs = let p = c .before .before .before .before .before .before .before .before .before .before .before .before .before .before .before .before .before .before .before .before .before .pre in (made (p .0) (c .before .before .before .before .before .before .before .before .tabulate .ensures) (p .1) (c .before .before .before .before .before .before .before .before .before .before .before .before .no-words .ensures), p .3, p .4, p .5)
 
-same-length : tie.Need-same-length
-same-length c = search needs
-
-same-length-2 : tie.Need-same-length-2
-same-length-2 c = search needs
-
-returns : tie.Need-returns
-returns c = search needs
-
 pub fill-matrix-spec : {M : Type 1} → statement M
 fill-matrix-spec =
-    tie.close
-    (tie.spec
-    no-boxes-requires
-    no-boxes-requires-2
-    no-words-requires
-    slice-aggregate-tabulate
-    slice-aggregate-tabulate-2
-    slice-aggregate-tabulate-3
-    tabulate-requires
-    array-share-prefix-users
-    slice-aggregate-fill-pairs
-    array-share-prefix-files
-    slice-aggregate-fill-pairs-2
-    slice-aggregate-fill-pairs-3
-    fill-pairs-requires
-    same-length
-    same-length-2
-    returns)
+    tie.close (tie.spec (λ c κs. search needs) (λ c κs. search needs) (λ c κs. search needs) (search needs) (search needs) (search needs)
+    (λ c κs. search needs) array-share-prefix-users slice-aggregate-fill-pairs array-share-prefix-files slice-aggregate-fill-pairs-2
+    (search needs) fill-pairs-requires (search needs) (search needs) (λ c. search needs))

@@ -34,9 +34,6 @@ loop-holds c = let a = c .before .before .before .before .before .before .before
 answer-at-requires : tie.Need-answer-at-requires Inv-loop μ-loop
 answer-at-requires c κs = let start = c .before .before .before .before .before .before .before .before .before .before in (start .pre .0, start .pre .1, omega (arith, counted start, c .loop-test .taken))
 
-byte-of-requires : tie.Need-byte-of-requires Inv-loop μ-loop
-byte-of-requires c κs = search needs
-
 -- the buffers keep their lengths
 bytes-long : (c : tie.At-loop Inv-loop μ-loop) → length (c .loop .bytes) ≡ length (c .before .before .before .before .before .before .before .before .before .args .bytes .now)
 bytes-long c = let a = c .before .before .before .before .before .before .before .before .before .args in
@@ -48,9 +45,6 @@ numbers-long c = let a = c .before .before .before .before .before .before .befo
 
 slice-write-bytes : tie.Need-slice-write-bytes Inv-loop μ-loop
 slice-write-bytes c = omega (arith, bytes-long (c .before .before .before), counted (c .before .before .before .before .before .before .before .before .before .before .before .before), c .before .before .before .before .before .before .before .before .before .before .before .before .pre .2, c .before .before .loop-test .taken)
-
-number-of-requires : tie.Need-number-of-requires Inv-loop μ-loop
-number-of-requires c κs = search needs
 
 mul-numbers : tie.Need-mul-numbers Inv-loop μ-loop
 mul-numbers c = omega (arith, counted (c .before .before .before .before .before .before .before .before .before .before .before .before .before), c .before .before .before .loop-test .taken)
@@ -90,21 +84,5 @@ returns c = let a = c .before .before .before .before .before .before .before .b
 
 pub fill-pairs-spec : {M : Type 1} → statement M
 fill-pairs-spec =
-    tie.close
-    (tie.spec
-    Inv-loop
-    μ-loop
-    mul-p-end
-    loop-holds
-    answer-at-requires
-    byte-of-requires
-    slice-write-bytes
-    number-of-requires
-    mul-numbers
-    slice-write-numbers
-    add-p
-    loop-less
-    loop-again
-    same-length
-    same-length-2
-    returns)
+    tie.close (tie.spec Inv-loop μ-loop mul-p-end loop-holds answer-at-requires (λ c κs. search needs) slice-write-bytes
+    (λ c κs. search needs) mul-numbers slice-write-numbers add-p loop-less loop-again same-length same-length-2 returns)

@@ -17,27 +17,9 @@ Inv-loop n rows scratch arrows users files table₀ sets i₀ i-end table i = (i
 abbrev μ-loop : tie.MeasureT-loop
 μ-loop n rows scratch arrows users files table₀ sets i₀ i-end table i = 8 * setCount rows arrows users files - i
 
-add-sets : tie.Need-add-sets Inv-loop μ-loop
-add-sets c = search needs
-
-add-sets-2 : tie.Need-add-sets-2 Inv-loop μ-loop
-add-sets-2 c = search needs
-
-add-sets-3 : tie.Need-add-sets-3 Inv-loop μ-loop
-add-sets-3 c = search needs
-
-mul-i-end : tie.Need-mul-i-end Inv-loop μ-loop
-mul-i-end c = search needs
-
 loop-holds : tie.Need-loop-holds Inv-loop μ-loop
 unfolding build
 loop-holds c = let a = c .before .before .before .before .before .before .args in (search needs, sym (written-none (a .table .now)))
-
-word-at-requires : tie.Need-word-at-requires Inv-loop μ-loop
-word-at-requires c κs = search needs
-
-mul-table : tie.Need-mul-table Inv-loop μ-loop
-mul-table c = search needs
 
 long : (c : tie.At-loop Inv-loop μ-loop) → length (c .loop .table) ≡ length (c .before .before .before .before .before .before .before .args .table .now)
 long c = let a = c .before .before .before .before .before .before .before .args in
@@ -45,9 +27,6 @@ long c = let a = c .before .before .before .before .before .before .before .args
 
 slice-write-table : tie.Need-slice-write-table Inv-loop μ-loop
 slice-write-table c = omega (arith, long (c .before .before), c .before .before .before .before .before .before .before .before .before .pre .1, c .before .loop-test .taken)
-
-add-i : tie.Need-add-i Inv-loop μ-loop
-add-i c = search needs
 
 loop-less : tie.Need-loop-less Inv-loop μ-loop
 loop-less c = omega (arith, c .before .loop-test .taken)
@@ -72,20 +51,5 @@ returns c = let a = c .before .before .before .before .before .before .before .b
 
 pub fill-table-spec : {M : Type 1} → statement M
 fill-table-spec =
-    tie.close
-    (tie.spec
-    Inv-loop
-    μ-loop
-    add-sets
-    add-sets-2
-    add-sets-3
-    mul-i-end
-    loop-holds
-    word-at-requires
-    mul-table
-    slice-write-table
-    add-i
-    loop-less
-    loop-again
-    same-length
-    returns)
+    tie.close (tie.spec Inv-loop μ-loop (search needs) (search needs) (search needs) (search needs) loop-holds (λ c κs. search needs)
+    (search needs) slice-write-table (search needs) loop-less loop-again same-length returns)

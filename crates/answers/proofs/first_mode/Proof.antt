@@ -21,26 +21,11 @@ abbrev μ-loop : tie.MeasureT-loop
 loop-holds : tie.Need-loop-holds Inv-loop μ-loop
 loop-holds c = let a = c .before .before .before .before .before .before .args in (search needs, first-zero (unclearFault (a .boxes .now) (a .rows .now) (a .arrows .now)))
 
-first-unclear-requires : tie.Need-first-unclear-requires Inv-loop μ-loop
-first-unclear-requires c κs = search needs
-
-enum-known-v : tie.Need-enum-known-v Inv-loop μ-loop
-enum-known-v c = search needs
-
 returns : tie.Need-returns Inv-loop μ-loop
 unfolding anyUnclear
 returns c = let a = c .before .before .before .before .before .before .before .before .before .before .before .before .args in
     let l = c .before .before .before .before .before .loop in
     sym (ap verdictOf (first-here (unclearFault (a .boxes .now) (a .rows .now) (a .arrows .now)) 8 (l .m) _ (l .inv .1) (refused _ _ (sym (c .before .before .before .first-unclear .ensures) ∙ c .before .v .given .1)) (c .before .before .before .before .loop-test .taken)))
-
-enum-told : tie.Need-enum-told Inv-loop μ-loop
-enum-told c = search needs
-
-add-m : tie.Need-add-m Inv-loop μ-loop
-add-m c = search needs
-
-loop-less : tie.Need-loop-less Inv-loop μ-loop
-loop-less c = search needs
 
 loop-again : tie.Need-loop-again Inv-loop μ-loop
 loop-again c = let a = c .before .before .before .before .before .before .before .before .before .before .before .args in
@@ -54,16 +39,5 @@ returns-2 c = let e : c .before .loop .m ≡ 8 = omega arith in
 
 pub first-mode-spec : {M : Type 1} → statement M
 first-mode-spec =
-    tie.close
-    (tie.spec
-    Inv-loop
-    μ-loop
-    loop-holds
-    first-unclear-requires
-    enum-known-v
-    returns
-    enum-told
-    add-m
-    loop-less
-    loop-again
-    returns-2)
+    tie.close (tie.spec Inv-loop μ-loop loop-holds (λ c κs. search needs) (search needs) returns (search needs) (search needs)
+    (search needs) loop-again returns-2)

@@ -34,27 +34,12 @@ loop-holds c = let a = c .before .before .before .before .before .before .args i
 answer-at-requires : tie.Need-answer-at-requires Inv-loop μ-loop
 answer-at-requires c κs = let start = c .before .before .before .before .before .before .before .before in (start .pre .0, start .pre .1, omega (arith, counted start, c .loop-test .taken))
 
-is-unclear-requires : tie.Need-is-unclear-requires Inv-loop μ-loop
-is-unclear-requires c κs = search needs
-
 seen : (c : tie.After-is-unclear Inv-loop μ-loop) → let a = c .before .before .before .before .before .before .before .before .before .before .args in
     isUnclear (answerAt (a .boxes .now) (a .rows .now) (a .arrows .now) (a .mode) (c .before .before .before .loop .p)) ≡ c .is-unclear .result
 seen c = rw (← c .before .answer-at .ensures) (sym (c .is-unclear .ensures))
 
 pair-at-requires : tie.Need-pair-at-requires Inv-loop μ-loop
 pair-at-requires c κs = let start = c .before .before .before .before .before .before .before .before .before .before .before in (start .pre .0 .users-are, start .pre .0 .files-are, omega (arith, counted start, c .before .before .before .loop-test .taken))
-
-wide-requires : tie.Need-wide-requires Inv-loop μ-loop
-wide-requires c κs = search needs
-
-wide-requires-2 : tie.Need-wide-requires-2 Inv-loop μ-loop
-wide-requires-2 c κs = search needs
-
-wide-requires-3 : tie.Need-wide-requires-3 Inv-loop μ-loop
-wide-requires-3 c κs = search needs
-
-refused-if-requires : tie.Need-refused-if-requires Inv-loop μ-loop
-refused-if-requires c κs = search needs
 
 returns : tie.Need-returns Inv-loop μ-loop
 unfolding given
@@ -93,21 +78,6 @@ returns-2 c = let a = c .before .before .before .before .before .before .before 
 
 pub first-unclear-spec : {M : Type 1} → statement M
 first-unclear-spec =
-    tie.close
-    (tie.spec
-    Inv-loop
-    μ-loop
-    mul-p-end
-    loop-holds
-    answer-at-requires
-    is-unclear-requires
-    pair-at-requires
-    wide-requires
-    wide-requires-2
-    wide-requires-3
-    refused-if-requires
-    returns
-    add-p
-    loop-less
-    loop-again
+    tie.close (tie.spec Inv-loop μ-loop mul-p-end loop-holds answer-at-requires (λ c κs. search needs) pair-at-requires
+    (λ c κs. search needs) (λ c κs. search needs) (λ c κs. search needs) (λ c κs. search needs) returns add-p loop-less loop-again
     returns-2)

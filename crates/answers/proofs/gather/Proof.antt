@@ -24,12 +24,6 @@ loop-holds c = let a = c .before .before .before .before .before .args in
 numbered : (c : tie.Start Inv-loop μ-loop) → Numbers (c .args .arrows .now) (c .args .own .now)
 numbered c = rw (c .pre .2) (mode-numbers (c .args .arrows .now) (c .args .mode))
 
-mul-k : tie.Need-mul-k Inv-loop μ-loop
-mul-k c = search needs
-
-shared-slice-read-k : tie.Need-shared-slice-read-k Inv-loop μ-loop
-shared-slice-read-k c = search needs
-
 arrow-at-requires : tie.Need-arrow-at-requires Inv-loop μ-loop
 arrow-at-requires c κs = numbered (c .before .before .before .before .before .before .before .before) (c .before .before .loop .t) (c .before .loop-test .taken)
 
@@ -57,12 +51,6 @@ slice-write-out c = room c .0
 
 add-count : tie.Need-add-count Inv-loop μ-loop
 add-count c = omega (arith, room c)
-
-add-t : tie.Need-add-t Inv-loop μ-loop
-add-t c = search needs
-
-loop-less : tie.Need-loop-less Inv-loop μ-loop
-loop-less c = search needs
 
 tested : (c : tie.After-does-reach-by Inv-loop μ-loop) → let a = c .before .before .before .before .before .before .before .before .before .before .args in
     reachesAt (a .rows .now) (a .arrows .now) (a .sign) (a .u) (a .f) (getD (a .own .now) (c .before .before .before .before .loop .t) 0) ≡ c .does-reach-by .result
@@ -94,20 +82,5 @@ returns c = let start = c .before .before .before .before .before .before .befor
 
 pub gather-spec : {M : Type 1} → statement M
 gather-spec =
-    tie.close
-    (tie.spec
-    Inv-loop
-    μ-loop
-    loop-holds
-    mul-k
-    shared-slice-read-k
-    arrow-at-requires
-    does-reach-by-requires
-    mul-out
-    slice-write-out
-    add-count
-    add-t
-    loop-less
-    loop-again
-    same-length
-    returns)
+    tie.close (tie.spec Inv-loop μ-loop loop-holds (search needs) (search needs) arrow-at-requires does-reach-by-requires mul-out
+    slice-write-out add-count (search needs) (search needs) loop-again same-length returns)

@@ -21,9 +21,6 @@ others (Denied k) h = refl
 others Default h = refl
 others (Unclear p n) h = refl
 
-enum-known-e : tie.Need-enum-known-e
-enum-known-e c = search needs
-
 returns : tie.Need-returns
 returns c = others (c .before .args .e) (c .match .keys2)
 
@@ -32,4 +29,5 @@ unfolding grantingOf
 returns-2 c = rw (c .before .e .given .1)
 
 pub granting-spec : {M : Type 1} → statement M
-granting-spec = tie.close (tie.spec enum-known-e returns returns-2)
+granting-spec =
+    tie.close (tie.spec (search needs) returns returns-2)

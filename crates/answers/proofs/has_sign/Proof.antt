@@ -4,12 +4,6 @@ use borrow.Author.Needs.{needs}
 use Rattle.answers.proofs.has_sign.Statement.{statement}
 use Rattle.answers.proofs.has_sign.Tie as tie
 
-wide-requires : tie.Need-wide-requires
-wide-requires c κs = search needs
-
-wide-requires-2 : tie.Need-wide-requires-2
-wide-requires-2 c κs = search needs
-
 returns : tie.Need-returns
 returns c = rw (c .wide2 .ensures, ← c .before .before .wide .ensures, eq-eqb _ _ (c .before .if1 .taken))
 
@@ -17,4 +11,5 @@ returns-2 : tie.Need-returns-2
 returns-2 c = rw (← c .before .wide .ensures, ne-eqb _ _ (c .if1 .left))
 
 pub has-sign-spec : {M : Type 1} → statement M
-has-sign-spec = tie.close (tie.spec wide-requires wide-requires-2 returns returns-2)
+has-sign-spec =
+    tie.close (tie.spec (λ c κs. search needs) (λ c κs. search needs) returns returns-2)

@@ -10,12 +10,6 @@ use Rattle.answers.proofs.is_member.Tie as tie
 returns : tie.Need-returns
 returns c = sym (member-none _ _ _ _ _ _ (c .if1 .taken))
 
-at-requires : tie.Need-at-requires
-at-requires c κs = search needs
-
-at-requires-2 : tie.Need-at-requires-2
-at-requires-2 c κs = search needs
-
 does-beat-requires : tie.Need-does-beat-requires
 does-beat-requires c κs = let start = c .before .before .before .before .before .before .before .before .before in
     let w = start .pre .within in
@@ -32,15 +26,6 @@ unfolding beats
 returns-2 c = let a = c .before .before .before .before .before .before .before .before .before .before .args in
     rw (member-arrow (a .rows .now) (a .arrows .now) (a .users .now) (a .files .now) (a .k) (c .before .before .before .before .if1 .left) (a .r) (c .before .before .if2 .taken), c .does-beat .ensures, c .before .at2 .ensures, c .before .before .before .at .ensures)
 
-add-of-files : tie.Need-add-of-files
-add-of-files c = search needs
-
-mul-is-around : tie.Need-mul-is-around
-mul-is-around c = search needs
-
-shared-slice-read-is-around : tie.Need-shared-slice-read-is-around
-shared-slice-read-is-around c = search needs
-
 is-around-requires : tie.Need-is-around-requires
 is-around-requires c κs = let start = c .before .before .before .before .before .before .before .before .before .before in
     rw (c .before .before .before .at .ensures) (
@@ -52,15 +37,6 @@ is-around-requires c κs = let start = c .before .before .before .before .before
 returns-3 : tie.Need-returns-3
 returns-3 c = let a = c .before .before .before .before .before .before .before .before .before .before .before .args in
     rw (member-user (a .rows .now) (a .arrows .now) (a .users .now) (a .files .now) (a .k) (c .before .before .before .before .before .if1 .left) (a .r) (omega arith) (omega arith), c .is-around .ensures, c .before .before .before .before .at .ensures)
-
-add-of-modes : tie.Need-add-of-modes
-add-of-modes c = search needs
-
-mul-is-around-2 : tie.Need-mul-is-around-2
-mul-is-around-2 c = search needs
-
-shared-slice-read-is-around-2 : tie.Need-shared-slice-read-is-around-2
-shared-slice-read-is-around-2 c = search needs
 
 is-around-requires-2 : tie.Need-is-around-requires-2
 is-around-requires-2 c κs = let start = c .before .before .before .before .before .before .before .before .before .before .before in
@@ -74,9 +50,6 @@ returns-4 : tie.Need-returns-4
 returns-4 c = let a = c .before .before .before .before .before .before .before .before .before .before .before .before .args in
     rw (member-file (a .rows .now) (a .arrows .now) (a .users .now) (a .files .now) (a .k) (c .before .before .before .before .before .before .if1 .left) (a .r) (omega arith) (omega arith), c .is-around2 .ensures, c .before .before .before .before .before .at .ensures)
 
-has-sign-requires : tie.Need-has-sign-requires
-has-sign-requires c κs = search needs
-
 returns-5 : tie.Need-returns-5
 unfolding signed
 returns-5 c = let a = c .before .before .before .before .before .before .before .before .before .before .before .args in
@@ -84,22 +57,6 @@ returns-5 c = let a = c .before .before .before .before .before .before .before 
 
 pub is-member-spec : {M : Type 1} → statement M
 is-member-spec =
-    tie.close
-    (tie.spec
-    returns
-    at-requires
-    at-requires-2
-    does-beat-requires
-    returns-2
-    add-of-files
-    mul-is-around
-    shared-slice-read-is-around
-    is-around-requires
-    returns-3
-    add-of-modes
-    mul-is-around-2
-    shared-slice-read-is-around-2
-    is-around-requires-2
-    returns-4
-    has-sign-requires
-    returns-5)
+    tie.close (tie.spec returns (λ c κs. search needs) (λ c κs. search needs) does-beat-requires returns-2 (search needs) (search needs)
+    (search needs) is-around-requires returns-3 (search needs) (search needs) (search needs) is-around-requires-2 returns-4
+    (λ c κs. search needs) returns-5)

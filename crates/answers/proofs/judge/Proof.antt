@@ -10,21 +10,9 @@ use Rattle.answers.specs.Calls.{judgeFault}
 use Rattle.answers.proofs.judge.Statement.{statement}
 use Rattle.answers.proofs.judge.Tie as tie
 
-prepare-requires : tie.Need-prepare-requires
-prepare-requires c κs = search needs
-
-enum-known-picture : tie.Need-enum-known-picture
-enum-known-picture c = search needs
-
-same-length : tie.Need-same-length
-same-length c = search needs
-
 returns : tie.Need-returns
 unfolding judgeFault
 returns c = (refuses _ _ _ (sym (c .before .before .before .before .before .prepare .ensures .0) ∙ c .before .picture .given .1), c .before .before .before .before .before .prepare .ensures .1)
-
-enum-told : tie.Need-enum-told
-enum-told c = search needs
 
 clean : (c : tie.After-enum-told) → let a = c .before .before .before .before .before .before .before .before .before .before .args in verdictOf (pictureFault (a .boxes .now) (a .rows .now) (a .arrows .now) (a .scratch .now)) ≡ Passed
 clean c = sym (c .before .before .before .before .prepare .ensures .0) ∙ c .enum-told .given .1
@@ -34,22 +22,11 @@ check-modes-requires c κs = let a = c .before .before .before .before .before .
     let ready = picture-prepared (a .boxes .now) (a .rows .now) (a .arrows .now) (a .scratch .now) (passed _ (clean (c .before))) in
     (ready .0 .rows-sound, ready .0 .arrows-sound, rw (c .before .before .before .before .before .prepare .ensures .1, scratch-filled (a .boxes .now) (a .rows .now) (a .scratch .now) (ready .1)) (ready .0 .says))
 
-same-length-2 : tie.Need-same-length-2
-same-length-2 c = search needs
-
 returns-2 : tie.Need-returns-2
 unfolding judgeFault
 returns-2 c = (c .check-modes .ensures ∙ passes _ _ (clean (c .before .before)), c .before .before .before .before .before .before .prepare .ensures .1)
 
 pub judge-spec : {M : Type 1} → statement M
 judge-spec =
-    tie.close
-    (tie.spec
-    prepare-requires
-    enum-known-picture
-    same-length
-    returns
-    enum-told
-    check-modes-requires
-    same-length-2
+    tie.close (tie.spec (λ c κs. search needs) (search needs) (search needs) returns (search needs) check-modes-requires (search needs)
     returns-2)

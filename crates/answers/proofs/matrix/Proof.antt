@@ -39,86 +39,32 @@ ready : (c : tie.After-enum-told2) → let a = c .before .before .before .before
 ready c = let a = c .before .before .before .before .before .before .before .before .before .before .before .before .before .before .before .before .before .before .before .before .args in
     prepared (a .boxes .now) (a .rows .now) (a .arrows .now) (a .scratch .now) (passed _ (tabled (c .before .before .before .before .before .before .before .before .before .before .before))) (rest-rooms (a .boxes .now) (a .rows .now) (a .arrows .now) (a .scratch .now) (a .mode) (a .bytes .now) (a .numbers .now) (passed _ (rest-passed c)) .0)
 
-check-requires : tie.Need-check-requires
-check-requires c κs = search needs
-
-enum-known-tables : tie.Need-enum-known-tables
-enum-known-tables c = search needs
-
 returns : tie.Need-returns
 returns c = let a = c .before .before .before .before .before .before .before .before .before .before .args in matrix-tables (a .boxes .now) (a .rows .now) (a .arrows .now) (a .scratch .now) (a .mode) (a .bytes .now) (a .numbers .now) _ (sym (c .before .before .before .check .ensures) ∙ c .before .tables .given .1)
-
-enum-told : tie.Need-enum-told
-enum-told c = search needs
 
 pair-count-requires : tie.Need-pair-count-requires
 pair-count-requires c κs = let a = c .before .before .before .before .before .before .before .before .before .args in sound-rows (a .boxes .now) (a .rows .now) (a .arrows .now) (passed _ (tabled c))
 
-check-mode-requires : tie.Need-check-mode-requires
-check-mode-requires c κs = search needs
-
 check-scratch-requires : tie.Need-check-scratch-requires
 check-scratch-requires c κs = let a = c .before .before .before .before .before .before .before .before .before .before .before .before .args in sound-rows (a .boxes .now) (a .rows .now) (a .arrows .now) (passed _ (tabled (c .before .before .before))) .few-boxes
-
-or-else-requires : tie.Need-or-else-requires
-or-else-requires c κs = search needs
-
-check-room-requires : tie.Need-check-room-requires
-check-room-requires c κs = search needs
-
-or-else-requires-2 : tie.Need-or-else-requires-2
-or-else-requires-2 c κs = search needs
-
-check-room-requires-2 : tie.Need-check-room-requires-2
-check-room-requires-2 c κs = search needs
-
-or-else-requires-3 : tie.Need-or-else-requires-3
-or-else-requires-3 c κs = search needs
-
-enum-known-early : tie.Need-enum-known-early
-enum-known-early c = search needs
-
-same-length : tie.Need-same-length
-same-length c = search needs
 
 returns-2 : tie.Need-returns-2
 returns-2 c = let a = c .before .before .before .before .before .before .before .before .before .before .before .before .before .before .before .before .before .before .before .before .before .args in matrix-early (a .boxes .now) (a .rows .now) (a .arrows .now) (a .scratch .now) (a .mode) (a .bytes .now) (a .numbers .now) _ (tabled (c .before .before .before .before .before .before .before .before .before .before .before .before)) (rest-is (c .before .before .before) ∙ c .before .early .given .1)
 
-enum-told-2 : tie.Need-enum-told-2
-enum-told-2 c = search needs
-
 contain-requires : tie.Need-contain-requires
 contain-requires c κs = let a = c .before .before .before .before .before .before .before .before .before .before .before .before .before .before .before .before .before .before .before .before .before .args in
     (ready (c .before) .rows-sound, scratch-room (length (a .boxes .now)) (a .scratch .now) (rest-rooms (a .boxes .now) (a .rows .now) (a .arrows .now) (a .scratch .now) (a .mode) (a .bytes .now) (a .numbers .now) (passed _ (rest-passed (c .before))) .0))
-
-enum-known-loops : tie.Need-enum-known-loops
-enum-known-loops c = search needs
-
-same-length-2 : tie.Need-same-length-2
-same-length-2 c = search needs
 
 returns-3 : tie.Need-returns-3
 returns-3 c = let a = c .before .before .before .before .before .before .before .before .before .before .before .before .before .before .before .before .before .before .before .before .before .before .before .before .before .before .before .args in
     let z = matrix-loops (a .boxes .now) (a .rows .now) (a .arrows .now) (a .scratch .now) (a .mode) (a .bytes .now) (a .numbers .now) (tabled (c .before .before .before .before .before .before .before .before .before .before .before .before .before .before .before .before .before .before)) (rest-passed (c .before .before .before .before .before .before .before)) _ (sym (c .before .before .before .before .before .contain .ensures .0) ∙ c .before .loops .given .1) in
     (z .0, c .before .before .before .before .before .contain .ensures .1 ∙ z .1, z .2, z .3)
 
-enum-told-3 : tie.Need-enum-told-3
-enum-told-3 c = search needs
-
 fill-matrix-requires : tie.Need-fill-matrix-requires
 fill-matrix-requires c κs = let a = c .before .before .before .before .before .before .before .before .before .before .before .before .before .before .before .before .before .before .before .before .before .before .before .before .before .before .before .before .before .args in
     let r = ready (c .before .before .before .before .before .before .before .before .before) in
     let rooms = rest-rooms (a .boxes .now) (a .rows .now) (a .arrows .now) (a .scratch .now) (a .mode) (a .bytes .now) (a .numbers .now) (passed _ (rest-passed (c .before .before .before .before .before .before .before .before .before))) in
     (r .rows-sound, r .arrows-sound, rw (c .before .before .before .before .before .before .before .contain .ensures .1) (r .says), rooms .3, rooms .1, rooms .2)
-
-same-length-3 : tie.Need-same-length-3
-same-length-3 c = search needs
-
-same-length-4 : tie.Need-same-length-4
-same-length-4 c = search needs
-
-same-length-5 : tie.Need-same-length-5
-same-length-5 c = search needs
 
 returns-4 : tie.Need-returns-4
 returns-4 c = let a = c .before .before .before .before .before .before .before .before .before .before .before .before .before .before .before .before .before .before .before .before .before .before .before .before .before .before .before .before .before .before .before .before .before .before .args in
@@ -127,31 +73,7 @@ returns-4 c = let a = c .before .before .before .before .before .before .before 
 
 pub matrix-spec : {M : Type 1} → statement M
 matrix-spec =
-    tie.close
-    (tie.spec
-    check-requires
-    enum-known-tables
-    returns
-    enum-told
-    pair-count-requires
-    check-mode-requires
-    check-scratch-requires
-    or-else-requires
-    check-room-requires
-    or-else-requires-2
-    check-room-requires-2
-    or-else-requires-3
-    enum-known-early
-    same-length
-    returns-2
-    enum-told-2
-    contain-requires
-    enum-known-loops
-    same-length-2
-    returns-3
-    enum-told-3
-    fill-matrix-requires
-    same-length-3
-    same-length-4
-    same-length-5
-    returns-4)
+    tie.close (tie.spec (λ c κs. search needs) (search needs) returns (search needs) pair-count-requires (λ c κs. search needs)
+    check-scratch-requires (λ c κs. search needs) (λ c κs. search needs) (λ c κs. search needs) (λ c κs. search needs)
+    (λ c κs. search needs) (search needs) (search needs) returns-2 (search needs) contain-requires (search needs) (search needs) returns-3
+    (search needs) fill-matrix-requires (search needs) (search needs) (search needs) returns-4)

@@ -22,12 +22,6 @@ abbrev μ-loop : tie.MeasureT-loop
 loop-holds : tie.Need-loop-holds Inv-loop μ-loop
 loop-holds c = (search needs, selected-none (hasMode (c .before .before .args .arrows .now) (c .before .before .args .mode)) (c .before .before .args .out .now))
 
-at-requires : tie.Need-at-requires Inv-loop μ-loop
-at-requires c κs = search needs
-
-narrow-requires : tie.Need-narrow-requires Inv-loop μ-loop
-narrow-requires c κs = search needs
-
 -- there is a place for the number
 room : (c : tie.After-narrow Inv-loop μ-loop) → let l = c .before .before .before .before .before .loop in (l .count < length (l .out)) × (l .count ≤ 512)
 room c =
@@ -46,12 +40,6 @@ slice-write-out c = room c .0
 
 add-count : tie.Need-add-count Inv-loop μ-loop
 add-count c = omega (arith, room c)
-
-add-k : tie.Need-add-k Inv-loop μ-loop
-add-k c = search needs
-
-loop-less : tie.Need-loop-less Inv-loop μ-loop
-loop-less c = search needs
 
 tested : (c : tie.After-struct-known Inv-loop μ-loop) → let a = c .before .before .before .before .before .before .args in
     hasMode (a .arrows .now) (a .mode) (c .before .before .before .loop .k) ≡ eqb (c .before .at .result .mode) (a .mode)
@@ -81,18 +69,5 @@ returns c = let e : c .before .loop .k ≡ arrowCount (c .before .before .before
 
 pub mode-arrows-spec : {M : Type 1} → statement M
 mode-arrows-spec =
-    tie.close
-    (tie.spec
-    Inv-loop
-    μ-loop
-    loop-holds
-    at-requires
-    narrow-requires
-    mul-out
-    slice-write-out
-    add-count
-    add-k
-    loop-less
-    loop-again
-    same-length
-    returns)
+    tie.close (tie.spec Inv-loop μ-loop loop-holds (λ c κs. search needs) (λ c κs. search needs) mul-out slice-write-out add-count
+    (search needs) (search needs) loop-again same-length returns)

@@ -9,4 +9,5 @@ unfolding zeros
 returns c = refl
 
 pub no-boxes-spec : {M : Type 1} → statement M
-no-boxes-spec = tie.close (tie.spec returns)
+no-boxes-spec =
+    tie.close (tie.spec returns)

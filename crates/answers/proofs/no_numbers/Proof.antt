@@ -9,4 +9,5 @@ unfolding zeros
 returns c = refl
 
 pub no-numbers-spec : {M : Type 1} → statement M
-no-numbers-spec = tie.close (tie.spec returns)
+no-numbers-spec =
+    tie.close (tie.spec returns)

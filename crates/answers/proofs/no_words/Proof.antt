@@ -9,4 +9,5 @@ unfolding zeros
 returns c = refl
 
 pub no-words-spec : {M : Type 1} → statement M
-no-words-spec = tie.close (tie.spec returns)
+no-words-spec =
+    tie.close (tie.spec returns)

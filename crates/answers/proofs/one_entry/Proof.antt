@@ -38,38 +38,14 @@ late-is : (c : tie.After-or-else2) → let a = c .before .before .before .before
 late-is c = let a = c .before .before .before .before .before .before .before .before .before .before .before .before .before .before .before .before .before .before .before .args in
     sym (rw (c .or-else2 .ensures, c .before .before .before .before .contain .ensures .0, c .before .check-asked .ensures) (either-verdict (loopFault (a .boxes .now) (a .rows .now)) (askedFault (a .boxes .now) (a .rows .now) (a .u) (a .f))))
 
-check-requires : tie.Need-check-requires
-check-requires c κs = search needs
-
-enum-known-tables : tie.Need-enum-known-tables
-enum-known-tables c = search needs
-
 returns : tie.Need-returns
 returns c = let a = c .before .before .before .before .before .before .before .before .args in entry-tables (a .boxes .now) (a .rows .now) (a .arrows .now) (a .scratch .now) (a .mode) (a .u) (a .f) _ (sym (c .before .before .before .check .ensures) ∙ c .before .tables .given .1)
-
-enum-told : tie.Need-enum-told
-enum-told c = search needs
-
-check-mode-requires : tie.Need-check-mode-requires
-check-mode-requires c κs = search needs
 
 check-scratch-requires : tie.Need-check-scratch-requires
 check-scratch-requires c κs = let a = c .before .before .before .before .before .before .before .before .before .args in sound-rows (a .boxes .now) (a .rows .now) (a .arrows .now) (passed _ (tabled (c .before .before))) .few-boxes
 
-or-else-requires : tie.Need-or-else-requires
-or-else-requires c κs = search needs
-
-enum-known-early : tie.Need-enum-known-early
-enum-known-early c = search needs
-
-same-length : tie.Need-same-length
-same-length c = search needs
-
 returns-2 : tie.Need-returns-2
 returns-2 c = let a = c .before .before .before .before .before .before .before .before .before .before .before .before .before .before .args in entry-early (a .boxes .now) (a .rows .now) (a .arrows .now) (a .scratch .now) (a .mode) (a .u) (a .f) _ (tabled (c .before .before .before .before .before .before .before)) (early-is (c .before .before .before) ∙ c .before .early .given .1)
-
-enum-told-2 : tie.Need-enum-told-2
-enum-told-2 c = search needs
 
 contain-requires : tie.Need-contain-requires
 contain-requires c κs = let a = c .before .before .before .before .before .before .before .before .before .before .before .before .before .before .args in (
@@ -80,22 +56,10 @@ contain-requires c κs = let a = c .before .before .before .before .before .befo
 check-asked-requires : tie.Need-check-asked-requires
 check-asked-requires c κs = ready (c .before .before .before .before) .rows-sound .whole
 
-or-else-requires-2 : tie.Need-or-else-requires-2
-or-else-requires-2 c κs = search needs
-
-enum-known-late : tie.Need-enum-known-late
-enum-known-late c = search needs
-
-same-length-2 : tie.Need-same-length-2
-same-length-2 c = search needs
-
 returns-3 : tie.Need-returns-3
 returns-3 c = let a = c .before .before .before .before .before .before .before .before .before .before .before .before .before .before .before .before .before .before .before .before .before .before .args in
     let z = entry-late (a .boxes .now) (a .rows .now) (a .arrows .now) (a .scratch .now) (a .mode) (a .u) (a .f) (tabled (c .before .before .before .before .before .before .before .before .before .before .before .before .before .before .before)) (early-passed (c .before .before .before .before .before .before .before .before .before)) _ (late-is (c .before .before .before) ∙ c .before .late .given .1) in
     (z .0, c .before .before .before .before .before .before .before .contain .ensures .1 ∙ z .1)
-
-enum-told-3 : tie.Need-enum-told-3
-enum-told-3 c = search needs
 
 late-passed : (c : tie.After-enum-told3) → let a = c .before .before .before .before .before .before .before .before .before .before .before .before .before .before .before .before .before .before .before .before .before .args in verdictOf (late (a .boxes .now) (a .rows .now) (a .arrows .now) (a .scratch .now) (a .mode) (a .u) (a .f)) ≡ Passed
 late-passed c = late-is (c .before .before) ∙ c .enum-told3 .given .1
@@ -106,9 +70,6 @@ answer-pair-requires c κs = let a = c .before .before .before .before .before .
     let there = asked-there (a .boxes .now) (a .rows .now) (a .u) (a .f) (both-none (loopFault (a .boxes .now) (a .rows .now)) (askedFault (a .boxes .now) (a .rows .now) (a .u) (a .f)) (passed _ (late-passed (c .before))) .1) in
     (rw (c .before .before .before .before .before .before .before .contain .ensures .1) (r .says), sound-within (a .boxes .now) (a .arrows .now) (r .arrows-sound), r .arrows-sound .few-arrows, there .0, there .1)
 
-same-length-3 : tie.Need-same-length-3
-same-length-3 c = search needs
-
 returns-4 : tie.Need-returns-4
 returns-4 c = let a = c .before .before .before .before .before .before .before .before .before .before .before .before .before .before .before .before .before .before .before .before .before .before .before .args in
     let z = entry-answered (a .boxes .now) (a .rows .now) (a .arrows .now) (a .scratch .now) (a .mode) (a .u) (a .f) (tabled (c .before .before .before .before .before .before .before .before .before .before .before .before .before .before .before .before)) (early-passed (c .before .before .before .before .before .before .before .before .before .before)) (late-passed (c .before .before)) in
@@ -116,26 +77,6 @@ returns-4 c = let a = c .before .before .before .before .before .before .before 
 
 pub one-entry-spec : {M : Type 1} → statement M
 one-entry-spec =
-    tie.close
-    (tie.spec
-    check-requires
-    enum-known-tables
-    returns
-    enum-told
-    check-mode-requires
-    check-scratch-requires
-    or-else-requires
-    enum-known-early
-    same-length
-    returns-2
-    enum-told-2
-    contain-requires
-    check-asked-requires
-    or-else-requires-2
-    enum-known-late
-    same-length-2
-    returns-3
-    enum-told-3
-    answer-pair-requires
-    same-length-3
-    returns-4)
+    tie.close (tie.spec (λ c κs. search needs) (search needs) returns (search needs) (λ c κs. search needs) check-scratch-requires
+    (λ c κs. search needs) (search needs) (search needs) returns-2 (search needs) contain-requires check-asked-requires
+    (λ c κs. search needs) (search needs) (search needs) returns-3 (search needs) answer-pair-requires (search needs) returns-4)

@@ -23,12 +23,6 @@ abbrev μ-loop : tie.MeasureT-loop
 loop-holds : tie.Need-loop-holds Inv-loop μ-loop
 loop-holds c = (search needs, λ k h. absurd (omega arith))
 
-mul-arrow-at : tie.Need-mul-arrow-at Inv-loop μ-loop
-mul-arrow-at c = search needs
-
-shared-slice-read-arrow-at : tie.Need-shared-slice-read-arrow-at Inv-loop μ-loop
-shared-slice-read-arrow-at c = search needs
-
 arrow-at-requires : tie.Need-arrow-at-requires Inv-loop μ-loop
 arrow-at-requires c κs = c .before .before .before .before .before .before .before .pre .2 (c .before .before .loop .i) (c .before .loop-test .taken)
 
@@ -47,12 +41,6 @@ returns : tie.Need-returns Inv-loop μ-loop
 returns c = let a = c .before .before .before .before .before .before .before .before .before .before .args in
     sym (all-no (a .rows .now) (a .arrows .now) (a .p) (a .opposite .now) (c .before .before .before .before .before .loop .i) (c .before .before .before .before .loop-test .taken) (compared (c .before) ∙ not-true _ (c .if1 .taken)))
 
-add-i : tie.Need-add-i Inv-loop μ-loop
-add-i c = search needs
-
-loop-less : tie.Need-loop-less Inv-loop μ-loop
-loop-less c = search needs
-
 loop-again : tie.Need-loop-again Inv-loop μ-loop
 loop-again c = (omega arith, below-more _ _ (c .before .before .before .before .before .loop .inv .1) (true-T _ (compared (c .before) ∙ not-false _ (c .if1 .left))))
 
@@ -62,17 +50,5 @@ returns-2 c = let a = c .before .before .before .before .before .before .args in
 
 pub overrides-all-spec : {M : Type 1} → statement M
 overrides-all-spec =
-    tie.close
-    (tie.spec
-    Inv-loop
-    μ-loop
-    loop-holds
-    mul-arrow-at
-    shared-slice-read-arrow-at
-    arrow-at-requires
-    does-override-requires
-    returns
-    add-i
-    loop-less
-    loop-again
-    returns-2)
+    tie.close (tie.spec Inv-loop μ-loop loop-holds (search needs) (search needs) arrow-at-requires does-override-requires returns
+    (search needs) (search needs) loop-again returns-2)

@@ -37,5 +37,4 @@ returns c = let start = c .before .before in
 
 pub pair-at-spec : {M : Type 1} → statement M
 pair-at-spec =
-    tie.close
-    (tie.spec div-t7 mul-t8 shared-slice-read-t10 rem-t11 mul-t12 shared-slice-read-t14 returns)
+    tie.close (tie.spec div-t7 mul-t8 shared-slice-read-t10 rem-t11 mul-t12 shared-slice-read-t14 returns)

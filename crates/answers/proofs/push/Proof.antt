@@ -5,22 +5,14 @@ use Rattle.tables.specs.Search.{bit}
 use Rattle.answers.proofs.push.Statement.{statement}
 use Rattle.answers.proofs.push.Tie as tie
 
-mul-result : tie.Need-mul-result
-mul-result c = search needs
-
-add-result : tie.Need-add-result
-add-result c = search needs
-
 returns : tie.Need-returns
 unfolding bit
 returns c = rw (c .if1 .taken)
-
-mul-result-2 : tie.Need-mul-result-2
-mul-result-2 c = search needs
 
 returns-2 : tie.Need-returns-2
 unfolding bit
 returns-2 c = rw (c .if1 .left, add-zero)
 
 pub push-spec : {M : Type 1} → statement M
-push-spec = tie.close (tie.spec mul-result add-result returns mul-result-2 returns-2)
+push-spec =
+    tie.close (tie.spec (search needs) (search needs) returns (search needs) returns-2)

@@ -5,45 +5,21 @@ use Rattle.answers.specs.Meaning.{settle}
 use Rattle.answers.proofs.settle_sets.Statement.{statement}
 use Rattle.answers.proofs.settle_sets.Tie as tie
 
-first-over-requires : tie.Need-first-over-requires
-first-over-requires c κs = search needs
-
-narrow-requires : tie.Need-narrow-requires
-narrow-requires c κs = search needs
-
 returns : tie.Need-returns
 unfolding settle
 returns c = rw (next-some _ _ (c .before .before .first-over .ensures) (c .before .if1 .taken), c .narrow .ensures)
-
-first-over-requires-2 : tie.Need-first-over-requires-2
-first-over-requires-2 c κs = search needs
-
-narrow-requires-2 : tie.Need-narrow-requires-2
-narrow-requires-2 c κs = search needs
 
 returns-2 : tie.Need-returns-2
 unfolding settle
 returns-2 c = rw (next-none _ _ (c .before .before .before .before .first-over .ensures) (c .before .before .before .if1 .left), next-some _ _ (c .before .before .first-over2 .ensures) (c .before .if2 .taken), c .narrow2 .ensures)
 
-next-in-requires : tie.Need-next-in-requires
-next-in-requires c κs = search needs
-
 returns-3 : tie.Need-returns-3
 unfolding settle
 returns-3 c = rw (next-none _ _ (c .before .before .before .before .before .first-over .ensures) (c .before .before .before .before .if1 .left), next-none _ _ (c .before .before .before .first-over2 .ensures) (c .before .before .if2 .left), next-none _ _ (c .before .next-in .ensures) (c .if3 .taken))
 
-next-in-requires-2 : tie.Need-next-in-requires-2
-next-in-requires-2 c κs = search needs
-
 returns-4 : tie.Need-returns-4
 unfolding settle
 returns-4 c = rw (next-none _ _ (c .before .before .before .before .before .before .before .first-over .ensures) (c .before .before .before .before .before .before .if1 .left), next-none _ _ (c .before .before .before .before .before .first-over2 .ensures) (c .before .before .before .before .if2 .left), next-some _ _ (c .before .before .before .next-in .ensures) (c .before .before .if3 .left), next-none _ _ (c .before .next-in2 .ensures) (c .if4 .taken))
-
-narrow-requires-3 : tie.Need-narrow-requires-3
-narrow-requires-3 c κs = search needs
-
-narrow-requires-4 : tie.Need-narrow-requires-4
-narrow-requires-4 c κs = search needs
 
 returns-5 : tie.Need-returns-5
 unfolding settle
@@ -51,18 +27,5 @@ returns-5 c = rw (next-none _ _ (c .before .before .before .before .before .befo
 
 pub settle-sets-spec : {M : Type 1} → statement M
 settle-sets-spec =
-    tie.close
-    (tie.spec
-    first-over-requires
-    narrow-requires
-    returns
-    first-over-requires-2
-    narrow-requires-2
-    returns-2
-    next-in-requires
-    returns-3
-    next-in-requires-2
-    returns-4
-    narrow-requires-3
-    narrow-requires-4
-    returns-5)
+    tie.close (tie.spec (λ c κs. search needs) (λ c κs. search needs) returns (λ c κs. search needs) (λ c κs. search needs) returns-2
+    (λ c κs. search needs) returns-3 (λ c κs. search needs) returns-4 (λ c κs. search needs) (λ c κs. search needs) returns-5)

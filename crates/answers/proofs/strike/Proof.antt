@@ -21,20 +21,8 @@ abbrev μ-loop : tie.MeasureT-loop
 loop-holds : tie.Need-loop-holds Inv-loop μ-loop
 loop-holds c = (search needs, search needs, λ k h. absurd (omega arith), λ k h. absurd (omega arith))
 
-mul-arrow-at : tie.Need-mul-arrow-at Inv-loop μ-loop
-mul-arrow-at c = search needs
-
-shared-slice-read-arrow-at : tie.Need-shared-slice-read-arrow-at Inv-loop μ-loop
-shared-slice-read-arrow-at c = search needs
-
 arrow-at-requires : tie.Need-arrow-at-requires Inv-loop μ-loop
 arrow-at-requires c κs = c .before .before .before .before .before .before .before .before .before .pre .2 (c .before .before .before .loop .i) (c .before .before .loop-test .taken)
-
-mul-arrow-at-2 : tie.Need-mul-arrow-at-2 Inv-loop μ-loop
-mul-arrow-at-2 c = search needs
-
-shared-slice-read-arrow-at-2 : tie.Need-shared-slice-read-arrow-at-2 Inv-loop μ-loop
-shared-slice-read-arrow-at-2 c = search needs
 
 arrow-at-requires-2 : tie.Need-arrow-at-requires-2 Inv-loop μ-loop
 arrow-at-requires-2 c κs = c .before .before .before .before .before .before .before .before .before .before .before .pre .3 (c .before .before .before .before .before .loop .j) (ltb-true _ _ (c .before .before .before .if1 .taken))
@@ -53,9 +41,6 @@ compared : (c : tie.After-does-override Inv-loop μ-loop) → let a = c .before 
     c .does-override .result ≡ overrides (a .rows .now) (arrowAt (a .arrows .now) (getD (a .ps .now) (l .i) 0)) (arrowAt (a .arrows .now) (getD (a .ns .now) (l .j) 0))
 compared c = rw (← c .before .before .before .arrow-at .ensures, ← c .before .arrow-at2 .ensures) (c .does-override .ensures)
 
-add-j : tie.Need-add-j Inv-loop μ-loop
-add-j c = search needs
-
 loop-less : tie.Need-loop-less Inv-loop μ-loop
 loop-less c = omega (arith, ltb-true)
 
@@ -65,9 +50,6 @@ loop-again c = let a = c .before .before .before .before .before .before .before
     let new = struck-second (a .rows .now) (a .arrows .now) (a .ps .now) (a .ns .now) (l .i) (l .j) (c .before .before .before .before .before .before .before .loop-test .taken) (ltb-true _ _ (c .before .before .before .before .before .before .if1 .taken))
     (sym (compared (c .before)) ∙ c .if2 .taken) (l .inv .3) in
     (l .inv .0, omega (arith, ltb-true), l .inv .2, new)
-
-add-i : tie.Need-add-i Inv-loop μ-loop
-add-i c = search needs
 
 loop-less-2 : tie.Need-loop-less-2 Inv-loop μ-loop
 loop-less-2 c = omega (arith, ltb-true)
@@ -87,23 +69,6 @@ returns-2 c = (c .before .loop .inv .2, c .before .loop .inv .3)
 
 pub strike-spec : {M : Type 1} → statement M
 strike-spec =
-    tie.close
-    (tie.spec
-    Inv-loop
-    μ-loop
-    loop-holds
-    mul-arrow-at
-    shared-slice-read-arrow-at
-    arrow-at-requires
-    mul-arrow-at-2
-    shared-slice-read-arrow-at-2
-    arrow-at-requires-2
-    does-override-requires
-    add-j
-    loop-less
-    loop-again
-    add-i
-    loop-less-2
-    loop-again-2
-    returns
+    tie.close (tie.spec Inv-loop μ-loop loop-holds (search needs) (search needs) arrow-at-requires (search needs) (λ c. search needs)
+    arrow-at-requires-2 does-override-requires (search needs) loop-less loop-again (search needs) loop-less-2 loop-again-2 returns
     returns-2)

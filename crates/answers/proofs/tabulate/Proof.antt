@@ -7,12 +7,6 @@ use Rattle.answers.proofs.TableLaws.{source, sets-fit}
 use Rattle.answers.proofs.tabulate.Statement.{statement}
 use Rattle.answers.proofs.tabulate.Tie as tie
 
-atoms-of-requires : tie.Need-atoms-of-requires
-atoms-of-requires c κs = search needs
-
-atoms-of-requires-2 : tie.Need-atoms-of-requires-2
-atoms-of-requires-2 c κs = search needs
-
 slice-reshare-prefix-fill-table : tie.Need-slice-reshare-prefix-fill-table
 slice-reshare-prefix-fill-table c = let start = c .before .before .before .before .before .before .before .before .before .before .before .before .before .before .before in boxes-within _ _ user _ _ _ (start .pre .0) (start .pre .3) (c .before .before .before .before .before .before .atoms-of .ensures)
 
@@ -31,15 +25,6 @@ fill-table-requires c κs = let p = c .before .before .before .before .before .b
     let ef = part-is _ _ _ _ (c .before .before .before .before .before .atoms-of2 .ensures) in
     (source (p .0) (p .1) eu ef (p .2), sets-fit (p .0) (p .1) eu ef _ (p .5))
 
-same-length : tie.Need-same-length
-same-length c = search needs
-
-same-length-2 : tie.Need-same-length-2
-same-length-2 c = search needs
-
-same-length-3 : tie.Need-same-length-3
-same-length-3 c = search needs
-
 returns : tie.Need-returns
 returns c = let u = c .before .before .before .before .before .before .before .before .before .before .before .before .atoms-of .ensures in
     let f = c .before .before .before .before .before .before .before .before .atoms-of2 .ensures in
@@ -53,16 +38,6 @@ returns c = let u = c .before .before .before .before .before .before .before .b
 
 pub tabulate-spec : {M : Type 1} → statement M
 tabulate-spec =
-    tie.close
-    (tie.spec
-    atoms-of-requires
-    atoms-of-requires-2
-    slice-reshare-prefix-fill-table
-    slice-aggregate-fill-table
-    slice-reshare-prefix-fill-table-2
-    slice-aggregate-fill-table-2
-    fill-table-requires
-    same-length
-    same-length-2
-    same-length-3
+    tie.close (tie.spec (λ c κs. search needs) (λ c κs. search needs) slice-reshare-prefix-fill-table slice-aggregate-fill-table
+    slice-reshare-prefix-fill-table-2 slice-aggregate-fill-table-2 fill-table-requires (search needs) (search needs) (search needs)
     returns)

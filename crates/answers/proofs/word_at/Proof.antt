@@ -14,20 +14,11 @@ Inv-loop n rows scratch arrows users files i set first w₀ b₀ w b = Built (λ
 abbrev μ-loop : tie.MeasureT-loop
 μ-loop n rows scratch arrows users files i set first w₀ b₀ w b = b
 
-mul-first : tie.Need-mul-first Inv-loop μ-loop
-mul-first c = search needs
-
 loop-holds : tie.Need-loop-holds Inv-loop μ-loop
 loop-holds c = built-none _
 
-sub-b : tie.Need-sub-b Inv-loop μ-loop
-sub-b c = search needs
-
 add-is-member : tie.Need-add-is-member Inv-loop μ-loop
 add-is-member c = omega (arith, c .before .loop .inv .at-most)
-
-is-member-requires : tie.Need-is-member-requires Inv-loop μ-loop
-is-member-requires c κs = search needs
 
 push-requires : tie.Need-push-requires Inv-loop μ-loop
 push-requires c κs = built-lt _ _ _ (c .before .loop-test .taken) (c .before .before .loop .inv)
@@ -44,16 +35,5 @@ returns c = let e : c .before .loop .b ≡ 0 = omega (arith, c .loop-test .left)
 
 pub word-at-spec : {M : Type 1} → statement M
 word-at-spec =
-    tie.close
-    (tie.spec
-    Inv-loop
-    μ-loop
-    mul-first
-    loop-holds
-    sub-b
-    add-is-member
-    is-member-requires
-    push-requires
-    loop-less
-    loop-again
-    returns)
+    tie.close (tie.spec Inv-loop μ-loop (search needs) loop-holds (search needs) add-is-member (λ c κs. search needs) push-requires
+    loop-less loop-again returns)

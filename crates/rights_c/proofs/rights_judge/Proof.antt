@@ -4,17 +4,9 @@ use Rattle.rights_c.specs.Replies.{verdictReply}
 use Rattle.rights_c.proofs.rights_judge.Statement.{statement}
 use Rattle.rights_c.proofs.rights_judge.Tie as tie
 
-judge-requires : tie.Need-judge-requires
-judge-requires c κs = search needs
-
-of-verdict-requires : tie.Need-of-verdict-requires
-of-verdict-requires c κs = search needs
-
-same-length : tie.Need-same-length
-same-length c = search needs
-
 returns : tie.Need-returns
 returns c = (c .of-verdict .ensures ∙ ap verdictReply (c .before .before .before .judge .ensures .0), c .before .before .before .judge .ensures .1)
 
 pub rights-judge-spec : {M : Type 1} → statement M
-rights-judge-spec = tie.close (tie.spec judge-requires of-verdict-requires same-length returns)
+rights-judge-spec =
+    tie.close (tie.spec (λ c κs. search needs) (λ c κs. search needs) (search needs) returns)

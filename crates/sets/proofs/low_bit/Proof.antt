@@ -12,4 +12,5 @@ returns : tie.Need-returns
 returns c = trailing-lowest (c .args .w) (c .pre) (c .fits .w .fits)
 
 pub low-bit-spec : {M : Type 1} → statement M
-low-bit-spec = tie.close (tie.spec cast-result returns)
+low-bit-spec =
+    tie.close (tie.spec cast-result returns)

@@ -17,15 +17,6 @@ abbrev μ-loop : tie.MeasureT-loop
 loop-holds : tie.Need-loop-holds Inv-loop μ-loop
 loop-holds c = (omega arith, omega arith, free-none (has (c .before .args .set .now) 0) (c .before .args .from))
 
-word-requires : tie.Need-word-requires Inv-loop μ-loop
-word-requires c κs = search needs
-
-shr-x : tie.Need-shr-x Inv-loop μ-loop
-shr-x c = search needs
-
-low-bit-requires : tie.Need-low-bit-requires Inv-loop μ-loop
-low-bit-requires c κs = search needs
-
 add-result : tie.Need-add-result Inv-loop μ-loop
 add-result c = omega (arith, lowest-some _ 64 _ (c .low-bit .ensures) .0)
 
@@ -36,15 +27,6 @@ returns c =
     let w = c .before .before .word in
     rest-found (a .set .now) (a .from) (at .loop .k) (c .low-bit .result) (omega arith) (at .loop .inv .0)
     (rw (← w .ensures) (omega (arith, w .ok))) (rw (← w .ensures) (c .low-bit .ensures)) (at .loop .inv .2)
-
-add-k : tie.Need-add-k Inv-loop μ-loop
-add-k c = search needs
-
-mul-k : tie.Need-mul-k Inv-loop μ-loop
-mul-k c = search needs
-
-loop-less : tie.Need-loop-less Inv-loop μ-loop
-loop-less c = search needs
 
 loop-again : tie.Need-loop-again Inv-loop μ-loop
 loop-again c =
@@ -63,18 +45,5 @@ returns-2 c =
 
 pub next-in-spec : {M : Type 1} → statement M
 next-in-spec =
-    tie.close
-    (tie.spec
-    Inv-loop
-    μ-loop
-    loop-holds
-    word-requires
-    shr-x
-    low-bit-requires
-    add-result
-    returns
-    add-k
-    mul-k
-    loop-less
-    loop-again
-    returns-2)
+    tie.close (tie.spec Inv-loop μ-loop loop-holds (λ c κs. search needs) (search needs) (λ c κs. search needs) add-result returns
+    (search needs) (search needs) (search needs) loop-again returns-2)

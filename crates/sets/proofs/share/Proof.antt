@@ -5,30 +5,6 @@ use Rattle.sets.specs.Sets.{shared}
 use Rattle.sets.proofs.share.Statement.{statement}
 use Rattle.sets.proofs.share.Tie as tie
 
-shared-word-requires : tie.Need-shared-word-requires
-shared-word-requires c κs = search needs
-
-shared-word-requires-2 : tie.Need-shared-word-requires-2
-shared-word-requires-2 c κs = search needs
-
-shared-word-requires-3 : tie.Need-shared-word-requires-3
-shared-word-requires-3 c κs = search needs
-
-shared-word-requires-4 : tie.Need-shared-word-requires-4
-shared-word-requires-4 c κs = search needs
-
-shared-word-requires-5 : tie.Need-shared-word-requires-5
-shared-word-requires-5 c κs = search needs
-
-shared-word-requires-6 : tie.Need-shared-word-requires-6
-shared-word-requires-6 c κs = search needs
-
-shared-word-requires-7 : tie.Need-shared-word-requires-7
-shared-word-requires-7 c κs = search needs
-
-shared-word-requires-8 : tie.Need-shared-word-requires-8
-shared-word-requires-8 c κs = search needs
-
 returns : tie.Need-returns
 unfolding shared build
 returns c =
@@ -48,14 +24,5 @@ returns c =
 
 pub share-spec : {M : Type 1} → statement M
 share-spec =
-    tie.close
-    (tie.spec
-    shared-word-requires
-    shared-word-requires-2
-    shared-word-requires-3
-    shared-word-requires-4
-    shared-word-requires-5
-    shared-word-requires-6
-    shared-word-requires-7
-    shared-word-requires-8
-    returns)
+    tie.close (tie.spec (λ c κs. search needs) (λ c κs. search needs) (λ c κs. search needs) (λ c κs. search needs) (λ c κs. search needs)
+    (λ c κs. search needs) (λ c κs. search needs) (λ c κs. search needs) returns)
