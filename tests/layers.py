@@ -1,7 +1,7 @@
 #!/usr/bin/env python3
 """Says whether a layer opens definitions of the layers below it: each `unfolding` of a name that another crate's specs define.
 
-usage: layers.py [--all]     the three layers; --all: every crate, and the crate `tables` too
+usage: layers.py [--all]     the three layers and the sets that the answers use; --all: every crate, and the crate `tables` too
 
 The table of cases (specs/Cases.antt) computes, so it opens everything, and is left out.
 """
@@ -10,7 +10,7 @@ import re
 import sys
 
 CRATES = pathlib.Path(__file__).resolve().parent.parent / "crates"
-LAYERS = ["containment", "answers", "lists"]
+LAYERS = ["containment", "sets", "answers", "lists"]
 upper = sorted(p.name for p in CRATES.iterdir()) if "--all" in sys.argv[1:] else LAYERS
 lower = upper if "--all" in sys.argv[1:] else LAYERS
 
