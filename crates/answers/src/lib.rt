@@ -104,7 +104,7 @@ pub fn is_unclear(e: Entry) -> bool
 // In what follows the scratch was filled from the rows for n boxes.
 
 // Whether a is b or contains it.
-fn is_around(n: usize, rows: &[u16], scratch: &[u8], a: u16, b: u16) -> bool
+pub fn is_around(n: usize, rows: &[u16], scratch: &[u8], a: u16, b: u16) -> bool
     requires { ⌜ Says n (now rows) (now scratch) × (a < n) × (b < n) ⌝ }
     ensures { λ r. ⌜ r ≡ around (now (rows .entry)) a b ⌝ }
 {
@@ -308,7 +308,7 @@ fn settle(n: usize, rows: &[u16], scratch: &[u8], arrows: &[u16], ps: &[u16], ns
 }
 
 // Room for arrow numbers.
-fn no_numbers() -> [u16; 512]
+pub fn no_numbers() -> [u16; 512]
     ensures { λ r. ⌜ r ≡ zeros 512 ⌝ }
 {
     [0u16; 512]
@@ -370,7 +370,7 @@ pub fn answer_pair(
 // ---- All pairs of an atomic user and an atomic file, by place: rows are the users, columns the files.
 
 // Room for box numbers.
-fn no_boxes() -> [u16; 256]
+pub fn no_boxes() -> [u16; 256]
     ensures { λ r. ⌜ r ≡ zeros 256 ⌝ }
 {
     [0u16; 256]
@@ -638,7 +638,7 @@ fn first_mode(
 }
 
 // Room for the table: 512 arrows, 256 boxes, and two signs of 8 modes make 784 sets.
-fn no_words() -> [u64; 6272]
+pub fn no_words() -> [u64; 6272]
     ensures { λ r. ⌜ r ≡ zeros 6272 ⌝ }
 {
     [0u64; 6272]
