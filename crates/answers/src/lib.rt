@@ -104,7 +104,7 @@ pub fn is_unclear(e: Entry) -> bool
 // In what follows the scratch was filled from the rows for n boxes.
 
 // Whether a is b or contains it.
-fn is_around(n: usize, rows: &[u16], scratch: &[u8], a: u16, b: u16) -> bool
+pub fn is_around(n: usize, rows: &[u16], scratch: &[u8], a: u16, b: u16) -> bool
     requires { ⌜ Says n (now rows) (now scratch) × (a < n) × (b < n) ⌝ }
     ensures { λ r. ⌜ r ≡ around (now (rows .entry)) a b ⌝ }
 {
@@ -308,7 +308,7 @@ fn settle(n: usize, rows: &[u16], scratch: &[u8], arrows: &[u16], ps: &[u16], ns
 }
 
 // Room for arrow numbers.
-fn no_numbers() -> [u16; 512]
+pub fn no_numbers() -> [u16; 512]
     ensures { λ r. ⌜ r ≡ zeros 512 ⌝ }
 {
     [0u16; 512]

@@ -2,7 +2,7 @@
 use mathlib.Core.Path.{_≡_, refl}
 use mathlib.Core.List.{List}
 use mathlib.Core.Option.{Option, none, some}
-use Prim.Native.Nat.{ℕ, _*_, _≤_}
+use Prim.Native.Nat.{ℕ, _*_, _<_, _≤_}
 use lib.ListN.{length}
 use Rattle.tables.specs.Search.{orElse}
 use Rattle.tables.specs.Atoms.{pairCount}
@@ -16,7 +16,7 @@ use Rattle.lists.specs.Calls.{listRoom, listEarly, listLate, Listing, Ou
 use Rattle.lists.specs.declared.Listed.{Listed}
 use Rattle.lists.specs.declared.Listed.the-variants.{Refused}
 use Rattle.answers.proofs.CallLaws.{chained}
-use Rattle.tables.proofs.TableLaws.{both-none, room-passed}
+use Rattle.tables.proofs.TableLaws.{both-none, mode-passed, room-passed}
 use Rattle.containment.proofs.ScratchLaws.{scratch-room}
 
 module _ (boxes rows arrows : List ℕ) (m : ℕ) (s out work : List ℕ) where
@@ -32,6 +32,7 @@ module _ (boxes rows arrows : List ℕ) (m : ℕ) (s out work : List ℕ) where
   rest-is = chained (modeFault m) (scratchFault (length boxes) s) (roomFault 3 (length out) (listRoom boxes rows arrows m)) (roomFault 4 (length work) (pairCount boxes rows))
 
   pub record Rooms : Type 0 where
+    pub mode-few : m < 8
     pub scratch-room : length boxes * length boxes ≤ length s
     pub out-room : listRoom boxes rows arrows m ≤ length out
     pub work-room : pairCount boxes rows ≤ length work
@@ -65,13 +66,14 @@ module _ (boxes rows arrows : List ℕ) (m : ℕ) (s out work : List ℕ) where
       work-after = rw (e, orElse, l, orElse) (g .work-after);
     }
 
-  -- where checks 8 and 9 pass, there is room
+  -- where checks 8 and 9 pass, the mode is one and there is room
   pub rooms : rest ≡ none → Rooms
   rooms e =
       let a = both-none (modeFault m) _ e in
       let b = both-none (scratchFault (length boxes) s) _ (a .1) in
       let c = both-none (roomFault 3 (length out) (listRoom boxes rows arrows m)) _ (b .1) in
       record {
+        mode-few = mode-passed m (a .0);
         scratch-room = scratch-room (length boxes) s (b .0);
         out-room = room-passed 3 (length out) (listRoom boxes rows arrows m) (c .0);
         work-room = room-passed 4 (length work) (pairCount boxes rows) (c .1);

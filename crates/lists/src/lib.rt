@@ -11,26 +11,29 @@ ghost use Rattle.tables.specs.Rows.{arrowCount};
 ghost use Rattle.tables.specs.Atoms.{pairCount};
 ghost use Rattle.tables.specs.Faults.{SoundRows, SoundArrows};
 ghost use Rattle.tables.specs.Refusals.{refusal, verdictOf};
-ghost use Rattle.containment.specs.Contains.{around};
 ghost use Rattle.containment.specs.Scratch.{Says};
 ghost use Rattle.answers.specs.Meaning.{isGranted};
-ghost use Rattle.answers.specs.Pairs.{userAt, fileAt, answerAt, unclearFault};
+ghost use Rattle.answers.specs.Pairs.{userAt, fileAt, unclearFault};
 ghost use Rattle.answers.specs.Among.{modeArrows, FirstAt};
+ghost use Rattle.answers.specs.Table.{Tabled};
 ghost use Rattle.lists.specs.Greedy.{orderFault};
 ghost use Rattle.lists.specs.Calls.{blanks, Answered, Listing, Outcome};
 ghost use Rattle.lists.specs.Steps.{cellAt, Placed, Drawn, Ends, Ahead, stops, NoStop, marked, Behind, followsAt, ownSign, nothing, leftIn, Clear, workOf, Ordered};
 use answers::Entry;
-use answers::answer_among;
+use answers::answer_at;
 use answers::does_reach;
+use answers::is_around;
 use answers::is_unclear;
 use answers::mode_arrows;
+use answers::no_boxes;
+use answers::no_numbers;
+use answers::no_words;
 use answers::pair_at;
 use answers::pair_count;
+use answers::tabulate;
 use containment::check_scratch;
 use containment::contain;
-use containment::does_contain;
 use tables::Arrow;
-use tables::BoxRow;
 use tables::Refusal;
 use tables::Verdict;
 use tables::atoms_of;
@@ -127,14 +130,6 @@ fn stops_at(
     does_reach(boxes.len(), rows, scratch, a, users[i], files[j])
 }
 
-// Whether the arrow's tail is the user or contains it.
-fn is_from(n: usize, rows: &[u16], scratch: &[u8], a: Arrow, u: u16) -> bool
-    requires { ⌜ Says n (now rows) (now scratch) × (a .tail < n) × (u < n) ⌝ }
-    ensures { λ r. ⌜ r ≡ around (now (rows .entry)) (a .tail) u ⌝ }
-{
-    a.tail == u || does_contain(n, rows, scratch, wide(a.tail), wide(u))
-}
-
 // Where the walk of the arrow goes on after place p: at the next place, or in the next row where it reaches no pair of this one.
 fn ahead(
     boxes: &[u8],
@@ -152,7 +147,7 @@ fn ahead(
     ensures { λ r. ⌜ Ahead (now (boxes .entry)) (now (rows .entry)) a pairs (length (now (files .entry))) p r ⌝ }
 {
     let i = at.row;
-    if is_from(boxes.len(), rows, scratch, a, users[i]) {
+    if is_around(boxes.len(), rows, scratch, a.tail, users[i]) {
         return at.next(files.len());
     }
     Cell { row: i + 1, col: 0 }
@@ -458,75 +453,24 @@ fn granted_byte(e: Entry) -> u8
     1
 }
 
-// The answer for the pair at place p. The last two buffers are for the arrows that reach it.
-fn answer_at(
-    boxes: &[u8],
-    rows: &[u16],
-    scratch: &[u8],
-    users: &[u16],
-    files: &[u16],
-    pairs: usize,
-    arrows: &[u16],
-    mode: u16,
-    own: &[u16],
-    p: usize,
-    ps: &mut [u16],
-    ns: &mut [u16],
-) -> Entry
-    requires { ⌜ Says (length (now boxes)) (now rows) (now scratch) × Placed (now boxes) (now rows) (now users) (now files) pairs × Drawn (now boxes) (now arrows) (now own) × (now own ≡ modeArrows (now arrows) mode) ⌝ }
-    requires { ⌜ (p < pairs) × (length (now own) ≤ length (now ps)) × (length (now own) ≤ length (now ns)) ⌝ }
-    ensures { λ r. ⌜ r ≡ answerAt (now (boxes .entry)) (now (rows .entry)) (now (arrows .entry)) mode p ⌝ }
-{
-    let pair = pair_at(boxes, rows, users, files, p);
-    answer_among(
-        boxes.len(),
-        rows,
-        scratch,
-        arrows,
-        mode,
-        own,
-        pair.user,
-        pair.file,
-        ps,
-        ns,
-    )
-}
-
 // Check 12, and a byte for each pair, 1 if it is granted. They are no work bytes yet: check 12 leaves those untouched.
 fn fill_granted(
     boxes: &[u8],
     rows: &[u16],
-    scratch: &[u8],
+    arrows: &[u16],
     users: &[u16],
     files: &[u16],
-    pairs: usize,
-    arrows: &[u16],
+    table: &[u64],
     mode: u16,
-    own: &[u16],
-    ps: &mut [u16],
-    ns: &mut [u16],
     bytes: &mut [u8],
 ) -> Verdict
-    requires { ⌜ Says (length (now boxes)) (now rows) (now scratch) × Placed (now boxes) (now rows) (now users) (now files) pairs × Drawn (now boxes) (now arrows) (now own) × (now own ≡ modeArrows (now arrows) mode) ⌝ }
-    requires { ⌜ (length (now own) ≤ length (now ps)) × (length (now own) ≤ length (now ns)) × (pairs ≤ length (now bytes)) ⌝ }
+    requires { ⌜ Tabled (now boxes) (now rows) (now arrows) (now users) (now files) (now table) × (mode < 8) × (pairCount (now boxes) (now rows) ≤ length (now bytes)) ⌝ }
     ensures { λ r. ⌜ r ≡ verdictOf (unclearFault (now (boxes .entry)) (now (rows .entry)) (now (arrows .entry)) mode) ⌝ }
     ensures { λ r. ⌜ (r ≡ Verdict.Passed → now (bytes .exit) ≡ written (workOf (now (boxes .entry)) (now (rows .entry)) (now (arrows .entry)) mode []) (now (bytes .entry))) ⌝ }
 {
+    let pairs = users.len() * files.len();
     for p in 0..pairs {
-        let e = answer_at(
-            boxes,
-            rows,
-            scratch,
-            users,
-            files,
-            pairs,
-            arrows,
-            mode,
-            own,
-            p,
-            ps,
-            ns,
-        );
+        let e = answer_at(boxes, rows, arrows, users, files, table, mode, p);
         if is_unclear(e) {
             return refuse_pair(boxes, rows, users, files, pairs, 12, mode, p);
         }
@@ -594,57 +538,30 @@ fn no_bytes() -> [u8; 16384]
     [0u8; 16384]
 }
 
-// Room for arrow numbers.
-fn no_numbers() -> [u16; 512]
-    ensures { λ r. ⌜ r ≡ zeros 512 ⌝ }
-{
-    [0u16; 512]
-}
-
-// Room for box numbers.
-fn no_boxes() -> [u16; 256]
-    ensures { λ r. ⌜ r ≡ zeros 256 ⌝ }
-{
-    [0u16; 256]
-}
-
-// Check 12, then the list, by the mode's arrows and the atomic boxes.
+// Check 12, then the list, by the mode's arrows, the atomic boxes and the table.
 fn list_pairs(
     boxes: &[u8],
     rows: &[u16],
     scratch: &[u8],
+    arrows: &[u16],
     users: &[u16],
     files: &[u16],
-    pairs: usize,
-    arrows: &[u16],
+    table: &[u64],
     mode: u16,
     own: &[u16],
     out: &mut [u16],
     work: &mut [u8],
 ) -> Listed
-    requires { ⌜ Says (length (now boxes)) (now rows) (now scratch) × Placed (now boxes) (now rows) (now users) (now files) pairs × Drawn (now boxes) (now arrows) (now own) × (now own ≡ modeArrows (now arrows) mode) × (length (now own) ≤ length (now out)) × (pairs ≤ length (now work)) ⌝ }
+    requires { ⌜ Says (length (now boxes)) (now rows) (now scratch) × Tabled (now boxes) (now rows) (now arrows) (now users) (now files) (now table) × (mode < 8) × Drawn (now boxes) (now arrows) (now own) × (now own ≡ modeArrows (now arrows) mode) ⌝ }
+    requires { ⌜ (length (now own) ≤ length (now out)) × (pairCount (now boxes) (now rows) ≤ length (now work)) ⌝ }
     ensures { λ r. ⌜ Listing (now (boxes .entry)) (now (rows .entry)) (now (arrows .entry)) mode (now (out .entry)) (now (work .entry)) r (now (out .exit)) (now (work .exit)) ⌝ }
 {
     let mut bytes = no_bytes();
-    let mut ps = no_numbers();
-    let mut ns = no_numbers();
-    let clear = fill_granted(
-        boxes,
-        rows,
-        scratch,
-        users,
-        files,
-        pairs,
-        arrows,
-        mode,
-        own,
-        &mut ps,
-        &mut ns,
-        &mut bytes,
-    );
+    let clear = fill_granted(boxes, rows, arrows, users, files, table, mode, &mut bytes);
     if let Verdict::Refused(r) = clear {
         return Listed::Refused(r);
     }
+    let pairs = users.len() * files.len();
     copy(&bytes, work, pairs);
     finish(
         boxes,
@@ -671,24 +588,32 @@ fn write_list(
     out: &mut [u16],
     work: &mut [u8],
 ) -> Listed
-    requires { ⌜ SoundRows (now boxes) (now rows) × SoundArrows (now boxes) (now arrows) × Says (length (now boxes)) (now rows) (now scratch) ⌝ }
+    requires { ⌜ SoundRows (now boxes) (now rows) × SoundArrows (now boxes) (now arrows) × Says (length (now boxes)) (now rows) (now scratch) × (mode < 8) ⌝ }
     requires { ⌜ (length (modeArrows (now arrows) mode) ≤ length (now out)) × (pairCount (now boxes) (now rows) ≤ length (now work)) ⌝ }
     ensures { λ r. ⌜ Listing (now (boxes .entry)) (now (rows .entry)) (now (arrows .entry)) mode (now (out .entry)) (now (work .entry)) r (now (out .exit)) (now (work .exit)) ⌝ }
 {
     let mut users = no_boxes();
     let mut files = no_boxes();
+    let mut table = no_words();
     let mut own = no_numbers();
-    let u = atoms_of(boxes, rows, BoxRow::USER, &mut users);
-    let f = atoms_of(boxes, rows, BoxRow::FILE, &mut files);
+    let s = tabulate(
+        boxes,
+        rows,
+        scratch,
+        arrows,
+        &mut users,
+        &mut files,
+        &mut table,
+    );
     let m = mode_arrows(arrows, mode, &mut own);
     list_pairs(
         boxes,
         rows,
         scratch,
-        &users[..u],
-        &files[..f],
-        u * f,
         arrows,
+        &users[..s.users],
+        &files[..s.files],
+        &table,
         mode,
         &own[..m],
         out,

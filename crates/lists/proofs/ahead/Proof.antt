@@ -8,20 +8,20 @@ use Rattle.lists.proofs.PlaceLaws.{place-there, few-rows, user-read, us
 use Rattle.lists.proofs.ahead.Statement.{statement}
 use Rattle.lists.proofs.ahead.Tie as tie
 
-mul-is-from : tie.Need-mul-is-from
-mul-is-from c = let s = c .before .before .before .before .before in
+mul-is-around : tie.Need-mul-is-around
+mul-is-around c = let s = c .before .before .before .before .before in
     let a = s .args in
     let row : a .at .row ≡ a .p / length (a .files .now) = ap (λ (x : Cell). x .row) (s .pre .1 .1) in
     omega (arith, few-rows (a .boxes .now) (a .rows .now) (a .users .now) (a .files .now) (a .pairs) (s .pre .0 .1) (a .p) (s .pre .1 .0))
 
-shared-slice-read-is-from : tie.Need-shared-slice-read-is-from
-shared-slice-read-is-from c = let s = c .before .before .before .before .before .before in
+shared-slice-read-is-around : tie.Need-shared-slice-read-is-around
+shared-slice-read-is-around c = let s = c .before .before .before .before .before .before in
     let a = s .args in
     let row : a .at .row ≡ a .p / length (a .files .now) = ap (λ (x : Cell). x .row) (s .pre .1 .1) in
     omega (arith, place-there (a .boxes .now) (a .rows .now) (a .users .now) (a .files .now) (a .pairs) (s .pre .0 .1) (a .p) (s .pre .1 .0))
 
-is-from-requires : tie.Need-is-from-requires
-is-from-requires c κs = let s = c .before .before .before .before .before .before in
+is-around-requires : tie.Need-is-around-requires
+is-around-requires c κs = let s = c .before .before .before .before .before .before in
     let a = s .args in
     let row : a .at .row ≡ a .p / length (a .files .now) = ap (λ (x : Cell). x .row) (s .pre .1 .1) in
     let u = user-read (a .boxes .now) (a .rows .now) (a .users .now) (a .files .now) (a .pairs) (s .pre .0 .1) (a .p) (s .pre .1 .0) in
@@ -50,15 +50,15 @@ returns-2 c = let s = c .before .before .before .before .before .before .before 
     let a = s .args in
     let row : a .at .row ≡ a .p / length (a .files .now) = ap (λ (x : Cell). x .row) (s .pre .1 .1) in
     let u = user-read (a .boxes .now) (a .rows .now) (a .users .now) (a .files .now) (a .pairs) (s .pre .0 .1) (a .p) (s .pre .1 .0) in
-    rw row (ahead-row (a .boxes .now) (a .rows .now) (a .users .now) (a .files .now) (a .pairs) (s .pre .0 .1) (a .p) (s .pre .1 .0) (a .a) (rw (row, u) at (sym (c .before .is-from .ensures) ∙ c .if1 .left)))
+    rw row (ahead-row (a .boxes .now) (a .rows .now) (a .users .now) (a .files .now) (a .pairs) (s .pre .0 .1) (a .p) (s .pre .1 .0) (a .a) (rw (row, u) at (sym (c .before .is-around .ensures) ∙ c .if1 .left)))
 
 pub ahead-spec : {M : Type 1} → statement M
 ahead-spec =
     tie.close
     (tie.spec
-    mul-is-from
-    shared-slice-read-is-from
-    is-from-requires
+    mul-is-around
+    shared-slice-read-is-around
+    is-around-requires
     next-requires
     returns
     add-t12

@@ -104,7 +104,7 @@ enum-told-3 c = search needs
 write-list-requires : tie.Need-write-list-requires
 write-list-requires c κs = let a = c .before .before .before .before .before .before .before .before .before .before .before .before .before .before .before .before .before .before .before .before .before .before .before .before .before .before .before .before .before .before .args in
     let room = rooms (a .boxes .now) (a .rows .now) (a .arrows .now) (a .mode) (a .scratch .now) (a .out .now) (a .work .now) (early (c .before .before .before .before .before .before .before .before .before)) in
-    ((sound-rows (a .boxes .now) (a .rows .now) (a .arrows .now) (sound (c .before .before .before .before .before .before .before .before .before .before .before .before .before .before .before .before .before .before .before .before .before)), sound-arrows (a .boxes .now) (a .rows .now) (a .arrows .now) (sound (c .before .before .before .before .before .before .before .before .before .before .before .before .before .before .before .before .before .before .before .before .before)), rw (c .before .before .before .before .before .before .before .contain .ensures .1) (filled-says (length (a .boxes .now)) (a .rows .now) (a .scratch .now) (room .scratch-room))), (room .out-room, room .work-room))
+    ((sound-rows (a .boxes .now) (a .rows .now) (a .arrows .now) (sound (c .before .before .before .before .before .before .before .before .before .before .before .before .before .before .before .before .before .before .before .before .before)), sound-arrows (a .boxes .now) (a .rows .now) (a .arrows .now) (sound (c .before .before .before .before .before .before .before .before .before .before .before .before .before .before .before .before .before .before .before .before .before)), rw (c .before .before .before .before .before .before .before .contain .ensures .1) (filled-says (length (a .boxes .now)) (a .rows .now) (a .scratch .now) (room .scratch-room)), room .mode-few), (room .out-room, room .work-room))
 
 same-length-3 : tie.Need-same-length-3
 same-length-3 c = search needs
