@@ -1,11 +1,11 @@
 -- What one turn of each loop that fills the scratch does to its bytes. Assumes nothing.
 use mathlib.Core.Path.{_≡_, refl, sym, _∙_}
-use mathlib.Core.Logic.{_⊎_, inl, inr, ⊎-elim, _≢_}
+use mathlib.Core.Logic.{_⊎_, inl, inr, ⊎-elim, ⊎-map, _≢_}
 use mathlib.Core.Bool.{Bool, true, false, _&&_, _||_, and-false, or-false}
 use mathlib.Core.List.{List, [], _∷_}
 use Prim.Native.Nat.{ℕ, suc, _+_, _*_, _-_, _<_, _≤_}
 use native.Mathlib.Numerals.{add-one}
-use native.Mathlib.Decide.{ℕ-discrete}
+use native.Mathlib.Decide.{ℕ-discrete, decLt}
 use native.Mathlib.Omega.{arith}
 use borrow.Author.Tests.{eq-eqb, ne-eqb}
 use borrow.Author.Count.{below-more}
@@ -72,22 +72,38 @@ mark-turn n k rows s pos h room o i eo ei ho hi cells =
 
 -- ---- join_row
 
-pub join-more : (row : List ℕ) (dst j : ℕ) (s t : List ℕ) → Joined row dst j s t → dst + j < length s
-    → (v : ℕ) → v ≡ bitOr (getD t (dst + j) 0) (getD row j 0) → Joined row dst (j + 1) s (set t (dst + j) v)
-join-more row dst j s t h room v e = record { len = length-set t (dst + j) v ∙ h .len; hit = hits; miss = misses }
+-- byte j
+pub join-more : (row : List ℕ) (dst from j : ℕ) (s t : List ℕ) → from ≤ j → Joined row dst from j s t → dst + j < length s
+    → Joined row dst from (j + 1) s (set t (dst + j) (bitOr (getD t (dst + j) 0) (getD row j 0)))
+join-more row dst from j s t m h room = record {
+  len = simp length-set (h .len);
+  hit = λ i f l. below-more (λ (i : ℕ). from ≤ i → getD (set t (dst + j) v) (dst + i) 0 ≡ bitOr (getD s (dst + i) 0) (getD row i 0)) j
+      (λ i q f. getD-set-other t (dst + j) (dst + i) v 0 (omega arith) ∙ h .hit i f q)
+      (λ f. getD-set-same t (dst + j) v 0 (omega (arith, h .len)) ∙ rw (h .miss (dst + j) (inr (omega arith)))) i l f;
+  miss = λ p q. getD-set-other t (dst + j) p v 0 (⊎-elim (λ a. omega arith) (λ a. omega arith) q) ∙ h .miss p (⊎-map (λ a. a) (λ a. omega arith) q);
+}
   where
-    hits : (i : ℕ) → i < j + 1 → getD (set t (dst + j) v) (dst + i) 0 ≡ bitOr (getD s (dst + i) 0) (getD row i 0)
-    hits = below-more (λ (i : ℕ). getD (set t (dst + j) v) (dst + i) 0 ≡ bitOr (getD s (dst + i) 0) (getD row i 0)) j
-        (λ i q. getD-set-other t (dst + j) (dst + i) v 0 (omega arith) ∙ h .hit i q)
-        (getD-set-same t (dst + j) v 0 (omega (arith, h .len)) ∙ e ∙ rw (h .miss (dst + j) (inr (omega arith))))
+    v : ℕ
+    v = bitOr (getD t (dst + j) 0) (getD row j 0)
 
-    misses : (p : ℕ) → (p < dst) ⊎ (dst + (j + 1) ≤ p) → getD (set t (dst + j) v) p 0 ≡ getD s p 0
-    misses p q = getD-set-other t (dst + j) p v 0 (⊎-elim (λ a. omega arith) (λ a. omega arith) q) ∙ h .miss p (⊎-elim (λ a. inl a) (λ a. inr (omega arith)) q)
+-- a part, and then the next
+pub join-both : (row : List ℕ) (dst m n : ℕ) (s t u : List ℕ) → m ≤ n → Joined row dst 0 m s t → Joined row dst m n t u → Joined row dst 0 n s u
+join-both row dst m n s t u l h g = record {
+  len = g .len ∙ h .len;
+  hit = λ j f q. at j f q (decLt j m);
+  miss = λ p q. g .miss p (⊎-map (λ a. omega arith) (λ a. a) q) ∙ h .miss p (⊎-map (λ a. a) (λ a. omega arith) q);
+}
+  where
+    at : (j : ℕ) → 0 ≤ j → j < n → Dec (j < m) → getD u (dst + j) 0 ≡ bitOr (getD s (dst + j) 0) (getD row j 0)
+    at j f q (yes a) = g .miss (dst + j) (inl (omega arith)) ∙ h .hit j f a
+    at j f q (no a) = g .hit j (omega arith) q ∙ rw (h .miss (dst + j) (inr (omega arith)))
 
--- ---- round: the rows below i have their ways through k
+-- ---- round
 
-abbrev pub RowsDone : ℕ → ℕ → ℕ → List ℕ → List ℕ → Type 0
-RowsDone n k i s t = (f : ℕ → ℕ → Bool) → Cells n f s → (a b : ℕ) → a < i → b < n → getD t (a * n + b) 0 ≡ bit (through f k a b)
+-- the rows of bytes before i have their ways through k, and those from i on are as they were
+pub record Turned (n k i : ℕ) (s t : List ℕ) : Type 0 where
+  pub done : (f : ℕ → ℕ → Bool) → Cells n f s → (a b : ℕ) → a < i → b < n → getD t (a * n + b) 0 ≡ bit (through f k a b)
+  pub same : SameFrom (i * n) s t
 
 or-bits : (p q : Bool) → bitOr (bit p) (bit q) ≡ bit (p || q)
 unfolding bit
@@ -107,30 +123,30 @@ bit-some true e = refl
 bit-some false e = absurd (e refl)
 
 module _ (n k i : ℕ) (row s t : List ℕ) (kn : k < n) (l : i < n) (copy : (b : ℕ) → b < n → getD row b 0 ≡ getD s (k * n + b) 0)
-    (same : SameFrom (i * n) s t) (done : RowsDone n k i s t) where
-  -- row i and those after it are as they were
+    (turned : Turned n k i s t) where
   old : (f : ℕ → ℕ → Bool) → Cells n f s → (b : ℕ) → b < n → getD t (i * n + b) 0 ≡ bit (f i b)
-  old f h b lb = same .rest (i * n + b) (omega arith) ∙ h i b l lb
+  old f h b lb = turned .same .rest (i * n + b) (omega arith) ∙ h i b l lb
 
-  pub round-yes : (getD t (i * n + k) 0 ≡ 0 → ⊥) → (u : List ℕ) → Joined row (i * n) n t u → SameFrom ((i + 1) * n) s u × RowsDone n k (i + 1) s u
-  unfolding through
-  round-yes e u o = (
-    record { len = o .len ∙ same .len; rest = λ p q. o .miss p (inr (omega (arith, next-row n i))) ∙ same .rest p (omega (arith, next-row n i)) },
-    λ f h a b la lb. below-more (λ (a : ℕ). (b : ℕ) → b < n → getD u (a * n + b) 0 ≡ bit (through f k a b)) i
-        (λ a la b lb. o .miss (a * n + b) (inl (omega (arith, row-step n a i la))) ∙ done f h a b la lb)
-        (λ b lb. o .hit b lb ∙ rw (old f h b lb, copy b lb ∙ h k b kn lb, bit-some (f i k) (λ z. e (old f h k kn ∙ z))) (or-bits (f i b) (f k b)))
-        a la b lb,
-  )
+  -- row i has its ways through k then
+  next : (u : List ℕ) → length u ≡ length t → ((p : ℕ) → (p < i * n + 0) ⊎ (i * n + n ≤ p) → getD u p 0 ≡ getD t p 0)
+      → ((f : ℕ → ℕ → Bool) → Cells n f s → (b : ℕ) → b < n → getD u (i * n + b) 0 ≡ bit (through f k i b)) → Turned n k (i + 1) s u
+  next u len miss hit = record {
+    done = λ f h a b la lb. below-more (λ (a : ℕ). (b : ℕ) → b < n → getD u (a * n + b) 0 ≡ bit (through f k a b)) i
+        (λ a la b lb. miss (a * n + b) (inl (omega (arith, row-step n a i la))) ∙ turned .done f h a b la lb) (hit f h) a la b lb;
+    same = record {
+      len = len ∙ turned .same .len;
+      rest = λ p q. miss p (inr (omega (arith, next-row n i))) ∙ turned .same .rest p (omega (arith, next-row n i));
+    };
+  }
 
-  pub round-no : getD t (i * n + k) 0 ≡ 0 → SameFrom ((i + 1) * n) s t × RowsDone n k (i + 1) s t
+  pub round-yes : (getD t (i * n + k) 0 ≡ 0 → ⊥) → (u : List ℕ) → Joined row (i * n) 0 n t u → Turned n k (i + 1) s u
   unfolding through
-  round-no e = (
-    record { len = same .len; rest = λ p q. same .rest p (omega (arith, next-row n i)) },
-    λ f h a b la lb. below-more (λ (a : ℕ). (b : ℕ) → b < n → getD t (a * n + b) 0 ≡ bit (through f k a b)) i
-        (λ a la b lb. done f h a b la lb)
-        (λ b lb. old f h b lb ∙ rw (bit-zero (f i k) (sym (old f h k kn) ∙ e), or-false))
-        a la b lb,
-  )
+  round-yes e u o = next u (o .len) (o .miss)
+      (λ f h b lb. o .hit b (omega arith) lb ∙ rw (old f h b lb, copy b lb ∙ h k b kn lb, bit-some (f i k) (λ z. e (old f h k kn ∙ z))) (or-bits (f i b) (f k b)))
+
+  pub round-no : getD t (i * n + k) 0 ≡ 0 → Turned n k (i + 1) s t
+  unfolding through
+  round-no e = next t refl (λ p q. refl) (λ f h b lb. old f h b lb ∙ rw (bit-zero (f i k) (sym (old f h k kn) ∙ e), or-false))
 
 -- ---- close
 

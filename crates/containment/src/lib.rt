@@ -61,15 +61,28 @@ fn copy_row(s: &[u8], at: usize, n: usize, row: &mut [u8])
     }
 }
 
-// Joins the n bytes from dst on with those of a row. The loop has no branch and the row is a copy, so that the compiler can take
-// many bytes at a time.
-fn join_row(s: &mut [u8], row: &[u8], dst: usize, n: usize)
-    requires { ⌜ (dst + n ≤ length (now s)) × (n ≤ length (now row)) ⌝ }
-    ensures { λ _. ⌜ Joined (now (row .entry)) dst n (now (s .entry)) (now (s .exit)) ⌝ }
+// Joins the bytes from dst + from on with those of a row, up to dst + to. The loop has no branch and the row is a copy, so that
+// the compiler can take many bytes at a time.
+fn join_part(s: &mut [u8], row: &[u8], dst: usize, from: usize, to: usize)
+    requires { ⌜ (from ≤ to) × (dst + to ≤ length (now s)) × (to ≤ length (now row)) ⌝ }
+    ensures { λ _. ⌜ Joined (now (row .entry)) dst from to (now (s .entry)) (now (s .exit)) ⌝ }
 {
-    for j in 0..n {
+    for j in from..to {
         s[dst + j] = s[dst + j] | row[j];
     }
+}
+
+// Joins the n bytes from dst on with those of a row, in parts of at most 128 bytes: so short a loop the compiler unrolls whole.
+fn join_row(s: &mut [u8], row: &[u8], dst: usize, n: usize)
+    requires { ⌜ (dst + n ≤ length (now s)) × (n ≤ length (now row)) ⌝ }
+    ensures { λ _. ⌜ Joined (now (row .entry)) dst 0 n (now (s .entry)) (now (s .exit)) ⌝ }
+{
+    if n <= 128 {
+        join_part(s, row, dst, 0, n);
+        return;
+    }
+    join_part(s, row, dst, 0, 128);
+    join_part(s, row, dst, 128, n);
 }
 
 // Adds the ways through box k, whose bytes the row has. Boxes that do not contain k are skipped.
@@ -79,10 +92,12 @@ fn round(s: &mut [u8], row: &[u8], n: usize, k: usize)
     ensures { λ _. ⌜ ((f : ℕ → ℕ → Bool) → Cells n f (now (s .entry)) → Cells n (through f k) (now (s .exit))) ⌝ }
     ensures { λ _. ⌜ SameFrom (n * n) (now (s .entry)) (now (s .exit)) ⌝ }
 {
+    let mut at = 0;
     for i in 0..n {
-        if s[i * n + k] != 0 {
-            join_row(s, row, i * n, n);
+        if s[at + k] != 0 {
+            join_row(s, row, at, n);
         }
+        at += n;
     }
 }
 
