@@ -1,24 +1,25 @@
 -- What one turn of each loop that fills the scratch does to its bytes. Assumes nothing.
 use mathlib.Core.Path.{_≡_, refl, sym, _∙_}
-use mathlib.Core.Logic.{_⊎_, inl, inr, ⊎-elim, ⊎-map, _≢_}
-use mathlib.Core.Bool.{Bool, true, false, _&&_, _||_, and-false, or-false}
+use mathlib.Core.Logic.{_⊎_, inl, inr, ⊎-elim, ⊎-map}
+use mathlib.Core.Bool.{Bool, true, false, _&&_, _||_, or-false}
 use mathlib.Core.List.{List, [], _∷_}
 use Prim.Native.Nat.{ℕ, suc, _+_, _*_, _-_, _<_, _≤_}
-use native.Mathlib.Numerals.{add-one}
 use native.Mathlib.Decide.{ℕ-discrete, decLt}
 use native.Mathlib.Omega.{arith}
 use borrow.Author.Tests.{eq-eqb, ne-eqb}
 use borrow.Author.Count.{below-more}
 use lib.Bits.{bitOr}
-use lib.Dec.{eqb}
+use lib.Dec.{eqb, eqb→eq}
 use lib.ListN.{length, getD, set, drop, length-set}
 use lib.Seq.{getD-set-same, getD-set-other}
 use Rattle.tables.specs.Search.{bit}
 use Rattle.tables.specs.Buffers.{build, written, zeros}
 use Rattle.tables.specs.Rows.{rowCount, rowAt}
 use Rattle.containment.specs.Contains.{Row, here, later}
-use Rattle.containment.specs.Steps.{direct, through, rounds, Cells, SameFrom, Joined, rowFrom}
+use Rattle.containment.specs.Steps.{direct, through, Cells, SameFrom, Joined, rowFrom}
 use Rattle.tables.proofs.RowLaws.{rows-from}
+use Rattle.tables.proofs.Bits.{bit-test}
+use Rattle.tables.proofs.Tests.{and-T, not-false}
 use Rattle.tables.proofs.BufferLaws.{written-length, written-at, written-rest, zeros-length, zeros-at, build-length, build-at}
 use Rattle.containment.proofs.Index.{row-step, in-table, same-row, same-col, next-row}
 
@@ -42,33 +43,31 @@ module _ (n : ℕ) (s : List ℕ) (room : n * n ≤ length s) where
 
 -- ---- mark
 
-module _ (n o i : ℕ) (s : List ℕ) (ho : o < n) (hi : i < n) (room : n * n ≤ length s) where
-  pub mark-cells : (rows : List ℕ) → Cells n (direct rows) s → Cells n (direct (o ∷ i ∷ rows)) (set s (o * n + i) 1)
-  unfolding direct bit
-  mark-cells rows h a b la lb = go (ℕ-discrete o a) (ℕ-discrete i b)
-    where
-      other : (o ≢ a) ⊎ (i ≢ b) → getD (set s (o * n + i) 1) (a * n + b) 0 ≡ bit (direct rows a b)
-      other q =
-          getD-set-other s (o * n + i) (a * n + b) 1 0 (λ e. ⊎-elim (λ d. d (sym (same-row n a b o i lb hi e))) (λ d. d (sym (same-col n a b o i lb hi e))) q)
-          ∙ h a b la lb
-
-      go : Dec (o ≡ a) → Dec (i ≡ b) → getD (set s (o * n + i) 1) (a * n + b) 0 ≡ bit (eqb o a && eqb i b || direct rows a b)
-      go (yes p) (yes q) = rw (← p, ← q, eq-eqb o o refl, eq-eqb i i refl) (getD-set-same s (o * n + i) 1 0 (omega (arith, in-table n n o i ho hi)))
-      go (yes p) (no q) = rw (ne-eqb i b q, and-false) (other (inr q))
-      go (no p) d = rw (ne-eqb o a p) (other (inl p))
-
-  pub mark-rest : (s₀ : List ℕ) → SameFrom (n * n) s₀ s → SameFrom (n * n) s₀ (set s (o * n + i) 1)
-  mark-rest s₀ h = record {
-    len = length-set s (o * n + i) 1 ∙ h .len;
-    rest = λ p l. getD-set-other s (o * n + i) p 1 0 (omega (arith, in-table n n o i ho hi)) ∙ h .rest p l;
-  }
+-- the byte of boxes o and i
+mark-cells : (n o i : ℕ) (s rows : List ℕ) → o < n → i < n → n * n ≤ length s → Cells n (direct rows) s → Cells n (direct (o ∷ i ∷ rows)) (set s (o * n + i) 1)
+unfolding direct bit
+mark-cells n o i s rows ho hi room h a b la lb = go (ℕ-discrete (o * n + i) (a * n + b))
+  where
+    go : Dec (o * n + i ≡ a * n + b) → getD (set s (o * n + i) 1) (a * n + b) 0 ≡ bit (eqb o a && eqb i b || direct rows a b)
+    go (yes e) =
+        rw (eq-eqb o a (same-row n o i a b hi lb e), eq-eqb i b (same-col n o i a b hi lb e), ← e)
+        (getD-set-same s (o * n + i) 1 0 (omega (arith, in-table n n o i ho hi)))
+    go (no e) =
+        rw (not-false (eqb o a && eqb i b) (λ t. let p = and-T (eqb o a) (eqb i b) t in e (rw (eqb→eq o a (p .0), eqb→eq i b (p .1)))))
+        (getD-set-other s (o * n + i) (a * n + b) 1 0 (λ q. e (sym q)) ∙ h a b la lb)
 
 -- row k - 1
-pub mark-turn : (n k : ℕ) (rows s : List ℕ) → 0 < k → k ≤ rowCount rows → n * n ≤ length s → (o i : ℕ)
+pub mark-turn : (n k : ℕ) (rows s₀ s : List ℕ) → 0 < k → k ≤ rowCount rows → n * n ≤ length s → (o i : ℕ)
     → o ≡ rowAt rows (k - 1) .outer → i ≡ rowAt rows (k - 1) .inner → o < n → i < n
-    → Cells n (direct (drop (2 * k) rows)) s → Cells n (direct (drop (2 * (k - 1)) rows)) (set s (o * n + i) 1)
-mark-turn n k rows s pos h room o i eo ei ho hi cells =
-    rw (rows-from rows k pos h, ← eo, ← ei) (mark-cells n o i s ho hi room (drop (2 * k) rows) cells)
+    → Cells n (direct (drop (2 * k) rows)) s × SameFrom (n * n) s₀ s
+    → Cells n (direct (drop (2 * (k - 1)) rows)) (set s (o * n + i) 1) × SameFrom (n * n) s₀ (set s (o * n + i) 1)
+mark-turn n k rows s₀ s pos h room o i eo ei ho hi m = (
+  rw (rows-from rows k pos h, ← eo, ← ei) (mark-cells n o i s (drop (2 * k) rows) ho hi room (m .0)),
+  record {
+    len = length-set s (o * n + i) 1 ∙ m .1 .len;
+    rest = λ p l. getD-set-other s (o * n + i) p 1 0 (omega (arith, in-table n n o i ho hi)) ∙ m .1 .rest p l;
+  },
+)
 
 -- ---- join_row
 
@@ -113,14 +112,10 @@ or-bits false true = refl
 or-bits false false = refl
 
 bit-zero : (p : Bool) → bit p ≡ 0 → p ≡ false
-unfolding bit
-bit-zero true e = absurd (omega arith)
-bit-zero false e = refl
+bit-zero p e = sym (bit-test p) ∙ rw (eq-eqb (bit p) 0 e)
 
 bit-some : (p : Bool) → (bit p ≡ 0 → ⊥) → p ≡ true
-unfolding bit
-bit-some true e = refl
-bit-some false e = absurd (e refl)
+bit-some p e = sym (bit-test p) ∙ rw (ne-eqb (bit p) 0 e)
 
 module _ (n k i : ℕ) (row s t : List ℕ) (kn : k < n) (l : i < n) (copy : (b : ℕ) → b < n → getD row b 0 ≡ getD s (k * n + b) 0)
     (turned : Turned n k i s t) where
@@ -155,14 +150,6 @@ pub copied : (n k : ℕ) (s row : List ℕ) → (b : ℕ) → b < n → getD (wr
 unfolding rowFrom
 copied n k s row b lb =
     written-at (build (λ j. getD s (k * n + j) 0) n) row b (rw build-length lb) ∙ build-at (λ j. getD s (k * n + j) 0) n b lb
-
-pub rounds-none : (n : ℕ) (f : ℕ → ℕ → Bool) (s : List ℕ) → Cells n f s → Cells n (rounds f 0) s
-unfolding rounds
-rounds-none n f s h = h
-
-pub rounds-more : (n k : ℕ) (f : ℕ → ℕ → Bool) (s : List ℕ) → Cells n (through (rounds f k) k) s → Cells n (rounds f (k + 1)) s
-unfolding rounds
-rounds-more n k f s h = rw add-one h
 
 -- ---- fill: the boxes of a row are below what those of each place in the table are below
 

@@ -4,7 +4,7 @@ ghost use mathlib.Core.Bool.{Bool};
 ghost use mathlib.Core.List.{[]};
 ghost use Prim.Native.Nat.{ℕ, _+_, _*_, _%_, _<_, _≤_};
 ghost use lib.ListN.{length, getD};
-ghost use Rattle.tables.specs.Buffers.{written, zeros};
+ghost use Rattle.tables.specs.Buffers.{written};
 ghost use Rattle.tables.specs.Refusals.{verdictOf};
 ghost use Rattle.tables.specs.Rows.{rowAt, rowCount};
 ghost use Rattle.tables.specs.Faults.{SoundRows};
@@ -21,16 +21,6 @@ pub fn does_contain(n: usize, rows: &[u16], scratch: &[u8], a: usize, b: usize) 
     ensures { λ r. ⌜ r ≡ contains (now (rows .entry)) a b ⌝ }
 {
     scratch[a * n + b] != 0
-}
-
-// Sets the first `count` bytes to 0.
-fn clear(s: &mut [u8], count: usize)
-    requires { ⌜ count ≤ length (now s) ⌝ }
-    ensures { λ _. ⌜ now (s .exit) ≡ written (zeros count) (now (s .entry)) ⌝ }
-{
-    for p in 0..count {
-        s[p] = 0;
-    }
 }
 
 // Sets the byte of each row's pair of boxes to 1.
@@ -113,12 +103,6 @@ fn close(s: &mut [u8], n: usize, row: &mut [u8])
     }
 }
 
-fn no_row() -> [u8; 256]
-    ensures { λ r. ⌜ r ≡ zeros 256 ⌝ }
-{
-    [0u8; 256]
-}
-
 // Fills the scratch by Warshall's rounds: n² steps, and n more for each pair of boxes of which one contains the other.
 fn fill(boxes: &[u8], rows: &[u16], scratch: &mut [u8])
     requires { ⌜ SoundRows (now boxes) (now rows) ⌝ }
@@ -126,9 +110,9 @@ fn fill(boxes: &[u8], rows: &[u16], scratch: &mut [u8])
     ensures { λ _. ⌜ now (scratch .exit) ≡ filled (length (now (boxes .entry))) (now (rows .entry)) (now (scratch .entry)) ⌝ }
 {
     let n = boxes.len();
-    clear(scratch, n * n);
+    tables::clear(scratch, n * n);
     mark(rows, scratch, n);
-    let mut row = no_row();
+    let mut row = tables::zero_bytes();
     close(scratch, n, &mut row);
 }
 

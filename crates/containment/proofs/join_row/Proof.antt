@@ -5,24 +5,6 @@ use Rattle.containment.proofs.StepLaws.{join-both}
 use Rattle.containment.proofs.join_row.Statement.{statement}
 use Rattle.containment.proofs.join_row.Tie as tie
 
-join-part-requires : tie.Need-join-part-requires
-join-part-requires c κs = search needs
-
-same-length : tie.Need-same-length
-same-length c = search needs
-
-returns : tie.Need-returns
-returns c = search needs
-
-join-part-requires-2 : tie.Need-join-part-requires-2
-join-part-requires-2 c κs = search needs
-
-join-part-requires-3 : tie.Need-join-part-requires-3
-join-part-requires-3 c κs = search needs
-
-same-length-2 : tie.Need-same-length-2
-same-length-2 c = search needs
-
 returns-2 : tie.Need-returns-2
 returns-2 c = let last = c .before .before in
     let first = last .before .before .before .before in
@@ -30,4 +12,4 @@ returns-2 c = let last = c .before .before in
     join-both (a .row .now) (a .dst) 128 (a .n) (a .s .now) (first .join-part2 .last .0) (last .join-part3 .last .0) (omega arith) (first .join-part2 .ensures) (last .join-part3 .ensures)
 
 pub join-row-spec : {M : Type 1} → statement M
-join-row-spec = tie.close (tie.spec join-part-requires same-length returns join-part-requires-2 join-part-requires-3 same-length-2 returns-2)
+join-row-spec = tie.close (tie.spec (search needs) (search needs) (λ c. search needs) (search needs) (search needs) (search needs) returns-2)

@@ -16,9 +16,6 @@ Inv-loop s₀ row n k at₀ i₀ s at i = (i ≤ n) × (at ≡ i * n) × Turned 
 abbrev μ-loop : tie.MeasureT-loop
 μ-loop s₀ row n k at₀ i₀ s at i = n - i
 
-loop-holds : tie.Need-loop-holds Inv-loop μ-loop
-loop-holds c = search needs
-
 -- row i is there
 fits : (c : tie.In-loop Inv-loop μ-loop) → c .before .loop .at + c .before .before .before .before .args .n ≤ length (c .before .loop .s)
 fits c =
@@ -37,12 +34,6 @@ join-row-requires c κs = (fits (c .before .before .before), omega arith)
 add-at : tie.Need-add-at Inv-loop μ-loop
 add-at c = omega (arith, fits (c .before .before))
 
-add-i : tie.Need-add-i Inv-loop μ-loop
-add-i c = search needs
-
-loop-less : tie.Need-loop-less Inv-loop μ-loop
-loop-less c = search needs
-
 loop-again : tie.Need-loop-again Inv-loop μ-loop
 loop-again c = let at = c .before .before .before in
     let start = at .before .before .before in
@@ -58,9 +49,6 @@ loop-again c = let at = c .before .before .before in
           (c .if1 .came),
     )
 
-same-length : tie.Need-same-length Inv-loop μ-loop
-same-length c = search needs
-
 returns : tie.Need-returns Inv-loop μ-loop
 returns c = let at = c .before in
     let e : at .loop .i ≡ at .before .before .before .args .n = omega arith in
@@ -68,4 +56,5 @@ returns c = let at = c .before in
 
 pub round-spec : {M : Type 1} → statement M
 round-spec =
-    tie.close (tie.spec Inv-loop μ-loop loop-holds add-if1 slice-read-if1 join-row-requires add-at add-i loop-less loop-again same-length returns)
+    tie.close (tie.spec Inv-loop μ-loop (search needs) add-if1 slice-read-if1 join-row-requires add-at (search needs) (search needs) loop-again
+    (search needs) returns)
