@@ -82,6 +82,7 @@ fn round(s: &mut [u8], row: &[u8], n: usize, k: usize)
     ensures { λ _. ⌜ ((f : ℕ → ℕ → Bool) → Cells n f (now (s .entry)) → Cells n (through f k) (now (s .exit))) ⌝ }
     ensures { λ _. ⌜ SameFrom (n * n) (now (s .entry)) (now (s .exit)) ⌝ }
 {
+    // where the bytes of box i begin
     let mut at = 0;
     for i in 0..n {
         if s[at + k] != 0 {

@@ -1,7 +1,7 @@
 -- Each of the three verdicts is that of its definition, in their order. Assumes nothing.
 use borrow.Author.Needs.{needs}
 use Rattle.blocks.specs.Blocks.{blockFault, wrongCheck}
-use Rattle.blocks.proofs.Searches.{either-three}
+use Rattle.tables.proofs.Verdicts.{either-three}
 use Rattle.blocks.proofs.check_block.Statement.{statement}
 use Rattle.blocks.proofs.check_block.Tie as tie
 

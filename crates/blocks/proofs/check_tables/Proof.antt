@@ -2,9 +2,9 @@
 use mathlib.Core.Path.{sym, _∙_}
 use native.Mathlib.Omega.{arith}
 use borrow.Author.Needs.{needs}
-use Rattle.tables.proofs.Verdicts.{passed, refused, past, stop}
+use Rattle.tables.proofs.TableLaws.{counts-passed}
+use Rattle.tables.proofs.Verdicts.{passed, refused, past, stop, either-three}
 use Rattle.blocks.specs.Reads.{tablesFault}
-use Rattle.blocks.proofs.Searches.{either-three, count-limits}
 use Rattle.blocks.proofs.check_tables.Statement.{statement}
 use Rattle.blocks.proofs.check_tables.Tie as tie
 
@@ -13,10 +13,10 @@ unfolding tablesFault
 returns c = rw (stop _ _ (refused _ _ (sym (c .before .before .before .check-counts .ensures) ∙ c .before .many .given .1)))
 
 mul-check-room : tie.Need-mul-check-room
-mul-check-room c = omega (arith, count-limits _ _ _ (passed _ (sym (c .before .before .before .before .check-counts .ensures) ∙ c .before .before .enum-told .given .1)))
+mul-check-room c = omega (arith, counts-passed _ _ _ (passed _ (sym (c .before .before .before .before .check-counts .ensures) ∙ c .before .before .enum-told .given .1)))
 
 mul-check-room-2 : tie.Need-mul-check-room-2
-mul-check-room-2 c = omega (arith, count-limits _ _ _ (passed _ (sym (c .before .before .before .before .before .before .before .check-counts .ensures) ∙ c .before .before .before .before .before .enum-told .given .1)))
+mul-check-room-2 c = omega (arith, counts-passed _ _ _ (passed _ (sym (c .before .before .before .before .before .before .before .check-counts .ensures) ∙ c .before .before .before .before .before .enum-told .given .1)))
 
 returns-2 : tie.Need-returns-2
 unfolding tablesFault
