@@ -1,5 +1,5 @@
 -- How the row counts and the lengths of the tables grow block by block. Assumes nothing.
-use mathlib.Core.Path.{_≡_, refl, _∙_}
+use mathlib.Core.Path.{_≡_, refl}
 use mathlib.Core.Bool.{Bool, true, false, cond, or-true, true≢false}
 use mathlib.Core.List.{List}
 use mathlib.Core.Option.{none, some}
@@ -12,6 +12,9 @@ use lib.ListN.{length, length-append}
 use lib.Seq.{sets}
 use Rattle.tables.specs.Buffers.{written}
 use Rattle.tables.specs.declared.Refusal.{Refusal}
+use Rattle.tables.proofs.Tests.{not-false}
+use Rattle.tables.proofs.SearchLaws.{first-none, first-nothing, first-more, first-here, given-none}
+use Rattle.tables.proofs.TableLaws.{both-none}
 use Rattle.blocks.specs.Blocks.{headOf, capacity, byKind, boxRow, containmentRow, arrowRow, countOf, joined, boxesSaid, containmentsSaid, arrowsSaid, wrongHead, blockFault}
 use Rattle.blocks.specs.Files.{blockAt, blockCount, kindBefore, blocksFault, boxesIn, containmentsIn, arrowsIn}
 use Rattle.blocks.specs.Reads.{countsIn, countsOf}
@@ -19,7 +22,6 @@ use Rattle.blocks.specs.Steps.{countsWith, BlockFits, Fitting}
 use Rattle.blocks.specs.declared.Head.{Head}
 use Rattle.blocks.specs.declared.Counts.{Counts}
 use Rattle.blocks.proofs.Placing.{joined-length, joined-most, written-more}
-use Rattle.blocks.proofs.Searches.{none-left, none-right, given-none, none-before, none-at, first-more, found-at}
 
 -- a turn of the loop that writes the blocks, for each table
 pub table-more : (f : ℕ → List ℕ) (old : List ℕ) (k n i : ℕ) → k < n → length (joined f n) ≤ length old → i ≡ length (joined f k)
@@ -90,25 +92,25 @@ count-fits kind head h = go (eqb (head .kind) kind) refl
 pub good-count : (before place : ℕ) (b : List ℕ) → blockFault before place b ≡ none → headOf b .count ≤ capacity (headOf b .kind)
 unfolding blockFault
 good-count before place b e =
-    head-fits before place (headOf b) (given-none _ _ (none-left _ _ (none-right _ _ e)))
+    head-fits before place (headOf b) (not-false _ (given-none _ _ (both-none _ _ (both-none _ _ e .1) .0)))
 
 -- the blocks in turn
 module _ (blocks : ℕ → List ℕ) where
   pub blocks-more : (k : ℕ) → blocksFault blocks k ≡ none → blockFault (kindBefore blocks k) k (blocks k) ≡ none → blocksFault blocks (k + 1) ≡ none
   unfolding blocksFault
-  blocks-more k e f = first-more _ k e ∙ f
+  blocks-more k e f = first-more _ k e f
 
   pub blocks-found : (k n : ℕ) {r : Refusal} → k < n → blocksFault blocks k ≡ none → blockFault (kindBefore blocks k) k (blocks k) ≡ some r → blocksFault blocks n ≡ some r
   unfolding blocksFault
-  blocks-found k n h e f = found-at _ k n h e f
+  blocks-found k n h e f = first-here _ n k _ e f h
 
   pub blocks-before : (k n : ℕ) → k ≤ n → blocksFault blocks n ≡ none → blocksFault blocks k ≡ none
   unfolding blocksFault
-  blocks-before k n h e = none-before _ k n h e
+  blocks-before k n h e = first-nothing _ k (λ j l. first-none _ n e j (omega arith))
 
   pub block-good : (k n : ℕ) → k < n → blocksFault blocks n ≡ none → blockFault (kindBefore blocks k) k (blocks k) ≡ none
   unfolding blocksFault
-  block-good k n h e = none-at _ k n h e
+  block-good k n h e = first-none _ n e k h
 
 -- what a good block has of each table
 pub record Holds (head : Head) : Type 0 where

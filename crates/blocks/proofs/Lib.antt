@@ -4,7 +4,6 @@ pub mod Parts
 pub mod Placing
 pub mod Heads
 pub mod Held
-pub mod Searches
 pub mod Counting
 pub mod Order
 pub mod Rooms

@@ -14,13 +14,13 @@ use Rattle.tables.proofs.Verdicts.{past}
 use Rattle.blocks.specs.Blocks.{headOf, joined, boxesSaid, containmentsSaid, arrowsSaid}
 use Rattle.blocks.specs.Files.{blockAt, blockCount, kindBefore, blocksFault, lengthFault, fileFault, boxesIn, containmentsIn, arrowsIn, boxesOf, containmentsOf, arrowsOf}
 use Rattle.blocks.specs.Reads.{countsIn, countsOf, tablesFault, readFault}
-use Rattle.blocks.proofs.Searches.{none-left}
+use Rattle.tables.proofs.TableLaws.{both-none}
 use Rattle.blocks.proofs.Order.{length-whole, length-good}
 use Rattle.blocks.proofs.Placing.{joined-length}
 
 good-whole : (file : List ℕ) → fileFault file ≡ none → length file % 512 ≡ 0
 unfolding fileFault
-good-whole file e = length-whole (length file) (none-left _ _ e) .0
+good-whole file e = length-whole (length file) (both-none _ _ e .0) .0
 
 -- lists and searches that agree at each number below n
 pub joined-same : (f g : ℕ → List ℕ) (n : ℕ) → ((k : ℕ) → k < n → f k ≡ g k) → joined f n ≡ joined g n

@@ -5,20 +5,21 @@ use mathlib.Core.List.{List}
 use mathlib.Core.Option.{Option, none, some}
 use Prim.Native.Nat.{ℕ, _%_, _<_, _≤_}
 use native.Mathlib.Omega.{arith}
-use borrow.Author.Tests.{ltb-false, le-ltb, eqb-true, eq-eqb, ne-eqb, not-false}
-use lib.Dec.{eqb, ltb}
+use borrow.Author.Tests.{le-ltb, eq-eqb, ne-eqb}
+use lib.Dec.{eqb, ltb, eqb→eq, nltb→le, not-T}
 use lib.ListN.{length}
 use Rattle.tables.specs.Search.{given}
 use Rattle.tables.specs.Buffers.{written}
-use Rattle.tables.specs.Faults.{roomFault}
 use Rattle.tables.specs.declared.Refusal.{Refusal}
+use Rattle.tables.proofs.Tests.{T-or₁, T-or₂}
+use Rattle.tables.proofs.SearchLaws.{given-none}
+use Rattle.tables.proofs.TableLaws.{both-none, not-not, room-passed}
 use Rattle.tables.proofs.Verdicts.{past, stop}
 use Rattle.blocks.specs.Files.{blockAt, blockCount, lengthFault, blocksFault, fileFault, boxesOf, containmentsOf, arrowsOf}
 use Rattle.blocks.specs.Reads.{countsOf, tablesFault, readFault, answerOf, ReadDone}
 use Rattle.blocks.specs.Steps.{Fitting}
 use Rattle.blocks.specs.declared.Counts.{Counts}
 use Rattle.blocks.specs.declared.Reading.the-variants.{Tables, Refused}
-use Rattle.blocks.proofs.Searches.{none-left, none-right, given-none, or-false}
 
 -- what an answer says of the fault
 pub answer-tables : (o : Option Refusal) (c d : Counts) → answerOf o c ≡ Tables d → (o ≡ none) × (c ≡ d)
@@ -33,17 +34,17 @@ answer-refused (some s) c r e = let i : s ≡ r = cc in rw i
 pub length-whole : (len : ℕ) → lengthFault len ≡ none → (len % 512 ≡ 0) × (len ≤ 32768)
 unfolding lengthFault
 length-whole len e =
-    let long = or-false (eqb len 0 || not (eqb (len % 512) 0)) (ltb 32768 len) (given-none _ _ e) in
-    let ragged = or-false (eqb len 0) (not (eqb (len % 512) 0)) (long .0) .1 in
-    (eqb-true (len % 512) 0 (not-false _ ragged), ltb-false 32768 len (long .1))
+    let empty = eqb len 0 in
+    let ragged = not (eqb (len % 512) 0) in
+    let long = ltb 32768 len in
+    let good = given-none (empty || ragged || long) _ e in (
+      eqb→eq (len % 512) 0 (not-not (eqb (len % 512) 0) (λ t. good (T-or₁ (empty || ragged) long (T-or₂ empty ragged t)))),
+      nltb→le 32768 len (not-T long (λ t. good (T-or₂ (empty || ragged) long t))),
+    )
 
 pub length-good : (len : ℕ) → 0 < len → len % 512 ≡ 0 → len ≤ 32768 → lengthFault len ≡ none
 unfolding lengthFault given
 length-good len p e h = rw (ne-eqb len 0 (λ z. omega arith), eq-eqb (len % 512) 0 e, le-ltb 32768 len h)
-
-pub room-enough : (buffer have need : ℕ) → roomFault buffer have need ≡ none → need ≤ have
-unfolding roomFault
-room-enough buffer have need e = ltb-false have need (given-none _ _ e)
 
 module _ (file : List ℕ) (boxes rows arrows : ℕ) where
   -- the checks in turn
@@ -65,15 +66,15 @@ module _ (file : List ℕ) (boxes rows arrows : ℕ) where
       pub fitting : tablesFault (countsOf file) boxes rows arrows ≡ none → Fitting file boxes rows arrows
       unfolding tablesFault
       fitting e =
-          let room = none-right _ _ e in
-          let rest = none-right _ _ room in
+          let room = both-none _ _ (both-none _ _ e .1) in
+          let rest = both-none _ _ (room .1) in
           let short = length-whole (length file) whole .1 in
           record {
             few = omega arith;
             good = good;
-            boxes-fit = room-enough 5 boxes _ (none-left _ _ room);
-            rows-fit = room-enough 6 rows _ (none-left _ _ rest);
-            arrows-fit = room-enough 7 arrows _ (none-right _ _ rest);
+            boxes-fit = room-passed 5 boxes _ (room .0);
+            rows-fit = room-passed 6 rows _ (rest .0);
+            arrows-fit = room-passed 7 arrows _ (rest .1);
           }
 
 -- a refusal leaves the tables as they were

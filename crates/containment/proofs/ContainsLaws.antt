@@ -51,81 +51,65 @@ pub contains-around : (rows : List ℕ) (a b : ℕ) → T (contains rows a b) �
 unfolding around
 contains-around rows a b t = T-or₂ (eqb a b) (contains rows a b) t
 
+around-ways : (x y : ℕ) (rows : List ℕ) (a b : ℕ) → T (around (x ∷ y ∷ rows) a b) → T (around rows a b) ⊎ (T (around rows a x) × T (around rows y b))
+around-ways x y rows a b t =
+    ⊎-elim (λ e. inl (subst (λ (z : ℕ). T (around rows a z)) e (around-self rows a))) (λ c. ⊎-map (contains-around rows a b) (λ v. v) (ways x y rows a b c))
+    (around-cases (x ∷ y ∷ rows) a b t)
+
 -- ---- a chain is found, and what is found is a chain
 
 join : {rows : List ℕ} {a b c : ℕ} → Chain rows a b → Chain rows b c → Chain rows a c
 join (one r) k = more r k
 join (more r h) k = more r (join h k)
 
-wider : {x y : ℕ} {rows : List ℕ} {a b : ℕ} → Chain rows a b → Chain (x ∷ y ∷ rows) a b
-wider (one r) = one (later r)
-wider (more r h) = more (later r) (wider h)
+-- a chain stays one where each row of it stays one
+along : {rows new : List ℕ} {a b : ℕ} → ((a b : ℕ) → Row rows a b → Row new a b) → Chain rows a b → Chain new a b
+along f (one {a = a} {b = b} r) = one (f a b r)
+along f (more {a = a} {b = b} r h) = more (f a b r) (along f h)
 
 pub contains-chain : (rows : List ℕ) (a b : ℕ) → T (contains rows a b) → Chain rows a b
 unfolding contains
 contains-chain [] a b t = absurd t
 contains-chain (x ∷ []) a b t = absurd t
-contains-chain (x ∷ y ∷ rows) a b t = go (contains-chain rows) (ways x y rows a b t)
+contains-chain (x ∷ y ∷ rows) a b t = go (λ a b t. along (λ a b r. later r) (contains-chain rows a b t)) (ways x y rows a b t)
   where
-    go : ((a b : ℕ) → T (contains rows a b) → Chain rows a b) → Ways x y rows a b → Chain (x ∷ y ∷ rows) a b
-    go ih (inl o) = wider (ih a b o)
-    go ih (inr v) = front (around-cases rows a x (v .0))
+    go : ((a b : ℕ) → T (contains rows a b) → Chain (x ∷ y ∷ rows) a b) → Ways x y rows a b → Chain (x ∷ y ∷ rows) a b
+    go ih (inl o) = ih a b o
+    go ih (inr v) = ⊎-elim (λ e. subst (λ (z : ℕ). Chain (x ∷ y ∷ rows) z b) (sym e) back) (λ c. join (ih a x c) back) (around-cases rows a x (v .0))
       where
-        back : (y ≡ b) ⊎ T (contains rows y b) → Chain (x ∷ y ∷ rows) x b
-        back (inl e) = subst (λ (z : ℕ). Chain (x ∷ y ∷ rows) x z) e (one here)
-        back (inr c) = more here (wider (ih y b c))
+        back : Chain (x ∷ y ∷ rows) x b
+        back = ⊎-elim (λ e. subst (λ (z : ℕ). Chain (x ∷ y ∷ rows) x z) e (one here)) (λ c. more here (ih y b c)) (around-cases rows y b (v .1))
 
-        front : (a ≡ x) ⊎ T (contains rows a x) → Chain (x ∷ y ∷ rows) a b
-        front (inl e) = subst (λ (z : ℕ). Chain (x ∷ y ∷ rows) z b) (sym e) (back (around-cases rows y b (v .1)))
-        front (inr c) = join (wider (ih a x c)) (back (around-cases rows y b (v .1)))
-
-pub contains-trans : (rows : List ℕ) (a b c : ℕ) → T (contains rows a b) → T (contains rows b c) → T (contains rows a c)
-unfolding contains
-contains-trans [] a b c s t = s
-contains-trans (x ∷ []) a b c s t = s
-contains-trans (x ∷ y ∷ rows) a b c s t = go (contains-trans rows) (ways x y rows a b s) (ways x y rows b c t)
-  where
-    Trans : Type 0
-    Trans = (a b c : ℕ) → T (contains rows a b) → T (contains rows b c) → T (contains rows a c)
-
-    before : Trans → (a b c : ℕ) → T (contains rows a b) → T (around rows b c) → T (around rows a c)
-    before ih a b c s t =
-        contains-around rows a c (⊎-elim (λ e. subst (λ (z : ℕ). T (contains rows a z)) e s) (ih a b c s) (around-cases rows b c t))
-
-    after : Trans → (a b c : ℕ) → T (around rows a b) → T (contains rows b c) → T (around rows a c)
-    after ih a b c s t =
-        contains-around rows a c (⊎-elim (λ e. subst (λ (z : ℕ). T (contains rows z c)) (sym e) t) (λ u. ih a b c u t) (around-cases rows a b s))
-
-    go : Trans → Ways x y rows a b → Ways x y rows b c → T (contains (x ∷ y ∷ rows) a c)
-    go ih (inl s) (inl t) = old x y rows a c (ih a b c s t)
-    go ih (inl s) (inr t) = via x y rows a c (before ih a b x s (t .0)) (t .1)
-    go ih (inr s) (inl t) = via x y rows a c (s .0) (after ih y b c (s .1) t)
-    go ih (inr s) (inr t) = via x y rows a c (s .0) (t .1)
+-- a row, and then nothing or a chain
+row-around : {rows : List ℕ} {a b : ℕ} (c : ℕ) → Row rows a b → T (around rows b c) → T (contains rows a c)
+row-around c (here {a = a} {b = b} {rows = rows}) t = via a b rows a c (around-self rows a) (⊎-elim (λ o. o) (λ v. v .1) (around-ways a b rows b c t))
+row-around c (later {x = x} {y = y} {a = a} {b = b} {rows = rows} r) t =
+    ⊎-elim (λ o. old x y rows a c (row-around c r o)) (λ v. via x y rows a c (contains-around rows a x (row-around x r (v .0))) (v .1)) (around-ways x y rows b c t)
 
 pub row-contains : {rows : List ℕ} {a b : ℕ} → Row rows a b → T (contains rows a b)
-row-contains (here {a = a} {b = b} {rows = rows}) = via a b rows a b (around-self rows a) (around-self rows b)
-row-contains (later {x = x} {y = y} {a = a} {b = b} {rows = rows} r) = old x y rows a b (row-contains r)
+row-contains {rows} {a} {b} r = row-around b r (around-self rows b)
 
 pub chain-contains : {rows : List ℕ} {a b : ℕ} → Chain rows a b → T (contains rows a b)
 chain-contains (one r) = row-contains r
-chain-contains {rows} (more {a = a} {b = b} {c = c} r h) = contains-trans rows a b c (row-contains r) (chain-contains h)
+chain-contains {rows} (more {b = b} {c = c} r h) = row-around c r (contains-around rows b c (chain-contains h))
 
 -- "A contains B if a chain of one or more containment rows leads from A to B"
 pub contains-iff : (rows : List ℕ) (a b : ℕ) → T (contains rows a b) ↔ Chain rows a b
 contains-iff rows a b = (contains-chain rows a b, chain-contains)
 
--- ---- a repeated row changes nothing
+pub contains-trans : (rows : List ℕ) (a b c : ℕ) → T (contains rows a b) → T (contains rows b c) → T (contains rows a c)
+contains-trans rows a b c s t = chain-contains (join (contains-chain rows a b s) (contains-chain rows b c t))
 
-repeat-chain : {x y : ℕ} {rows : List ℕ} → Row rows x y → {a b : ℕ} → Chain (x ∷ y ∷ rows) a b → Chain rows a b
-repeat-chain {x} {y} {rows} r (one here) = one r
-repeat-chain r (one (later s)) = one s
-repeat-chain r (more here h) = more r (repeat-chain r h)
-repeat-chain r (more (later s) h) = more s (repeat-chain r h)
+-- ---- a repeated row changes nothing
 
 pub contains-repeat : (x y : ℕ) (rows : List ℕ) → Row rows x y → (a b : ℕ) → contains (x ∷ y ∷ rows) a b ≡ contains rows a b
 contains-repeat x y rows r a b =
     T-same (contains (x ∷ y ∷ rows) a b) (contains rows a b)
-    (λ t. chain-contains (repeat-chain r (contains-chain (x ∷ y ∷ rows) a b t))) (old x y rows a b)
+    (λ t. chain-contains (along again (contains-chain (x ∷ y ∷ rows) a b t))) (old x y rows a b)
+  where
+    again : (a b : ℕ) → Row (x ∷ y ∷ rows) a b → Row rows a b
+    again a b here = r
+    again a b (later s) = s
 
 -- ---- an atomic box contains nothing, and a box that contains nothing is the outer box of no row
 

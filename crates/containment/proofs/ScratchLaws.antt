@@ -13,12 +13,12 @@ use Rattle.tables.specs.Faults.{tableFault}
 use Rattle.tables.specs.Refusals.{verdictOf}
 use Rattle.tables.specs.declared.Refusal.{Refusal}
 use Rattle.tables.specs.declared.Verdict.{Verdict}
-use Rattle.tables.specs.declared.Verdict.the-variants.{Passed, Refused}
+use Rattle.tables.specs.declared.Verdict.the-variants.{Refused}
 use Rattle.tables.specs.Buffers.{build}
 use Rattle.containment.specs.Contains.{contains, loopFault}
 use Rattle.containment.specs.Scratch.{filled, Says, scratchFault, scratchAfter, earlyFault, pictureFault}
 use Rattle.containment.specs.Steps.{Cells, SameFrom}
-use Rattle.tables.proofs.Verdicts.{passed, refused}
+use Rattle.tables.proofs.Verdicts.{refused}
 use Rattle.tables.proofs.TableLaws.{room-passed}
 use Rattle.tables.proofs.BufferLaws.{written-length, written-at, written-rest, build-length, build-at}
 use Rattle.containment.proofs.Index.{in-table, at-div, at-mod, place}
@@ -71,20 +71,13 @@ module _ (boxes rows arrows s : List ℕ) where
   unfolding orElse pictureFault earlyFault
   ends-tables r e = let f = refused (tableFault boxes rows arrows) r e in (rw (f, orElse), rw (f, orElse))
 
-  pub ends-room : (r : Refusal) → verdictOf (tableFault boxes rows arrows) ≡ Passed → verdictOf (scratchFault (length boxes) s) ≡ Refused r → Ends (Refused r) s
+  pub ends-room : (r : Refusal) → tableFault boxes rows arrows ≡ none → verdictOf (scratchFault (length boxes) s) ≡ Refused r → Ends (Refused r) s
   unfolding orElse pictureFault earlyFault
-  ends-room r p e =
-      let f = passed (tableFault boxes rows arrows) p in
-      let g = refused (scratchFault (length boxes) s) r e in
-      (rw (f, orElse, g, orElse), rw (f, orElse, g, orElse))
+  ends-room r f e = let g = refused (scratchFault (length boxes) s) r e in (rw (f, orElse, g, orElse), rw (f, orElse, g, orElse))
 
-  pub ends-filled : verdictOf (tableFault boxes rows arrows) ≡ Passed → verdictOf (scratchFault (length boxes) s) ≡ Passed
-      → Ends (verdictOf (loopFault boxes rows)) (filled (length boxes) rows s)
+  pub ends-filled : tableFault boxes rows arrows ≡ none → scratchFault (length boxes) s ≡ none → Ends (verdictOf (loopFault boxes rows)) (filled (length boxes) rows s)
   unfolding orElse pictureFault earlyFault
-  ends-filled p q =
-      let f = passed (tableFault boxes rows arrows) p in
-      let g = passed (scratchFault (length boxes) s) q in
-      (rw (f, orElse, g, orElse), rw (f, orElse, g, orElse))
+  ends-filled f g = (rw (f, orElse, g, orElse), rw (f, orElse, g, orElse))
 
 -- where check 9 passes, there is room
 pub scratch-room : (n : ℕ) (s : List ℕ) → scratchFault n s ≡ none → n * n ≤ length s

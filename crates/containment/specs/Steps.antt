@@ -34,11 +34,11 @@ pub record SameFrom (m : ℕ) (s t : List ℕ) : Type 0 where
   pub len : length t ≡ length s
   pub rest : (p : ℕ) → m ≤ p → getD t p 0 ≡ getD s p 0
 
--- t is s with the n bytes from dst on joined by those of a row
-pub record Joined (row : List ℕ) (dst n : ℕ) (s t : List ℕ) : Type 0 where
+-- t is s with the bytes from dst + from on, up to dst + to, joined by those of a row
+pub record Joined (row : List ℕ) (dst from to : ℕ) (s t : List ℕ) : Type 0 where
   pub len : length t ≡ length s
-  pub hit : (j : ℕ) → j < n → getD t (dst + j) 0 ≡ bitOr (getD s (dst + j) 0) (getD row j 0)
-  pub miss : (p : ℕ) → (p < dst) ⊎ (dst + n ≤ p) → getD t p 0 ≡ getD s p 0
+  pub hit : (j : ℕ) → from ≤ j → j < to → getD t (dst + j) 0 ≡ bitOr (getD s (dst + j) 0) (getD row j 0)
+  pub miss : (p : ℕ) → (p < dst + from) ⊎ (dst + to ≤ p) → getD t p 0 ≡ getD s p 0
 
 -- n bytes from a place on
 unfoldable pub rowFrom : List ℕ → ℕ → ℕ → List ℕ

@@ -4,7 +4,7 @@ ghost use mathlib.Core.Bool.{Bool};
 ghost use mathlib.Core.List.{[]};
 ghost use Prim.Native.Nat.{ℕ, _+_, _*_, _%_, _<_, _≤_};
 ghost use lib.ListN.{length, getD};
-ghost use Rattle.tables.specs.Buffers.{written, zeros};
+ghost use Rattle.tables.specs.Buffers.{written};
 ghost use Rattle.tables.specs.Refusals.{verdictOf};
 ghost use Rattle.tables.specs.Rows.{rowAt, rowCount};
 ghost use Rattle.tables.specs.Faults.{SoundRows};
@@ -21,16 +21,6 @@ pub fn does_contain(n: usize, rows: &[u16], scratch: &[u8], a: usize, b: usize) 
     ensures { λ r. ⌜ r ≡ contains (now (rows .entry)) a b ⌝ }
 {
     scratch[a * n + b] != 0
-}
-
-// Sets the first `count` bytes to 0.
-fn clear(s: &mut [u8], count: usize)
-    requires { ⌜ count ≤ length (now s) ⌝ }
-    ensures { λ _. ⌜ now (s .exit) ≡ written (zeros count) (now (s .entry)) ⌝ }
-{
-    for p in 0..count {
-        s[p] = 0;
-    }
 }
 
 // Sets the byte of each row's pair of boxes to 1.
@@ -61,15 +51,28 @@ fn copy_row(s: &[u8], at: usize, n: usize, row: &mut [u8])
     }
 }
 
-// Joins the n bytes from dst on with those of a row. The loop has no branch and the row is a copy, so that the compiler can take
-// many bytes at a time.
-fn join_row(s: &mut [u8], row: &[u8], dst: usize, n: usize)
-    requires { ⌜ (dst + n ≤ length (now s)) × (n ≤ length (now row)) ⌝ }
-    ensures { λ _. ⌜ Joined (now (row .entry)) dst n (now (s .entry)) (now (s .exit)) ⌝ }
+// Joins the bytes from dst + from on with those of a row, up to dst + to. The loop has no branch and the row is a copy, so that
+// the compiler can take many bytes at a time.
+fn join_part(s: &mut [u8], row: &[u8], dst: usize, from: usize, to: usize)
+    requires { ⌜ (from ≤ to) × (dst + to ≤ length (now s)) × (to ≤ length (now row)) ⌝ }
+    ensures { λ _. ⌜ Joined (now (row .entry)) dst from to (now (s .entry)) (now (s .exit)) ⌝ }
 {
-    for j in 0..n {
+    for j in from..to {
         s[dst + j] = s[dst + j] | row[j];
     }
+}
+
+// Joins the n bytes from dst on with those of a row, in parts of at most 128 bytes: so short a loop the compiler unrolls whole.
+fn join_row(s: &mut [u8], row: &[u8], dst: usize, n: usize)
+    requires { ⌜ (dst + n ≤ length (now s)) × (n ≤ length (now row)) ⌝ }
+    ensures { λ _. ⌜ Joined (now (row .entry)) dst 0 n (now (s .entry)) (now (s .exit)) ⌝ }
+{
+    if n <= 128 {
+        join_part(s, row, dst, 0, n);
+        return;
+    }
+    join_part(s, row, dst, 0, 128);
+    join_part(s, row, dst, 128, n);
 }
 
 // Adds the ways through box k, whose bytes the row has. Boxes that do not contain k are skipped.
@@ -79,10 +82,13 @@ fn round(s: &mut [u8], row: &[u8], n: usize, k: usize)
     ensures { λ _. ⌜ ((f : ℕ → ℕ → Bool) → Cells n f (now (s .entry)) → Cells n (through f k) (now (s .exit))) ⌝ }
     ensures { λ _. ⌜ SameFrom (n * n) (now (s .entry)) (now (s .exit)) ⌝ }
 {
+    // where the bytes of box i begin
+    let mut at = 0;
     for i in 0..n {
-        if s[i * n + k] != 0 {
-            join_row(s, row, i * n, n);
+        if s[at + k] != 0 {
+            join_row(s, row, at, n);
         }
+        at += n;
     }
 }
 
@@ -98,12 +104,6 @@ fn close(s: &mut [u8], n: usize, row: &mut [u8])
     }
 }
 
-fn no_row() -> [u8; 256]
-    ensures { λ r. ⌜ r ≡ zeros 256 ⌝ }
-{
-    [0u8; 256]
-}
-
 // Fills the scratch by Warshall's rounds: n² steps, and n more for each pair of boxes of which one contains the other.
 fn fill(boxes: &[u8], rows: &[u16], scratch: &mut [u8])
     requires { ⌜ SoundRows (now boxes) (now rows) ⌝ }
@@ -111,9 +111,9 @@ fn fill(boxes: &[u8], rows: &[u16], scratch: &mut [u8])
     ensures { λ _. ⌜ now (scratch .exit) ≡ filled (length (now (boxes .entry))) (now (rows .entry)) (now (scratch .entry)) ⌝ }
 {
     let n = boxes.len();
-    clear(scratch, n * n);
+    tables::clear(scratch, n * n);
     mark(rows, scratch, n);
-    let mut row = no_row();
+    let mut row = tables::zero_bytes();
     close(scratch, n, &mut row);
 }
 

@@ -369,16 +369,6 @@ fn check_left(
     Verdict::Passed
 }
 
-// Sets the first `count` work bytes to 0.
-fn clear(work: &mut [u8], count: usize)
-    requires { ⌜ count ≤ length (now work) ⌝ }
-    ensures { λ _. ⌜ now (work .exit) ≡ written (zeros count) (now (work .entry)) ⌝ }
-{
-    for p in 0..count {
-        work[p] = 0;
-    }
-}
-
 // Sets the first `count` list places to 65,535.
 fn blank(out: &mut [u16], count: usize)
     requires { ⌜ count ≤ length (now out) ⌝ }
@@ -523,7 +513,7 @@ fn finish(
         work,
     );
     let left = check_left(boxes, rows, users, files, pairs, mode, work);
-    clear(work, pairs);
+    tables::clear(work, pairs);
     if let Verdict::Refused(r) = left {
         blank(out, own.len());
         return Listed::Refused(r);

@@ -8,7 +8,7 @@ use native.Mathlib.Omega.{arith}
 use native.Mathlib.Numerals.{add-one}
 use native.Mathlib.Nat.{eq-or-lt-of-le, le-of-suc-le-suc}
 use lib.Dec.{T}
-use Rattle.tables.specs.Search.{orElse, given, guarded, first, lowest, every}
+use Rattle.tables.specs.Search.{orElse, given, first, lowest, every}
 use Rattle.tables.proofs.Tests.{and-T, T-and}
 
 -- below n + 1: n or below n
@@ -74,7 +74,7 @@ module _ {A : Type 0} (g : ℕ → Option A) where
   pub first-here : (n k : ℕ) (x : A) → first g k ≡ none → g k ≡ some x → k < n → first g n ≡ some x
   first-here n k x e h l = first-is n x (k, l, h, first-none k e)
 
--- ---- `given`, `guarded`
+-- ---- `given`
 
 pub given-some : {A : Type 0} (b : Bool) (x y : A) → given b x ≡ some y → T b × (x ≡ y)
 unfolding given
@@ -108,16 +108,6 @@ module _ {A : Type 0} (p : ℕ → Bool) (x : ℕ → A) where
 
   pub search-here : (n k : ℕ) → Searched k → p k ≡ true → k < n → first (λ j. given (p j) (x j)) n ≡ some (x k)
   search-here n k e h l = first-here (λ j. given (p j) (x j)) n k (x k) e (given-true (p k) (x k) h) l
-
-pub guarded-some : {A : Type 0} (b : Bool) (r : Option A) (y : A) → guarded b r ≡ some y → T b × (r ≡ some y)
-unfolding guarded
-guarded-some true r y e = (tt, e)
-guarded-some false r y e = absurd (some-none (sym e))
-
-pub guarded-none : {A : Type 0} (b : Bool) (r : Option A) → guarded b r ≡ none → T b → r ≡ none
-unfolding guarded
-guarded-none true r e t = e
-guarded-none false r e t = absurd t
 
 -- ---- `lowest`, `every`
 

@@ -1,19 +1,19 @@
 -- The numbers at which a test holds: `select` has each of them once, rising; and the lowest at which a further test holds.
 -- Assumes nothing.
 use mathlib.Core.Path.{_≡_, refl, sym, ap, subst, _∙_}
-use mathlib.Core.Logic.{_⊎_, inl, inr, ⊎-elim}
+use mathlib.Core.Logic.{⊎-elim}
 use mathlib.Core.Bool.{Bool, true, false, cond}
 use mathlib.Core.List.{List, [], _∷_, _++_}
-use mathlib.Core.Option.{Option, none, some}
-use Prim.Native.Nat.{ℕ, zero, suc, _+_, _<_, _≤_}
+use mathlib.Core.Option.{none, some}
+use Prim.Native.Nat.{ℕ, zero, suc, _<_}
 use native.Mathlib.Omega.{arith}
 use native.Mathlib.Numerals.{add-one}
 use lib.Dec.{T}
 use lib.ListN.{length, getD, length-append, List·getD-append}
 use lib.Seq.{getD-append-seam}
-use Rattle.tables.specs.Search.{given, first, lowest, select}
+use Rattle.tables.specs.Search.{given, lowest, select}
 use Rattle.tables.proofs.Tests.{true-T, false-not, not-false, T-true}
-use Rattle.tables.proofs.SearchLaws.{below-suc, some-none, first-is, first-nothing, given-true, given-false, lowest-some, lowest-none}
+use Rattle.tables.proofs.SearchLaws.{below-suc, first-is, first-nothing, given-true, given-false}
 
 -- one element at the end of a list
 snoc-length : (xs : List ℕ) (y : ℕ) → length (xs ++ (y ∷ [])) ≡ suc (length xs)

@@ -32,7 +32,15 @@ at-most most n r e = nltb→le most n (not-T (ltb most n) (given-none (ltb most 
 -- where check 9 passes, the buffer has room
 pub room-passed : (buffer have need : ℕ) → roomFault buffer have need ≡ none → need ≤ have
 unfolding roomFault
-room-passed buffer have need e = nltb→le have need (not-T (ltb have need) (given-none (ltb have need) (tooShort buffer need) e))
+room-passed buffer have need e = at-most have need (tooShort buffer need) e
+
+-- where check 2 passes, the tables are short
+pub counts-passed : (boxes rows arrows : ℕ) → countFault boxes rows arrows ≡ none → (boxes ≤ 256) × (rows ≤ 1024) × (arrows ≤ 512)
+unfolding countFault
+counts-passed boxes rows arrows e =
+    let b = both-none (given (ltb 256 boxes) (tooMany 0 boxes)) _ e in
+    let r = both-none (given (ltb 1024 rows) (tooMany 1 rows)) _ (b .1) in
+    (at-most 256 boxes _ (b .0), at-most 1024 rows _ (r .0), at-most 512 arrows _ (r .1))
 
 pub mode-passed : (mode : ℕ) → modeFault mode ≡ none → mode < 8
 unfolding modeFault
@@ -75,11 +83,8 @@ module _ (boxes rows arrows : List ℕ) (e : tableFault boxes rows arrows ≡ no
       (whole-rows (length rows) 2 _ (r .0), whole-rows (length arrows) 4 _ (r .1))
 
   few : (length boxes ≤ 256) × (rowCount rows ≤ 1024) × (arrowCount arrows ≤ 512)
-  unfolding countFault Checks
-  few =
-      let b = both-none (given (ltb 256 (length boxes)) (tooMany 0 (length boxes))) _ (checks .1) in
-      let r = both-none (given (ltb 1024 (rowCount rows)) (tooMany 1 (rowCount rows))) _ (b .1) in
-      (at-most 256 (length boxes) _ (b .0), at-most 1024 (rowCount rows) _ (r .0), at-most 512 (arrowCount arrows) _ (r .1))
+  unfolding Checks
+  few = counts-passed (length boxes) (rowCount rows) (arrowCount arrows) (checks .1)
 
   bytes : (b : ℕ) → b < length boxes → getD boxes b 0 ≤ 1
   unfolding byteFault Checks

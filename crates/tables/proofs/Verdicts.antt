@@ -36,6 +36,10 @@ unfolding orElse
 orElse-assoc none b c = refl
 orElse-assoc (some x) b c = refl
 
+-- three checks one after the other
+pub either-three : (a b c : Option Refusal) → either (either (verdictOf a) (verdictOf b)) (verdictOf c) ≡ verdictOf (orElse a (orElse b c))
+either-three a b c = simp (either-verdict, orElse-assoc)
+
 -- a stage of checks that refuses, and one that passes
 pub refuses : (a b : Option Refusal) (r : Refusal) → verdictOf a ≡ Refused r → Refused r ≡ verdictOf (orElse a b)
 refuses a b r e = sym (ap verdictOf (stop a b (refused a r e)))

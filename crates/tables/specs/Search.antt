@@ -14,11 +14,6 @@ unfoldable pub given : {A : Type 0} → Bool → A → Option A
 given true x = some x
 given false x = none
 
--- o where the test holds
-unfoldable pub guarded : {A : Type 0} → Bool → Option A → Option A
-guarded true o = o
-guarded false o = none
-
 -- what g gives at the lowest number at which it gives something
 unfoldable pub first : {A : Type 0} → (ℕ → Option A) → ℕ → Option A
 first g zero = none

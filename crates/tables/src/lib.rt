@@ -300,11 +300,21 @@ pub fn is_atom(boxes: &[u8], rows: &[u16], side: u8, b: usize) -> bool
     on_side(boxes, side, b) && !is_outer(rows, b)
 }
 
-// No box is marked.
-fn no_marks() -> [u8; 256]
+// A byte for each box that a picture can have.
+pub fn zero_bytes() -> [u8; 256]
     ensures { λ r. ⌜ r ≡ zeros 256 ⌝ }
 {
     [0u8; 256]
+}
+
+// Sets the first `count` bytes to 0.
+pub fn clear(s: &mut [u8], count: usize)
+    requires { ⌜ count ≤ length (now s) ⌝ }
+    ensures { λ _. ⌜ now (s .exit) ≡ written (zeros count) (now (s .entry)) ⌝ }
+{
+    for p in 0..count {
+        s[p] = 0;
+    }
 }
 
 // Marks the outer box of each row by a 1.
@@ -351,7 +361,7 @@ pub fn atoms_of(boxes: &[u8], rows: &[u16], side: u8, out: &mut [u16]) -> usize
     requires { ⌜ SoundRows (now boxes) (now rows) × (256 ≤ length (now out)) ⌝ }
     ensures { λ r. ⌜ (r ≡ length (atoms (now (boxes .entry)) (now (rows .entry)) side)) × (now (out .exit) ≡ written (atoms (now (boxes .entry)) (now (rows .entry)) side) (now (out .entry))) ⌝ }
 {
-    let mut marks = no_marks();
+    let mut marks = zero_bytes();
     mark_outer(rows, &mut marks);
     gather(boxes, rows, side, &marks, out)
 }

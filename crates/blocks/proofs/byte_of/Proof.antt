@@ -5,17 +5,8 @@ use Rattle.blocks.proofs.Parts.{byte-at}
 use Rattle.blocks.proofs.byte_of.Statement.{statement}
 use Rattle.blocks.proofs.byte_of.Tie as tie
 
-mul-result : tie.Need-mul-result
-mul-result c = search needs
-
-add-result : tie.Need-add-result
-add-result c = search needs
-
-shared-slice-read-result : tie.Need-shared-slice-read-result
-shared-slice-read-result c = search needs
-
 returns : tie.Need-returns
 returns c = sym (byte-at (c .before .args .file .now) (c .before .args .block) (c .before .args .at) (search needs))
 
 pub byte-of-spec : {M : Type 1} → statement M
-byte-of-spec = tie.close (tie.spec mul-result add-result shared-slice-read-result returns)
+byte-of-spec = tie.close (tie.spec (search needs) (search needs) (search needs) returns)

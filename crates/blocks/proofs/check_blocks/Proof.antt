@@ -19,21 +19,12 @@ Inv-loop file counts₀ block₀ block-end counts block = (block ≤ blockCount 
 abbrev μ-loop : tie.MeasureT-loop
 μ-loop file counts₀ block₀ block-end counts block = blockCount file - block
 
-zero-requires : tie.Need-zero-requires Inv-loop μ-loop
-zero-requires c κs = search needs
-
 loop-holds : tie.Need-loop-holds Inv-loop μ-loop
 unfolding blocksFault first countsIn boxesIn containmentsIn arrowsIn joined
 loop-holds c = (search needs, refl, refl, c .zero .ensures)
 
-of-requires : tie.Need-of-requires Inv-loop μ-loop
-of-requires c κs = search needs
-
 check-block-requires : tie.Need-check-block-requires Inv-loop μ-loop
 check-block-requires c κs = (search needs, c .of .ensures)
-
-enum-known-verdict : tie.Need-enum-known-verdict Inv-loop μ-loop
-enum-known-verdict c = search needs
 
 returns : tie.Need-returns Inv-loop μ-loop
 returns c = let l = c .before .before .before .before .before .before .loop in
@@ -41,20 +32,11 @@ returns c = let l = c .before .before .before .before .before .before .loop in
     let found = refused _ _ (sym (c .before .before .before .check-block .ensures) ∙ c .before .verdict .given .1) in
     rw (blocks-found (blockAt file) (l .block) (blockCount file) (omega arith) (l .inv .2) found)
 
-enum-told : tie.Need-enum-told Inv-loop μ-loop
-enum-told c = search needs
-
 with-requires : tie.Need-with-requires Inv-loop μ-loop
 with-requires c κs = let l = c .before .before .before .before .before .loop in
     let file = c .before .before .before .before .before .before .before .before .args .file .now in
     let few = few-counts (blockAt file) (l .block) (l .inv .2) in
     rw (l .inv .3) (omega arith)
-
-add-block : tie.Need-add-block Inv-loop μ-loop
-add-block c = search needs
-
-loop-less : tie.Need-loop-less Inv-loop μ-loop
-loop-less c = search needs
 
 loop-again : tie.Need-loop-again Inv-loop μ-loop
 loop-again c = let l = c .before .before .before .before .before .before .loop in
@@ -73,19 +55,5 @@ returns-2 c = let l = c .before .loop in
 
 pub check-blocks-spec : {M : Type 1} → statement M
 check-blocks-spec =
-    tie.close
-    (tie.spec
-    Inv-loop
-    μ-loop
-    zero-requires
-    loop-holds
-    of-requires
-    check-block-requires
-    enum-known-verdict
-    returns
-    enum-told
-    with-requires
-    add-block
-    loop-less
-    loop-again
-    returns-2)
+    tie.close (tie.spec Inv-loop μ-loop (search needs) loop-holds (search needs) check-block-requires (search needs) returns (search needs)
+    with-requires (search needs) (search needs) loop-again returns-2)

@@ -4,12 +4,9 @@ use Rattle.blocks.specs.Files.{lengthFault}
 use Rattle.blocks.proofs.check_length.Statement.{statement}
 use Rattle.blocks.proofs.check_length.Tie as tie
 
-refused-if-requires : tie.Need-refused-if-requires
-refused-if-requires c κs = search needs
-
 returns : tie.Need-returns
 unfolding lengthFault
 returns c = c .refused-if .ensures
 
 pub check-length-spec : {M : Type 1} → statement M
-check-length-spec = tie.close (tie.spec refused-if-requires returns)
+check-length-spec = tie.close (tie.spec (search needs) returns)

@@ -8,27 +8,6 @@ use Rattle.blocks.proofs.Parts.{covered-from}
 use Rattle.blocks.proofs.check_of.Statement.{statement}
 use Rattle.blocks.proofs.check_of.Tie as tie
 
-mul-from : tie.Need-mul-from
-mul-from c = search needs
-
-add-to : tie.Need-add-to
-add-to c = search needs
-
-fresh-requires : tie.Need-fresh-requires
-fresh-requires c κs = search needs
-
-sub-part : tie.Need-sub-part
-sub-part c = search needs
-
-part-part-start : tie.Need-part-part-start
-part-part-start c = search needs
-
-part-part-end : tie.Need-part-part-end
-part-part-end c = search needs
-
-part-requires : tie.Need-part-requires
-part-requires c κs = search needs
-
 returns : tie.Need-returns
 unfolding fnv1a
 returns c = let a = c .before .before .before .before .args in
@@ -36,14 +15,4 @@ returns c = let a = c .before .before .before .before .args in
     (ap (fnvFold fnvStart) (covered-from (a .file .now) (a .block) 0 (512 * a .block) (512 * a .block + 508) (omega arith) (omega arith)))
 
 pub check-of-spec : {M : Type 1} → statement M
-check-of-spec =
-    tie.close
-    (tie.spec
-    mul-from
-    add-to
-    fresh-requires
-    sub-part
-    part-part-start
-    part-part-end
-    part-requires
-    returns)
+check-of-spec = tie.close (tie.spec (search needs) (search needs) (search needs) (search needs) (search needs) (search needs) (search needs) returns)

@@ -10,15 +10,9 @@ returns : tie.Need-returns
 unfolding kindBefore
 returns c = rw (c .if1 .taken)
 
-sub-byte-of : tie.Need-sub-byte-of
-sub-byte-of c = search needs
-
-byte-of-requires : tie.Need-byte-of-requires
-byte-of-requires c κs = search needs
-
 returns-2 : tie.Need-returns-2
 unfolding headOf
 returns-2 c = rw (kind-before _ _ (c .before .if1 .left), c .byte-of .ensures)
 
 pub kind-before-spec : {M : Type 1} → statement M
-kind-before-spec = tie.close (tie.spec returns sub-byte-of byte-of-requires returns-2)
+kind-before-spec = tie.close (tie.spec returns (search needs) (search needs) returns-2)

@@ -5,9 +5,6 @@ use Rattle.blocks.specs.Reader.{nextBlock}
 use Rattle.blocks.proofs.next_block.Statement.{statement}
 use Rattle.blocks.proofs.next_block.Tie as tie
 
-add-result : tie.Need-add-result
-add-result c = search needs
-
 returns : tie.Need-returns
 unfolding nextBlock
 returns c = simp (lt-ltb _ _ (c .if1 .taken))
@@ -17,4 +14,4 @@ unfolding nextBlock
 returns-2 c = simp (le-ltb _ _ (c .if1 .left))
 
 pub next-block-spec : {M : Type 1} → statement M
-next-block-spec = tie.close (tie.spec add-result returns returns-2)
+next-block-spec = tie.close (tie.spec (search needs) returns returns-2)

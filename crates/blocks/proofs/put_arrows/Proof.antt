@@ -22,59 +22,14 @@ loop-holds : tie.Need-loop-holds Inv-loop μ-loop
 unfolding joined
 loop-holds c = (search needs, refl, refl)
 
-at-requires : tie.Need-at-requires Inv-loop μ-loop
-at-requires c κs = search needs
-
-add-i : tie.Need-add-i Inv-loop μ-loop
-add-i c = search needs
-
-mul-i : tie.Need-mul-i Inv-loop μ-loop
-mul-i c = search needs
-
-mul-arrows : tie.Need-mul-arrows Inv-loop μ-loop
-mul-arrows c = search needs
-
-slice-write-arrows : tie.Need-slice-write-arrows Inv-loop μ-loop
-slice-write-arrows c = search needs
-
-add-arrows : tie.Need-add-arrows Inv-loop μ-loop
-add-arrows c = search needs
-
-mul-arrows-2 : tie.Need-mul-arrows-2 Inv-loop μ-loop
-mul-arrows-2 c = search needs
-
 slice-write-arrows-2 : tie.Need-slice-write-arrows-2 Inv-loop μ-loop
 slice-write-arrows-2 c = simp length-set (omega arith)
-
-wide8-requires : tie.Need-wide8-requires Inv-loop μ-loop
-wide8-requires c κs = search needs
-
-add-arrows-2 : tie.Need-add-arrows-2 Inv-loop μ-loop
-add-arrows-2 c = search needs
-
-mul-arrows-3 : tie.Need-mul-arrows-3 Inv-loop μ-loop
-mul-arrows-3 c = search needs
 
 slice-write-arrows-3 : tie.Need-slice-write-arrows-3 Inv-loop μ-loop
 slice-write-arrows-3 c = simp length-set (omega arith)
 
-wide8-requires-2 : tie.Need-wide8-requires-2 Inv-loop μ-loop
-wide8-requires-2 c κs = search needs
-
-add-arrows-3 : tie.Need-add-arrows-3 Inv-loop μ-loop
-add-arrows-3 c = search needs
-
-mul-arrows-4 : tie.Need-mul-arrows-4 Inv-loop μ-loop
-mul-arrows-4 c = search needs
-
 slice-write-arrows-4 : tie.Need-slice-write-arrows-4 Inv-loop μ-loop
 slice-write-arrows-4 c = simp length-set (omega arith)
-
-add-j : tie.Need-add-j Inv-loop μ-loop
-add-j c = search needs
-
-loop-less : tie.Need-loop-less Inv-loop μ-loop
-loop-less c = search needs
 
 loop-again : tie.Need-loop-again Inv-loop μ-loop
 unfolding arrowRow
@@ -96,29 +51,6 @@ returns c = let e : c .before .loop .j ≡ c .before .before .before .before .ar
 
 pub put-arrows-spec : {M : Type 1} → statement M
 put-arrows-spec =
-    tie.close
-    (tie.spec
-    Inv-loop
-    μ-loop
-    loop-holds
-    at-requires
-    add-i
-    mul-i
-    mul-arrows
-    slice-write-arrows
-    add-arrows
-    mul-arrows-2
-    slice-write-arrows-2
-    wide8-requires
-    add-arrows-2
-    mul-arrows-3
-    slice-write-arrows-3
-    wide8-requires-2
-    add-arrows-3
-    mul-arrows-4
-    slice-write-arrows-4
-    add-j
-    loop-less
-    loop-again
-    same-length
-    returns)
+    tie.close (tie.spec Inv-loop μ-loop loop-holds (search needs) (search needs) (search needs) (search needs) (search needs) (search needs)
+    (search needs) slice-write-arrows-2 (search needs) (search needs) (search needs) slice-write-arrows-3 (search needs) (search needs) (search needs)
+    slice-write-arrows-4 (search needs) (search needs) loop-again same-length returns)

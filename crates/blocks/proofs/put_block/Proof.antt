@@ -5,27 +5,15 @@ use Rattle.blocks.specs.Blocks.{boxesSaid, containmentsSaid, arrowsSaid}
 use Rattle.blocks.proofs.put_block.Statement.{statement}
 use Rattle.blocks.proofs.put_block.Tie as tie
 
-of-requires : tie.Need-of-requires
-of-requires c κs = search needs
-
-count-of-requires : tie.Need-count-of-requires
-count-of-requires c κs = search needs
-
 put-boxes-requires : tie.Need-put-boxes-requires
 put-boxes-requires c κs = let p = c .before .before .before .before .before .before .before .pre in
     let head = c .before .before .of .ensures in
     (p .0, rw (c .before .count-of .ensures, head) (p .1 .boxes-count), rw (c .before .count-of .ensures, head) (p .1 .boxes-room))
 
-count-of-requires-2 : tie.Need-count-of-requires-2
-count-of-requires-2 c κs = search needs
-
 put-containments-requires : tie.Need-put-containments-requires
 put-containments-requires c κs = let p = c .before .before .before .before .before .before .before .before .before .before .before .before .pre in
     let head = c .before .before .before .before .before .before .before .of .ensures in
     (p .0, rw (c .before .count-of2 .ensures, head) (p .1 .rows-count), rw (c .before .count-of2 .ensures, head) (p .1 .rows-room))
-
-count-of-requires-3 : tie.Need-count-of-requires-3
-count-of-requires-3 c κs = search needs
 
 put-arrows-requires : tie.Need-put-arrows-requires
 put-arrows-requires c κs = let p = c .before .before .before .before .before .before .before .before .before .before .before .before .before .before .before .before .before .pre in
@@ -34,15 +22,6 @@ put-arrows-requires c κs = let p = c .before .before .before .before .before .b
 
 with-requires : tie.Need-with-requires
 with-requires c κs = omega (arith, c .before .before .before .before .before .before .before .before .before .before .before .before .before .before .before .before .before .before .before .before .pre .1)
-
-same-length : tie.Need-same-length
-same-length c = search needs
-
-same-length-2 : tie.Need-same-length-2
-same-length-2 c = search needs
-
-same-length-3 : tie.Need-same-length-3
-same-length-3 c = search needs
 
 returns : tie.Need-returns
 unfolding boxesSaid containmentsSaid arrowsSaid
@@ -59,17 +38,5 @@ returns c = let head = c .before .before .before .before .before .before .before
 
 pub put-block-spec : {M : Type 1} → statement M
 put-block-spec =
-    tie.close
-    (tie.spec
-    of-requires
-    count-of-requires
-    put-boxes-requires
-    count-of-requires-2
-    put-containments-requires
-    count-of-requires-3
-    put-arrows-requires
-    with-requires
-    same-length
-    same-length-2
-    same-length-3
-    returns)
+    tie.close (tie.spec (search needs) (search needs) put-boxes-requires (search needs) put-containments-requires (search needs) put-arrows-requires
+    with-requires (search needs) (search needs) (search needs) returns)

@@ -21,21 +21,6 @@ loop-holds : tie.Need-loop-holds Inv-loop μ-loop
 unfolding joined
 loop-holds c = (search needs, refl, refl)
 
-at-requires : tie.Need-at-requires Inv-loop μ-loop
-at-requires c κs = search needs
-
-add-boxes : tie.Need-add-boxes Inv-loop μ-loop
-add-boxes c = search needs
-
-slice-write-boxes : tie.Need-slice-write-boxes Inv-loop μ-loop
-slice-write-boxes c = search needs
-
-add-j : tie.Need-add-j Inv-loop μ-loop
-add-j c = search needs
-
-loop-less : tie.Need-loop-less Inv-loop μ-loop
-loop-less c = search needs
-
 loop-again : tie.Need-loop-again Inv-loop μ-loop
 unfolding boxRow
 loop-again c = let l = c .before .before .loop in
@@ -54,16 +39,5 @@ returns c = let e : c .before .loop .j ≡ c .before .before .before .before .ar
 
 pub put-boxes-spec : {M : Type 1} → statement M
 put-boxes-spec =
-    tie.close
-    (tie.spec
-    Inv-loop
-    μ-loop
-    loop-holds
-    at-requires
-    add-boxes
-    slice-write-boxes
-    add-j
-    loop-less
-    loop-again
-    same-length
+    tie.close (tie.spec Inv-loop μ-loop loop-holds (search needs) (search needs) (search needs) (search needs) (search needs) loop-again same-length
     returns)

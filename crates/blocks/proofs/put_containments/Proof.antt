@@ -22,35 +22,8 @@ loop-holds : tie.Need-loop-holds Inv-loop μ-loop
 unfolding joined
 loop-holds c = (search needs, refl, refl)
 
-at-requires : tie.Need-at-requires Inv-loop μ-loop
-at-requires c κs = search needs
-
-add-i : tie.Need-add-i Inv-loop μ-loop
-add-i c = search needs
-
-mul-i : tie.Need-mul-i Inv-loop μ-loop
-mul-i c = search needs
-
-mul-rows : tie.Need-mul-rows Inv-loop μ-loop
-mul-rows c = search needs
-
-slice-write-rows : tie.Need-slice-write-rows Inv-loop μ-loop
-slice-write-rows c = search needs
-
-add-rows : tie.Need-add-rows Inv-loop μ-loop
-add-rows c = search needs
-
-mul-rows-2 : tie.Need-mul-rows-2 Inv-loop μ-loop
-mul-rows-2 c = search needs
-
 slice-write-rows-2 : tie.Need-slice-write-rows-2 Inv-loop μ-loop
 slice-write-rows-2 c = simp length-set (omega arith)
-
-add-j : tie.Need-add-j Inv-loop μ-loop
-add-j c = search needs
-
-loop-less : tie.Need-loop-less Inv-loop μ-loop
-loop-less c = search needs
 
 loop-again : tie.Need-loop-again Inv-loop μ-loop
 unfolding containmentRow
@@ -70,21 +43,5 @@ returns c = let e : c .before .loop .j ≡ c .before .before .before .before .ar
 
 pub put-containments-spec : {M : Type 1} → statement M
 put-containments-spec =
-    tie.close
-    (tie.spec
-    Inv-loop
-    μ-loop
-    loop-holds
-    at-requires
-    add-i
-    mul-i
-    mul-rows
-    slice-write-rows
-    add-rows
-    mul-rows-2
-    slice-write-rows-2
-    add-j
-    loop-less
-    loop-again
-    same-length
-    returns)
+    tie.close (tie.spec Inv-loop μ-loop loop-holds (search needs) (search needs) (search needs) (search needs) (search needs) (search needs)
+    (search needs) slice-write-rows-2 (search needs) (search needs) loop-again same-length returns)

@@ -18,28 +18,13 @@ scanned c =
     let file = c .before .before .before .before .before .before .before .before .before .before .args .file .now in
     answer-tables (blocksFault (blockAt file) (blockCount file)) (countsOf file) (c .blocks2 .given .0 .0) (sym (c .before .before .check-blocks .ensures) ∙ c .blocks2 .given .1)
 
-check-length-requires : tie.Need-check-length-requires
-check-length-requires c κs = search needs
-
-enum-known-length : tie.Need-enum-known-length
-enum-known-length c = search needs
-
 returns : tie.Need-returns
 returns c = let a = c .before .before .before .before .before .before .before .before .args in
     read-refused (a .file .now) (a .boxes .now) (a .rows .now) (a .arrows .now)
     (by-length _ _ _ _ (refused _ _ (sym (c .before .before .before .check-length .ensures) ∙ c .before .length .given .1)))
 
-enum-told : tie.Need-enum-told
-enum-told c = search needs
-
 check-blocks-requires : tie.Need-check-blocks-requires
 check-blocks-requires c κs = length-whole _ (whole c) .1
-
-enum-known-blocks : tie.Need-enum-known-blocks
-enum-known-blocks c = search needs
-
-enum-told-2 : tie.Need-enum-told-2
-enum-told-2 c = search needs
 
 returns-2 : tie.Need-returns-2
 returns-2 c = let a = c .before .before .before .before .before .before .before .before .before .before .args in
@@ -47,33 +32,15 @@ returns-2 c = let a = c .before .before .before .before .before .before .before 
     (read-refused (a .file .now) (a .boxes .now) (a .rows .now) (a .arrows .now)
     (by-blocks _ _ _ _ (whole (c .before .before .before)) (answer-refused _ _ _ (sym (c .before .before .check-blocks .ensures) ∙ c .enum-told2 .given .1))))
 
-check-tables-requires : tie.Need-check-tables-requires
-check-tables-requires c κs = search needs
-
-enum-known-room : tie.Need-enum-known-room
-enum-known-room c = search needs
-
 returns-3 : tie.Need-returns-3
 returns-3 c = let a = c .before .before .before .before .before .before .before .before .before .before .before .before .before .before .before .args in
     read-refused (a .file .now) (a .boxes .now) (a .rows .now) (a .arrows .now)
     (by-tables _ _ _ _ (whole (c .before .before .before .before .before .before .before .before)) (scanned (c .before .before .before .before .before) .0)
     ∙ rw (scanned (c .before .before .before .before .before) .1) (refused _ _ (sym (c .before .before .before .check-tables .ensures) ∙ c .before .room .given .1)))
 
-enum-told-3 : tie.Need-enum-told-3
-enum-told-3 c = search needs
-
 write-blocks-requires : tie.Need-write-blocks-requires
 write-blocks-requires c κs = fitting _ _ _ _ (whole (c .before .before .before .before .before .before .before .before .before .before)) (scanned (c .before .before .before .before .before .before .before) .0)
     (rw (scanned (c .before .before .before .before .before .before .before) .1) (passed _ (sym (c .before .before .before .before .before .check-tables .ensures) ∙ c .before .before .before .enum-told3 .given .1)))
-
-same-length : tie.Need-same-length
-same-length c = search needs
-
-same-length-2 : tie.Need-same-length-2
-same-length-2 c = search needs
-
-same-length-3 : tie.Need-same-length-3
-same-length-3 c = search needs
 
 returns-4 : tie.Need-returns-4
 returns-4 c = let a = c .before .before .before .before .before .before .before .before .before .before .before .before .before .before .before .before .before .before .before .before .before .before .before .before .args in
@@ -85,22 +52,5 @@ returns-4 c = let a = c .before .before .before .before .before .before .before 
 
 pub read-spec : {M : Type 1} → statement M
 read-spec =
-    tie.close
-    (tie.spec
-    check-length-requires
-    enum-known-length
-    returns
-    enum-told
-    check-blocks-requires
-    enum-known-blocks
-    enum-told-2
-    returns-2
-    check-tables-requires
-    enum-known-room
-    returns-3
-    enum-told-3
-    write-blocks-requires
-    same-length
-    same-length-2
-    same-length-3
-    returns-4)
+    tie.close (tie.spec (search needs) (search needs) returns (search needs) check-blocks-requires (search needs) (search needs) returns-2
+    (search needs) (search needs) returns-3 (search needs) write-blocks-requires (search needs) (search needs) (search needs) returns-4)

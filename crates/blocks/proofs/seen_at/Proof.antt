@@ -5,9 +5,6 @@ use Rattle.blocks.specs.Reader.{seenAt}
 use Rattle.blocks.proofs.seen_at.Statement.{statement}
 use Rattle.blocks.proofs.seen_at.Tie as tie
 
-from-bytes-requires : tie.Need-from-bytes-requires
-from-bytes-requires c κs = search needs
-
 returns : tie.Need-returns
 unfolding seenAt
 returns c = simp (c .from-bytes .ensures, lt-ltb _ _ (c .before .if1 .taken))
@@ -17,4 +14,4 @@ unfolding seenAt
 returns-2 c = simp (le-ltb _ _ (c .if1 .left))
 
 pub seen-at-spec : {M : Type 1} → statement M
-seen-at-spec = tie.close (tie.spec from-bytes-requires returns returns-2)
+seen-at-spec = tie.close (tie.spec (search needs) returns returns-2)

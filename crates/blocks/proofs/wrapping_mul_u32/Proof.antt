@@ -7,11 +7,5 @@ use Rattle.blocks.proofs.wrapping_mul_u32.Tie as tie
 mul-result : tie.Need-mul-result
 mul-result c = record { fits = below 32 (search needs) (search needs) }
 
-cast-result : tie.Need-cast-result
-cast-result c = search needs
-
-returns : tie.Need-returns
-returns c = search needs
-
 pub wrapping-mul-u32-spec : {M : Type 1} → statement M
-wrapping-mul-u32-spec = tie.close (tie.spec mul-result cast-result returns)
+wrapping-mul-u32-spec = tie.close (tie.spec mul-result (search needs) (search needs))

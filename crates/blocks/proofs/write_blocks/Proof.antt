@@ -26,9 +26,6 @@ Inv-loop file boxes₀ rows₀ arrows₀ at₀ block₀ block-end boxes rows arr
 abbrev μ-loop : tie.MeasureT-loop
 μ-loop file boxes₀ rows₀ arrows₀ at₀ block₀ block-end boxes rows arrows at block = blockCount file - block
 
-zero-requires : tie.Need-zero-requires Inv-loop μ-loop
-zero-requires c κs = search needs
-
 loop-holds : tie.Need-loop-holds Inv-loop μ-loop
 unfolding written countsIn boxesIn containmentsIn arrowsIn joined
 loop-holds c = (search needs, refl, c .zero .ensures, refl, refl, refl, refl, refl, refl)
@@ -37,12 +34,6 @@ put-block-requires : tie.Need-put-block-requires Inv-loop μ-loop
 put-block-requires c κs = let l = c .before .before .before .before .loop in
     let s = c .before .before .before .before .before .before .before .before .before .before in
     (search needs, rw (l .inv .2, l .inv .3, l .inv .4, l .inv .5) (block-fits (s .args .file .now) (l .block) _ _ _ (s .pre) (omega arith)))
-
-add-block : tie.Need-add-block Inv-loop μ-loop
-add-block c = search needs
-
-loop-less : tie.Need-loop-less Inv-loop μ-loop
-loop-less c = search needs
 
 loop-again : tie.Need-loop-again Inv-loop μ-loop
 unfolding countsIn boxesIn containmentsIn arrowsIn
@@ -82,17 +73,5 @@ returns c = let l = c .before .loop in
 
 pub write-blocks-spec : {M : Type 1} → statement M
 write-blocks-spec =
-    tie.close
-    (tie.spec
-    Inv-loop
-    μ-loop
-    zero-requires
-    loop-holds
-    put-block-requires
-    add-block
-    loop-less
-    loop-again
-    same-length
-    same-length-2
-    same-length-3
-    returns)
+    tie.close (tie.spec Inv-loop μ-loop (search needs) loop-holds put-block-requires (search needs) (search needs) loop-again same-length
+    same-length-2 same-length-3 returns)

@@ -10,38 +10,11 @@ use Rattle.blocks.proofs.Parts.{covered-none, covered-from}
 use Rattle.blocks.proofs.wrong_filler.Statement.{statement}
 use Rattle.blocks.proofs.wrong_filler.Tie as tie
 
-records-end-requires : tie.Need-records-end-requires
-records-end-requires c κs = search needs
-
 returns : tie.Need-returns
 unfolding wrongFiller allZero
 returns c = let a = c .before .before .before .args in
     let h : 508 < c .before .records-end .result = c .if1 .taken in
     rw (← c .before .records-end .ensures, covered-none (a .file .now) (a .block) (c .before .records-end .result) h)
-
-mul-from : tie.Need-mul-from
-mul-from c = search needs
-
-add-from : tie.Need-add-from
-add-from c = search needs
-
-mul-to : tie.Need-mul-to
-mul-to c = search needs
-
-add-to : tie.Need-add-to
-add-to c = search needs
-
-sub-all-zero : tie.Need-sub-all-zero
-sub-all-zero c = search needs
-
-part-all-zero-start : tie.Need-part-all-zero-start
-part-all-zero-start c = search needs
-
-part-all-zero-end : tie.Need-part-all-zero-end
-part-all-zero-end c = search needs
-
-all-zero-requires : tie.Need-all-zero-requires
-all-zero-requires c κs = search needs
 
 returns-2 : tie.Need-returns-2
 unfolding wrongFiller
@@ -52,16 +25,5 @@ returns-2 c = let a = c .before .before .before .before .before .args in
 
 pub wrong-filler-spec : {M : Type 1} → statement M
 wrong-filler-spec =
-    tie.close
-    (tie.spec
-    records-end-requires
-    returns
-    mul-from
-    add-from
-    mul-to
-    add-to
-    sub-all-zero
-    part-all-zero-start
-    part-all-zero-end
-    all-zero-requires
-    returns-2)
+    tie.close (tie.spec (search needs) returns (search needs) (search needs) (search needs) (search needs) (search needs) (search needs)
+    (search needs) (search needs) returns-2)

@@ -26,12 +26,6 @@ abbrev μ-loop : tie.MeasureT-loop
 loop-holds : tie.Need-loop-holds Inv-loop μ-loop
 loop-holds c = (search needs, search-none (own (c .before .before .before .args .rows .now)) inItself)
 
-does-contain-requires : tie.Need-does-contain-requires Inv-loop μ-loop
-does-contain-requires c κs = search needs
-
-refused-if-requires : tie.Need-refused-if-requires Inv-loop μ-loop
-refused-if-requires c κs = search needs
-
 returns : tie.Need-returns Inv-loop μ-loop
 unfolding loopFault given
 returns c = let at = c .before .before .before .before in
@@ -39,12 +33,6 @@ returns c = let at = c .before .before .before .before in
     c .refused-if .ensures
     ∙ sym (ap verdictOf (search-here (own (a .rows .now)) inItself (length (a .boxes .now)) (at .loop .b) (at .loop .inv .1)
     (sym (c .before .before .does-contain .ensures) ∙ c .before .if1 .taken) (omega arith)))
-
-add-b : tie.Need-add-b Inv-loop μ-loop
-add-b c = search needs
-
-loop-less : tie.Need-loop-less Inv-loop μ-loop
-loop-less c = search needs
 
 loop-again : tie.Need-loop-again Inv-loop μ-loop
 loop-again c = let at = c .before .before .before in
@@ -58,15 +46,4 @@ returns-2 c = let at = c .before in
 
 pub check-loops-spec : {M : Type 1} → statement M
 check-loops-spec =
-    tie.close
-    (tie.spec
-    Inv-loop
-    μ-loop
-    loop-holds
-    does-contain-requires
-    refused-if-requires
-    returns
-    add-b
-    loop-less
-    loop-again
-    returns-2)
+    tie.close (tie.spec Inv-loop μ-loop loop-holds (λ c κs. search needs) (search needs) returns (search needs) (search needs) loop-again returns-2)

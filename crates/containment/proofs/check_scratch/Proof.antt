@@ -9,12 +9,9 @@ use Rattle.containment.proofs.check_scratch.Tie as tie
 mul-check-room : tie.Need-mul-check-room
 mul-check-room c = omega (arith, mul-le-mul (c .before .before .pre) (c .before .before .pre))
 
-check-room-requires : tie.Need-check-room-requires
-check-room-requires c κs = search needs
-
 returns : tie.Need-returns
 unfolding scratchFault
 returns c = c .check-room .ensures
 
 pub check-scratch-spec : {M : Type 1} → statement M
-check-scratch-spec = tie.close (tie.spec mul-check-room check-room-requires returns)
+check-scratch-spec = tie.close (tie.spec mul-check-room (search needs) returns)

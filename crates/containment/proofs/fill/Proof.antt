@@ -12,32 +12,17 @@ use Rattle.containment.proofs.StepLaws.{cleared, cleared-rest, same-tra
 use Rattle.containment.proofs.fill.Statement.{statement}
 use Rattle.containment.proofs.fill.Tie as tie
 
-mul-clear : tie.Need-mul-clear
-mul-clear c = search needs
-
-clear-requires : tie.Need-clear-requires
-clear-requires c κs = search needs
-
 mark-requires : tie.Need-mark-requires
 mark-requires c κs = let cl = c .before .before .before in
     let start = c .before .before .before .before .before .before .before .before in
     let sound = start .pre .0 in
     (sound .whole, (λ k h. (sound .outer-there k h, sound .inner-there k h), (search needs, rw (cl .clear .ensures) (cleared (length (start .args .boxes .now)) (start .args .scratch .now) (start .pre .1)))))
 
-no-row-requires : tie.Need-no-row-requires
-no-row-requires c κs = search needs
-
-slice-aggregate-close : tie.Need-slice-aggregate-close
-slice-aggregate-close c = search needs
-
 close-requires : tie.Need-close-requires
 close-requires c κs = let start = c .before .before .before .before .before .before .before .before .before .before .before .before .before .before in
-    let len : length (c .before .before .no-row .result) ≡ 256 = ap length (c .before .before .no-row .ensures) ∙ zeros-length 256 in
+    let len : length (c .before .before .zero-bytes .result) ≡ 256 = ap length (c .before .before .zero-bytes .ensures) ∙ zeros-length 256 in
     let few = start .pre .0 .few-boxes in
     (search needs, omega arith)
-
-same-length : tie.Need-same-length
-same-length c = search needs
 
 returns : tie.Need-returns
 returns c = let cd = c .before .before .before in
@@ -54,14 +39,4 @@ returns c = let cd = c .before .before .before in
     (same-trans (same-trans (rw (cl .clear .ensures) (cleared-rest n s room)) (mk .mark .ensures .1)) (cd .close .ensures .1))
 
 pub fill-spec : {M : Type 1} → statement M
-fill-spec =
-    tie.close
-    (tie.spec
-    mul-clear
-    clear-requires
-    mark-requires
-    no-row-requires
-    slice-aggregate-close
-    close-requires
-    same-length
-    returns)
+fill-spec = tie.close (tie.spec (search needs) (search needs) mark-requires (search needs) (search needs) close-requires (search needs) returns)

@@ -1,70 +1,15 @@
--- `containment::join_row` meets its contract: the bytes before j are joined. Assumes nothing.
-use mathlib.Core.Path.{_≡_, refl}
-use Prim.Native.Nat.{_-_, _≤_}
+-- `containment::join_row` meets its contract: one part, or two. Assumes nothing.
 use native.Mathlib.Omega.{arith}
 use borrow.Author.Needs.{needs}
-use Rattle.containment.specs.Steps.{Joined}
-use Rattle.containment.proofs.StepLaws.{join-more}
+use Rattle.containment.proofs.StepLaws.{join-both}
 use Rattle.containment.proofs.join_row.Statement.{statement}
 use Rattle.containment.proofs.join_row.Tie as tie
 
-abbrev Inv-loop : tie.InvT-loop
-Inv-loop s₀ row dst n j₀ s j = (j ≤ n) × Joined row dst j s₀ s
-
-abbrev μ-loop : tie.MeasureT-loop
-μ-loop s₀ row dst n j₀ s j = n - j
-
-loop-holds : tie.Need-loop-holds Inv-loop μ-loop
-loop-holds c = search needs
-
-add-s : tie.Need-add-s Inv-loop μ-loop
-add-s c = search needs
-
-slice-read-s : tie.Need-slice-read-s Inv-loop μ-loop
-slice-read-s c = search needs
-
-shared-slice-read-s : tie.Need-shared-slice-read-s Inv-loop μ-loop
-shared-slice-read-s c = search needs
-
-add-s-2 : tie.Need-add-s-2 Inv-loop μ-loop
-add-s-2 c = search needs
-
-slice-write-s : tie.Need-slice-write-s Inv-loop μ-loop
-slice-write-s c = search needs
-
-add-j : tie.Need-add-j Inv-loop μ-loop
-add-j c = search needs
-
-loop-less : tie.Need-loop-less Inv-loop μ-loop
-loop-less c = search needs
-
-loop-again : tie.Need-loop-again Inv-loop μ-loop
-loop-again c = let at = c .before .before .before in
-    let a = at .before .args in
-    (search needs, join-more (a .row .now) (a .dst) (at .loop .j) (a .s .now) (at .loop .s) (at .loop .inv .1) (omega arith) _ refl)
-
-same-length : tie.Need-same-length Inv-loop μ-loop
-same-length c = search needs
-
-returns : tie.Need-returns Inv-loop μ-loop
-returns c = let at = c .before in
-    let e : at .loop .j ≡ at .before .args .n = omega arith in
-    rw e at (at .loop .inv .1)
+returns-2 : tie.Need-returns-2
+returns-2 c = let last = c .before .before in
+    let first = last .before .before .before .before in
+    let a = first .before .before .before .before .before .args in
+    join-both (a .row .now) (a .dst) 128 (a .n) (a .s .now) (first .join-part2 .last .0) (last .join-part3 .last .0) (omega arith) (first .join-part2 .ensures) (last .join-part3 .ensures)
 
 pub join-row-spec : {M : Type 1} → statement M
-join-row-spec =
-    tie.close
-    (tie.spec
-    Inv-loop
-    μ-loop
-    loop-holds
-    add-s
-    slice-read-s
-    shared-slice-read-s
-    add-s-2
-    slice-write-s
-    add-j
-    loop-less
-    loop-again
-    same-length
-    returns)
+join-row-spec = tie.close (tie.spec (search needs) (search needs) (λ c. search needs) (search needs) (search needs) (search needs) returns-2)

@@ -9,19 +9,19 @@ use Rattle.tables.specs.Rows.{rowCount, rowAt}
 use Rattle.containment.specs.Steps.{direct, Cells, SameFrom}
 use Rattle.tables.proofs.RowLaws.{rows-end}
 use Rattle.containment.proofs.Index.{in-table}
-use Rattle.containment.proofs.StepLaws.{mark-turn, mark-rest}
+use Rattle.containment.proofs.StepLaws.{mark-turn}
 use Rattle.containment.proofs.mark.Statement.{statement}
 use Rattle.containment.proofs.mark.Tie as tie
 
 abbrev Inv-loop : tie.InvT-loop
-Inv-loop rows s₀ n k₀ s k = (k ≤ rowCount rows) × Cells n (direct (drop (2 * k) rows)) s × SameFrom (n * n) s₀ s
+Inv-loop rows s₀ n k₀ s k = (k ≤ rowCount rows) × (Cells n (direct (drop (2 * k) rows)) s × SameFrom (n * n) s₀ s)
 
 abbrev μ-loop : tie.MeasureT-loop
 μ-loop rows s₀ n k₀ s k = k
 
 loop-holds : tie.Need-loop-holds Inv-loop μ-loop
 loop-holds c = let start = c .before .before in
-    (search needs, rw (rows-end (start .args .rows .now) (start .pre .0)) (start .pre .1 .1 .1), record { len = refl; rest = λ p l. refl })
+    (search needs, (rw (rows-end (start .args .rows .now) (start .pre .0)) (start .pre .1 .1 .1), record { len = refl; rest = λ p l. refl }))
 
 -- the row's boxes are below n, and so their byte is there
 module _ (c : tie.After-wide2 Inv-loop μ-loop) where
@@ -37,26 +37,11 @@ module _ (c : tie.After-wide2 Inv-loop μ-loop) where
   i-is : c .wide2 .result ≡ rowAt (start .args .rows .now) (at .loop .k - 1) .inner
   i-is = c .wide2 .ensures ∙ ap (λ (r : Containment). r .inner) (c .before .before .at .ensures)
 
-  o-below : c .before .wide .result < start .args .n
-  o-below = omega (arith, o-is, start .pre .1 .0 (at .loop .k - 1) (omega arith) .0)
-
-  i-below : c .wide2 .result < start .args .n
-  i-below = omega (arith, i-is, start .pre .1 .0 (at .loop .k - 1) (omega arith) .1)
+  below : (c .before .wide .result < start .args .n) × (c .wide2 .result < start .args .n)
+  below = let h = start .pre .1 .0 (at .loop .k - 1) (omega arith) in (omega (arith, o-is, h .0), omega (arith, i-is, h .1))
 
   byte : c .before .wide .result * start .args .n + c .wide2 .result < length (at .loop .s)
-  byte = omega (arith, in-table (start .args .n) (start .args .n) (c .before .wide .result) (c .wide2 .result) o-below i-below)
-
-sub-k : tie.Need-sub-k Inv-loop μ-loop
-sub-k c = search needs
-
-at-requires : tie.Need-at-requires Inv-loop μ-loop
-at-requires c κs = search needs
-
-wide-requires : tie.Need-wide-requires Inv-loop μ-loop
-wide-requires c κs = search needs
-
-wide-requires-2 : tie.Need-wide-requires-2 Inv-loop μ-loop
-wide-requires-2 c κs = search needs
+  byte = omega (arith, in-table (start .args .n) (start .args .n) (c .before .wide .result) (c .wide2 .result) (below .0) (below .1))
 
 mul-s : tie.Need-mul-s Inv-loop μ-loop
 mul-s c = omega (arith, byte c)
@@ -67,41 +52,20 @@ add-s c = omega (arith, byte c)
 slice-write-s : tie.Need-slice-write-s Inv-loop μ-loop
 slice-write-s c = omega (arith, byte c)
 
-loop-less : tie.Need-loop-less Inv-loop μ-loop
-loop-less c = search needs
-
 loop-again : tie.Need-loop-again Inv-loop μ-loop
 loop-again c = let at = c .before .before .before .before in
     let start = at .before .before .before in (
       search needs,
-      mark-turn (start .args .n) (at .loop .k) (start .args .rows .now) (at .loop .s) (omega arith) (omega arith) (omega arith)
-          (c .before .wide .result) (c .wide2 .result) (o-is c) (i-is c) (o-below c) (i-below c) (at .loop .inv .1),
-      mark-rest (start .args .n) (c .before .wide .result) (c .wide2 .result) (at .loop .s) (o-below c) (i-below c) (omega arith) (start .args .s .now) (at .loop .inv .2),
+      mark-turn (start .args .n) (at .loop .k) (start .args .rows .now) (start .args .s .now) (at .loop .s) (omega arith) (omega arith) (omega arith)
+          (c .before .wide .result) (c .wide2 .result) (o-is c) (i-is c) (below c .0) (below c .1) (at .loop .inv .1),
     )
-
-same-length : tie.Need-same-length Inv-loop μ-loop
-same-length c = search needs
 
 returns : tie.Need-returns Inv-loop μ-loop
 returns c = let at = c .before in
     let e : at .loop .k ≡ 0 = omega arith in
-    (rw e at (at .loop .inv .1), at .loop .inv .2)
+    rw e at (at .loop .inv .1)
 
 pub mark-spec : {M : Type 1} → statement M
 mark-spec =
-    tie.close
-    (tie.spec
-    Inv-loop
-    μ-loop
-    loop-holds
-    sub-k
-    at-requires
-    wide-requires
-    wide-requires-2
-    mul-s
-    add-s
-    slice-write-s
-    loop-less
-    loop-again
-    same-length
-    returns)
+    tie.close (tie.spec Inv-loop μ-loop loop-holds (search needs) (search needs) (search needs) (search needs) mul-s add-s slice-write-s
+    (search needs) loop-again (search needs) returns)

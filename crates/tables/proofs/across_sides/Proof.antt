@@ -4,22 +4,9 @@ use Rattle.tables.specs.Faults.{acrossSides}
 use Rattle.tables.proofs.across_sides.Statement.{statement}
 use Rattle.tables.proofs.across_sides.Tie as tie
 
-wide-requires : tie.Need-wide-requires
-wide-requires c κs = search needs
-
-side-of-requires : tie.Need-side-of-requires
-side-of-requires c κs = search needs
-
-wide-requires-2 : tie.Need-wide-requires-2
-wide-requires-2 c κs = search needs
-
-side-of-requires-2 : tie.Need-side-of-requires-2
-side-of-requires-2 c κs = search needs
-
 returns : tie.Need-returns
 unfolding acrossSides
 returns c = rw (c .side-of2 .ensures, c .before .wide2 .ensures, c .before .before .side-of .ensures, c .before .before .before .wide .ensures)
 
 pub across-sides-spec : {M : Type 1} → statement M
-across-sides-spec =
-    tie.close (tie.spec wide-requires side-of-requires wide-requires-2 side-of-requires-2 returns)
+across-sides-spec = tie.close (tie.spec (search needs) (search needs) (search needs) (search needs) returns)

@@ -9,42 +9,21 @@ use Rattle.tables.proofs.BufferLaws.{zeros-length, zeros-at}
 use Rattle.tables.proofs.atoms_of.Statement.{statement}
 use Rattle.tables.proofs.atoms_of.Tie as tie
 
-no-marks-requires : tie.Need-no-marks-requires
-no-marks-requires c κs = search needs
-
-slice-aggregate-mark-outer : tie.Need-slice-aggregate-mark-outer
-slice-aggregate-mark-outer c = search needs
-
 mark-outer-requires : tie.Need-mark-outer-requires
 unfolding outer bit
 mark-outer-requires c κs = let start = c .before .before .before .before .before in
-    let made = c .before .no-marks .ensures in
-    let len : length (c .before .no-marks .result) ≡ 256 = ap length made ∙ zeros-length 256 in
+    let made = c .before .zero-bytes .ensures in
+    let len : length (c .before .zero-bytes .result) ≡ 256 = ap length made ∙ zeros-length 256 in
     let few = start .pre .0 .few-boxes in
     (start .pre .0 .whole, (λ k h. omega (arith, start .pre .0 .outer-there k h), λ b h. rw made (zeros-at 256 b (omega arith))))
 
-slice-aggregate-gather : tie.Need-slice-aggregate-gather
-slice-aggregate-gather c = search needs
-
 gather-requires : tie.Need-gather-requires
 gather-requires c κs = let marks = c .before .before .before in
-    let len : length (marks .mark-outer .last .1 .0) ≡ 256 = marks .mark-outer .kept .1 .0 ∙ ap length (marks .before .before .no-marks .ensures) ∙ zeros-length 256 in
+    let len : length (marks .mark-outer .last .1 .0) ≡ 256 = marks .mark-outer .kept .1 .0 ∙ ap length (marks .before .before .zero-bytes .ensures) ∙ zeros-length 256 in
     (marks .mark-outer .ensures, omega arith, omega arith, omega arith)
-
-same-length : tie.Need-same-length
-same-length c = search needs
 
 returns : tie.Need-returns
 returns c = c .before .before .gather .ensures
 
 pub atoms-of-spec : {M : Type 1} → statement M
-atoms-of-spec =
-    tie.close
-    (tie.spec
-    no-marks-requires
-    slice-aggregate-mark-outer
-    mark-outer-requires
-    slice-aggregate-gather
-    gather-requires
-    same-length
-    returns)
+atoms-of-spec = tie.close (tie.spec (search needs) (search needs) mark-outer-requires (search needs) gather-requires (search needs) returns)

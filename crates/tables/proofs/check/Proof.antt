@@ -34,53 +34,11 @@ shape-is : (c : tie.After-or-else) → let a = c .before .before .before .before
 unfolding shapeFault
 shape-is c = rw (c .or-else .ensures, c .before .check-counts .ensures, c .before .before .check-ragged .ensures) (simp either-verdict)
 
-check-ragged-requires : tie.Need-check-ragged-requires
-check-ragged-requires c κs = search needs
-
-check-counts-requires : tie.Need-check-counts-requires
-check-counts-requires c κs = search needs
-
-or-else-requires : tie.Need-or-else-requires
-or-else-requires c κs = search needs
-
-enum-known-shape : tie.Need-enum-known-shape
-enum-known-shape c = search needs
-
 returns : tie.Need-returns
 returns c = let a = c .before .before .before .before .before .before .before .before .before .args in
     refuses (shapeFault (a .boxes .now) (a .rows .now) (a .arrows .now)) (rowsFault (a .boxes .now) (a .rows .now) (a .arrows .now)) _
     (sym (shape-is (c .before .before .before)) ∙ c .before .shape .given .1)
     ∙ ap verdictOf (stages (a .boxes .now) (a .rows .now) (a .arrows .now))
-
-enum-told : tie.Need-enum-told
-enum-told c = search needs
-
-check-bytes-requires : tie.Need-check-bytes-requires
-check-bytes-requires c κs = search needs
-
-check-rows-requires : tie.Need-check-rows-requires
-check-rows-requires c κs = search needs
-
-or-else-requires-2 : tie.Need-or-else-requires-2
-or-else-requires-2 c κs = search needs
-
-check-rows-requires-2 : tie.Need-check-rows-requires-2
-check-rows-requires-2 c κs = search needs
-
-or-else-requires-3 : tie.Need-or-else-requires-3
-or-else-requires-3 c κs = search needs
-
-check-rows-requires-3 : tie.Need-check-rows-requires-3
-check-rows-requires-3 c κs = search needs
-
-or-else-requires-4 : tie.Need-or-else-requires-4
-or-else-requires-4 c κs = search needs
-
-check-rows-requires-4 : tie.Need-check-rows-requires-4
-check-rows-requires-4 c κs = search needs
-
-or-else-requires-5 : tie.Need-or-else-requires-5
-or-else-requires-5 c κs = search needs
 
 returns-2 : tie.Need-returns-2
 unfolding rowsFault
@@ -97,21 +55,5 @@ returns-2 c = let r4 = c .before in
 
 pub check-spec : {M : Type 1} → statement M
 check-spec =
-    tie.close
-    (tie.spec
-    check-ragged-requires
-    check-counts-requires
-    or-else-requires
-    enum-known-shape
-    returns
-    enum-told
-    check-bytes-requires
-    check-rows-requires
-    or-else-requires-2
-    check-rows-requires-2
-    or-else-requires-3
-    check-rows-requires-3
-    or-else-requires-4
-    check-rows-requires-4
-    or-else-requires-5
-    returns-2)
+    tie.close (tie.spec (search needs) (search needs) (search needs) (search needs) returns (search needs) (search needs) (search needs)
+    (search needs) (search needs) (search needs) (search needs) (search needs) (search needs) (search needs) returns-2)

@@ -27,24 +27,12 @@ abbrev μ-loop : tie.MeasureT-loop
 loop-holds : tie.Need-loop-holds Inv-loop μ-loop
 loop-holds c = (search needs, search-none (bad (c .before .args .boxes .now)) badByte)
 
-shared-slice-read-if1 : tie.Need-shared-slice-read-if1 Inv-loop μ-loop
-shared-slice-read-if1 c = search needs
-
-refused-if-requires : tie.Need-refused-if-requires Inv-loop μ-loop
-refused-if-requires c κs = search needs
-
 returns : tie.Need-returns Inv-loop μ-loop
 unfolding byteFault given
 returns c = let at = c .before .before .before .before in
     let boxes = at .before .before .args .boxes .now in
     c .refused-if .ensures
     ∙ sym (ap verdictOf (search-here (bad boxes) badByte (length boxes) (at .loop .b) (at .loop .inv .1) (lt-ltb 1 _ (c .before .if1 .taken)) (omega arith)))
-
-add-b : tie.Need-add-b Inv-loop μ-loop
-add-b c = search needs
-
-loop-less : tie.Need-loop-less Inv-loop μ-loop
-loop-less c = search needs
 
 loop-again : tie.Need-loop-again Inv-loop μ-loop
 loop-again c = let at = c .before .before .before in
@@ -58,15 +46,4 @@ returns-2 c = let at = c .before in
 
 pub check-bytes-spec : {M : Type 1} → statement M
 check-bytes-spec =
-    tie.close
-    (tie.spec
-    Inv-loop
-    μ-loop
-    loop-holds
-    shared-slice-read-if1
-    refused-if-requires
-    returns
-    add-b
-    loop-less
-    loop-again
-    returns-2)
+    tie.close (tie.spec Inv-loop μ-loop loop-holds (search needs) (search needs) returns (search needs) (search needs) loop-again returns-2)

@@ -5,20 +5,10 @@ use Rattle.tables.proofs.Verdicts.{either-verdict}
 use Rattle.tables.proofs.check_ragged.Statement.{statement}
 use Rattle.tables.proofs.check_ragged.Tie as tie
 
-refused-if-requires : tie.Need-refused-if-requires
-refused-if-requires c κs = search needs
-
-refused-if-requires-2 : tie.Need-refused-if-requires-2
-refused-if-requires-2 c κs = search needs
-
-or-else-requires : tie.Need-or-else-requires
-or-else-requires c κs = search needs
-
 returns : tie.Need-returns
 unfolding raggedFault
 returns c = rw (c .or-else .ensures, c .before .refused-if2 .ensures, c .before .before .refused-if .ensures)
     (simp either-verdict)
 
 pub check-ragged-spec : {M : Type 1} → statement M
-check-ragged-spec =
-    tie.close (tie.spec refused-if-requires refused-if-requires-2 or-else-requires returns)
+check-ragged-spec = tie.close (tie.spec (search needs) (search needs) (search needs) returns)

@@ -4,12 +4,9 @@ use Rattle.tables.specs.Faults.{roomFault}
 use Rattle.tables.proofs.check_room.Statement.{statement}
 use Rattle.tables.proofs.check_room.Tie as tie
 
-refused-if-requires : tie.Need-refused-if-requires
-refused-if-requires c κs = search needs
-
 returns : tie.Need-returns
 unfolding roomFault
 returns c = c .refused-if .ensures
 
 pub check-room-spec : {M : Type 1} → statement M
-check-room-spec = tie.close (tie.spec refused-if-requires returns)
+check-room-spec = tie.close (tie.spec (search needs) returns)

@@ -25,9 +25,6 @@ loop-holds c =
 row-fails-requires : tie.Need-row-fails-requires Inv-loop μ-loop
 row-fails-requires c κs = (search needs, lt-of-lt-of-le (c .loop-test .taken) (c .before .before .before .before .pre .1))
 
-refused-if-requires : tie.Need-refused-if-requires Inv-loop μ-loop
-refused-if-requires c κs = search needs
-
 returns : tie.Need-returns Inv-loop μ-loop
 unfolding rowFault given
 returns c =
@@ -36,12 +33,6 @@ returns c =
     c .refused-if .ensures
     ∙ sym (ap verdictOf (search-here (fails (a .check) (a .boxes .now) (a .table .now)) (badRow (a .check)) (a .count) (at .loop .k) (at .loop .inv .1)
     (sym (c .before .before .row-fails .ensures) ∙ c .before .if1 .taken) (omega arith)))
-
-add-k : tie.Need-add-k Inv-loop μ-loop
-add-k c = search needs
-
-loop-less : tie.Need-loop-less Inv-loop μ-loop
-loop-less c = search needs
 
 loop-again : tie.Need-loop-again Inv-loop μ-loop
 loop-again c =
@@ -61,15 +52,4 @@ returns-2 c =
 
 pub check-rows-spec : {M : Type 1} → statement M
 check-rows-spec =
-    tie.close
-    (tie.spec
-    Inv-loop
-    μ-loop
-    loop-holds
-    row-fails-requires
-    refused-if-requires
-    returns
-    add-k
-    loop-less
-    loop-again
-    returns-2)
+    tie.close (tie.spec Inv-loop μ-loop loop-holds row-fails-requires (search needs) returns (search needs) (search needs) loop-again returns-2)

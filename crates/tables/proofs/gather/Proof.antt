@@ -30,9 +30,6 @@ room c =
     let len = selected-length p (a .out .now) (at .loop .b) (at .loop .count) (at .loop .out) (omega arith) (at .loop .inv .1) in
     (omega arith, omega arith)
 
-is-unmarked-requires : tie.Need-is-unmarked-requires Inv-loop μ-loop
-is-unmarked-requires c κs = search needs
-
 narrow-requires : tie.Need-narrow-requires Inv-loop μ-loop
 narrow-requires c κs = omega arith
 
@@ -44,12 +41,6 @@ slice-write-out c = room c .0
 
 add-count : tie.Need-add-count Inv-loop μ-loop
 add-count c = omega (arith, room c)
-
-add-b : tie.Need-add-b Inv-loop μ-loop
-add-b c = search needs
-
-loop-less : tie.Need-loop-less Inv-loop μ-loop
-loop-less c = search needs
 
 loop-again : tie.Need-loop-again Inv-loop μ-loop
 loop-again c = let at = c .before .before .before in
@@ -76,18 +67,5 @@ returns c = let at = c .before in
 
 pub gather-spec : {M : Type 1} → statement M
 gather-spec =
-    tie.close
-    (tie.spec
-    Inv-loop
-    μ-loop
-    loop-holds
-    is-unmarked-requires
-    narrow-requires
-    mul-out
-    slice-write-out
-    add-count
-    add-b
-    loop-less
-    loop-again
-    same-length
-    returns)
+    tie.close (tie.spec Inv-loop μ-loop loop-holds (λ c κs. search needs) narrow-requires mul-out slice-write-out add-count (search needs) (search needs)
+    loop-again same-length returns)

@@ -4,12 +4,6 @@ use Rattle.tables.specs.Atoms.{atom}
 use Rattle.tables.proofs.is_atom.Statement.{statement}
 use Rattle.tables.proofs.is_atom.Tie as tie
 
-on-side-requires : tie.Need-on-side-requires
-on-side-requires c κs = search needs
-
-is-outer-requires : tie.Need-is-outer-requires
-is-outer-requires c κs = search needs
-
 returns : tie.Need-returns
 unfolding atom
 returns c = rw (c .is-outer .ensures, ← c .before .before .on-side .ensures, c .before .if1 .taken)
@@ -19,4 +13,4 @@ unfolding atom
 returns-2 c = rw (← c .before .on-side .ensures, c .if1 .left)
 
 pub is-atom-spec : {M : Type 1} → statement M
-is-atom-spec = tie.close (tie.spec on-side-requires is-outer-requires returns returns-2)
+is-atom-spec = tie.close (tie.spec (search needs) (search needs) returns returns-2)

@@ -22,26 +22,11 @@ unfolding outer
 loop-holds c = let a = c .before .args in
     (search needs, rw (rows-end (a .rows .now) (c .before .pre)))
 
-sub-k : tie.Need-sub-k Inv-loop μ-loop
-sub-k c = search needs
-
-at-requires : tie.Need-at-requires Inv-loop μ-loop
-at-requires c κs = search needs
-
-wide-requires : tie.Need-wide-requires Inv-loop μ-loop
-wide-requires c κs = search needs
-
-loop-less : tie.Need-loop-less Inv-loop μ-loop
-loop-less c = search needs
-
 loop-again : tie.Need-loop-again Inv-loop μ-loop
 loop-again c = let at = c .before .before .before .before in
     let a = at .before .before .args in
     let o : c .before .wide .result ≡ rowAt (a .rows .now) (at .loop .k - 1) .outer = rw (c .before .wide .ensures, c .before .before .at .ensures) in
     (search needs, rw (outer-from (a .rows .now) (at .loop .k) (omega arith) (omega arith) (a .b), ← o, eq-eqb _ _ (c .if1 .taken)))
-
-loop-less-2 : tie.Need-loop-less-2 Inv-loop μ-loop
-loop-less-2 c = search needs
 
 loop-again-2 : tie.Need-loop-again-2 Inv-loop μ-loop
 loop-again-2 c = let at = c .before .before .before .before in
@@ -56,16 +41,5 @@ returns c = let at = c .before in
 
 pub is-outer-spec : {M : Type 1} → statement M
 is-outer-spec =
-    tie.close
-    (tie.spec
-    Inv-loop
-    μ-loop
-    loop-holds
-    sub-k
-    at-requires
-    wide-requires
-    loop-less
-    loop-again
-    loop-less-2
-    loop-again-2
+    tie.close (tie.spec Inv-loop μ-loop loop-holds (search needs) (search needs) (search needs) (search needs) loop-again (search needs) loop-again-2
     returns)

@@ -5,12 +5,6 @@ use Rattle.tables.proofs.Bits.{bit-none}
 use Rattle.tables.proofs.is_unmarked.Statement.{statement}
 use Rattle.tables.proofs.is_unmarked.Tie as tie
 
-on-side-requires : tie.Need-on-side-requires
-on-side-requires c κs = search needs
-
-shared-slice-read-result : tie.Need-shared-slice-read-result
-shared-slice-read-result c = search needs
-
 returns : tie.Need-returns
 unfolding atom
 returns c = let start = c .before .before .before .before .before .before in
@@ -22,4 +16,4 @@ unfolding atom
 returns-2 c = rw (← c .before .on-side .ensures, c .if1 .left)
 
 pub is-unmarked-spec : {M : Type 1} → statement M
-is-unmarked-spec = tie.close (tie.spec on-side-requires shared-slice-read-result returns returns-2)
+is-unmarked-spec = tie.close (tie.spec (search needs) (search needs) returns returns-2)

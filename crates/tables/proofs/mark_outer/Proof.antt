@@ -28,20 +28,8 @@ there c =
     let below : rowAt (start .args .rows .now) (at .loop .k - 1) .outer < length (start .args .marks .now) = start .pre .1 .0 (at .loop .k - 1) (omega arith) in
     rw (c .wide .ensures, c .before .at .ensures) (omega arith)
 
-sub-k : tie.Need-sub-k Inv-loop μ-loop
-sub-k c = search needs
-
-at-requires : tie.Need-at-requires Inv-loop μ-loop
-at-requires c κs = search needs
-
-wide-requires : tie.Need-wide-requires Inv-loop μ-loop
-wide-requires c κs = search needs
-
 slice-write-marks : tie.Need-slice-write-marks Inv-loop μ-loop
 slice-write-marks c = there c
-
-loop-less : tie.Need-loop-less Inv-loop μ-loop
-loop-less c = search needs
 
 loop-again : tie.Need-loop-again Inv-loop μ-loop
 loop-again c = let at = c .before .before .before in
@@ -52,9 +40,6 @@ loop-again c = let at = c .before .before .before in
           (rw (c .wide .ensures, c .before .at .ensures)) (there c) (at .loop .inv .2),
     )
 
-same-length : tie.Need-same-length Inv-loop μ-loop
-same-length c = search needs
-
 returns : tie.Need-returns Inv-loop μ-loop
 returns c = let at = c .before in
     let e : at .loop .k ≡ 0 = omega arith in
@@ -62,16 +47,5 @@ returns c = let at = c .before in
 
 pub mark-outer-spec : {M : Type 1} → statement M
 mark-outer-spec =
-    tie.close
-    (tie.spec
-    Inv-loop
-    μ-loop
-    loop-holds
-    sub-k
-    at-requires
-    wide-requires
-    slice-write-marks
-    loop-less
-    loop-again
-    same-length
-    returns)
+    tie.close (tie.spec Inv-loop μ-loop loop-holds (search needs) (search needs) (search needs) slice-write-marks (search needs) loop-again
+    (search needs) returns)

@@ -5,12 +5,6 @@ use Rattle.tables.specs.Faults.{namesNoBox}
 use Rattle.tables.proofs.names_no_box.Statement.{statement}
 use Rattle.tables.proofs.names_no_box.Tie as tie
 
-wide-requires : tie.Need-wide-requires
-wide-requires c κs = search needs
-
-wide-requires-2 : tie.Need-wide-requires-2
-wide-requires-2 c κs = search needs
-
 returns : tie.Need-returns
 unfolding namesNoBox
 returns c = rw (← c .before .wide .ensures, le-leb _ _ (c .if1 .taken))
@@ -20,4 +14,4 @@ unfolding namesNoBox
 returns-2 c = rw (c .wide2 .ensures, ← c .before .before .wide .ensures, lt-leb _ _ (c .before .if1 .left))
 
 pub names-no-box-spec : {M : Type 1} → statement M
-names-no-box-spec = tie.close (tie.spec wide-requires wide-requires-2 returns returns-2)
+names-no-box-spec = tie.close (tie.spec (search needs) (search needs) returns returns-2)

@@ -5,9 +5,6 @@ use Rattle.tables.specs.Rows.{onSide}
 use Rattle.tables.proofs.on_side.Statement.{statement}
 use Rattle.tables.proofs.on_side.Tie as tie
 
-side-of-requires : tie.Need-side-of-requires
-side-of-requires c κs = search needs
-
 returns : tie.Need-returns
 unfolding onSide
 returns c = rw (c .side-of .ensures, lt-ltb _ _ (c .before .if1 .taken))
@@ -17,4 +14,4 @@ unfolding onSide
 returns-2 c = rw (le-ltb _ _ (c .if1 .left))
 
 pub on-side-spec : {M : Type 1} → statement M
-on-side-spec = tie.close (tie.spec side-of-requires returns returns-2)
+on-side-spec = tie.close (tie.spec (search needs) returns returns-2)

@@ -9,14 +9,8 @@ use Rattle.tables.proofs.row_fails.Tie as tie
 at-requires : tie.Need-at-requires
 at-requires c κs = rw (lt-ltb _ 6 (c .if1 .taken)) at (c .before .before .before .pre .1)
 
-names-no-box-requires : tie.Need-names-no-box-requires
-names-no-box-requires c κs = search needs
-
 returns : tie.Need-returns
 returns c = c .names-no-box .ensures ∙ rw (c .before .before .at .ensures, eq-eqb _ 4 (c .before .if2 .taken))
-
-across-sides-requires : tie.Need-across-sides-requires
-across-sides-requires c κs = search needs
 
 returns-2 : tie.Need-returns-2
 returns-2 c = let five : c .before .before .before .before .before .before .args .check ≡ 5 = omega arith in
@@ -25,14 +19,8 @@ returns-2 c = let five : c .before .before .before .before .before .before .args
 at-requires-2 : tie.Need-at-requires-2
 at-requires-2 c κs = rw (le-ltb _ 6 (c .if1 .left)) at (c .before .before .before .pre .1)
 
-wrong-ends-requires : tie.Need-wrong-ends-requires
-wrong-ends-requires c κs = search needs
-
 returns-3 : tie.Need-returns-3
 returns-3 c = c .wrong-ends .ensures ∙ rw (c .before .before .at2 .ensures, c .before .if3 .taken)
-
-wrong-mode-requires : tie.Need-wrong-mode-requires
-wrong-mode-requires c κs = search needs
 
 returns-4 : tie.Need-returns-4
 returns-4 c = let check = c .before .before .before .before .before .before .args .check in
@@ -42,15 +30,4 @@ returns-4 c = let check = c .before .before .before .before .before .before .arg
 
 pub row-fails-spec : {M : Type 1} → statement M
 row-fails-spec =
-    tie.close
-    (tie.spec
-    at-requires
-    names-no-box-requires
-    returns
-    across-sides-requires
-    returns-2
-    at-requires-2
-    wrong-ends-requires
-    returns-3
-    wrong-mode-requires
-    returns-4)
+    tie.close (tie.spec at-requires (search needs) returns (search needs) returns-2 at-requires-2 (search needs) returns-3 (search needs) returns-4)

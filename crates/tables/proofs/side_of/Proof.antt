@@ -6,9 +6,6 @@ use Rattle.tables.specs.Rows.{sideOf}
 use Rattle.tables.proofs.side_of.Statement.{statement}
 use Rattle.tables.proofs.side_of.Tie as tie
 
-shared-slice-read-result : tie.Need-shared-slice-read-result
-shared-slice-read-result c = search needs
-
 returns : tie.Need-returns
 unfolding sideOf
 returns c = refl
@@ -18,4 +15,4 @@ unfolding sideOf
 returns-2 c = sym (List·getD-eq-default (c .before .args .boxes .now) 0 (c .if1 .left))
 
 pub side-of-spec : {M : Type 1} → statement M
-side-of-spec = tie.close (tie.spec shared-slice-read-result returns returns-2)
+side-of-spec = tie.close (tie.spec (search needs) returns returns-2)

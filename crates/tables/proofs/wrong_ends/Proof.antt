@@ -4,18 +4,6 @@ use Rattle.tables.specs.Faults.{wrongEnds}
 use Rattle.tables.proofs.wrong_ends.Statement.{statement}
 use Rattle.tables.proofs.wrong_ends.Tie as tie
 
-wide-requires : tie.Need-wide-requires
-wide-requires c κs = search needs
-
-on-side-requires : tie.Need-on-side-requires
-on-side-requires c κs = search needs
-
-wide-requires-2 : tie.Need-wide-requires-2
-wide-requires-2 c κs = search needs
-
-on-side-requires-2 : tie.Need-on-side-requires-2
-on-side-requires-2 c κs = search needs
-
 returns : tie.Need-returns
 unfolding wrongEnds
 returns c = rw (c .on-side2 .ensures, c .before .wide2 .ensures, ← c .before .before .before .before .wide .ensures, ← c .before .before .before .on-side .ensures, c .before .before .if1 .taken)
@@ -25,6 +13,4 @@ unfolding wrongEnds
 returns-2 c = rw (← c .before .before .wide .ensures, ← c .before .on-side .ensures, c .if1 .left)
 
 pub wrong-ends-spec : {M : Type 1} → statement M
-wrong-ends-spec =
-    tie.close
-    (tie.spec wide-requires on-side-requires wide-requires-2 on-side-requires-2 returns returns-2)
+wrong-ends-spec = tie.close (tie.spec (search needs) (search needs) (search needs) (search needs) returns returns-2)

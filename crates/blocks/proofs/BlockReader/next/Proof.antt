@@ -58,14 +58,11 @@ module _ {M : Type 1} (𝓤 : URA M) (H : Heap 𝓤) (A : Atoms 𝓤) (mem : Mem
   Core = tripleOf 𝓤 H A core.signature (core.spec 𝓤 H A mem run)
 
 module _ {M : Type 1} (𝓤 : URA M) (H : Heap 𝓤) (A : Atoms 𝓤) (W : Given 𝓤 H A) (mem : Memory → SProp 𝓤) (run : Routine → Fun 𝓤) (κ : Lft) (q : Share) (d : BlockReader) where
-  abbrev mach : Val
-  mach = T′.lowered d
-
   abbrev found : ℕ
   found = nextBlock (now (d .file)) (d .block)
 
   abbrev Post : Val → SProp 𝓤
-  Post = walkOf 𝓤 H A next.ended stayed (next.clauses 𝓤 H A mem run) .post (((κ, tt), (q, tt), tt, (d, tt), (mach ∷ [], tt)), tt)
+  Post = walkOf 𝓤 H A next.ended stayed (next.clauses 𝓤 H A mem run) .post (((κ, tt), (q, tt), tt, (d, tt), (T′.lowered d ∷ [], tt)), tt)
 
   abbrev to : Core 𝓤 H A mem run .Ghost
   to = (((κ, tt), (q, tt), tt, (d .file, (d .block, tt)), passed d), tt)
@@ -80,13 +77,13 @@ module _ {M : Type 1} (𝓤 : URA M) (H : Heap 𝓤) (A : Atoms 𝓤) (W : Given
   exits : (n : ℕ) → n ≡ found → n < 2 ^ 64 → ent 𝓤 (⋆ 𝓤 H A ((‵ (flft κ q) ⊛ ‵ ftrue) ∷ ‵ (Own κ d) ∷ [])) (Post (T′.lowered (at-number d n)))
   exits n e ok =
       qed W ((‵ (flft κ q) ⊛ ‵ ftrue) ∷ ‵ (Own κ d) ∷ []) ∵
-      suffices ! _ (ends-at 𝓤 H A next.ended stayed (next.clauses 𝓤 H A mem run) W (((κ, tt), (q, tt), tt, (d, tt), (mach ∷ [], tt)), tt) (T′.lowered (at-number d n)) (at-number d n) (tt, tt) (tt, tt)) $ says ! (refl, e) $
+      suffices ! _ (ends-at 𝓤 H A next.ended stayed (next.clauses 𝓤 H A mem run) W (((κ, tt), (q, tt), tt, (d, tt), (T′.lowered d ∷ [], tt)), tt) (T′.lowered (at-number d n)) (at-number d n) (tt, tt) (tt, tt)) $ says ! (refl, e) $
       frame ! $ use1 W (‵ (Own κ d) ⊛ ‵ (Own κ d)) (twice 𝓤 H A W κ d) $ split ! $ nothing ! $ move ! (1 ∷ 0 ∷ []) $ fjoin ! $ frame ! $ by ! (moved 𝓤 H A W κ d n ok)
 
   module _ (C : Calls 𝓤 H) (Λ : Loops 𝓤 H) (fm : FmC 𝓤 H (W .laws) C) (known : Triple 𝓤 (C #next-block) (Core 𝓤 H A mem run)) where
-    walk : Holds (hasTy (T′.mir (named 0)) mach) × WT mach → ent 𝓤 (onEntry 𝓤 H A next.signature (κ, tt) (q, tt) (d, tt) (mach ∷ [], tt)) (WpFn 𝓤 H C Λ code.function (mach ∷ []) Post)
+    walk : Holds (hasTy (T′.mir (named 0)) (T′.lowered d)) × WT (T′.lowered d) → ent 𝓤 (onEntry 𝓤 H A next.signature (κ, tt) (q, tt) (d, tt) (T′.lowered d ∷ [], tt)) (WpFn 𝓤 H C Λ code.function (T′.lowered d ∷ []) Post)
     walk wt =
-        qed W (raw (onEntry 𝓤 H A next.signature (κ, tt) (q, tt) (d, tt) (mach ∷ [], tt)) ∷ []) ∵ enter ! C Λ code.function (mach ∷ []) _ $
+        qed W (raw (onEntry 𝓤 H A next.signature (κ, tt) (q, tt) (d, tt) (T′.lowered d ∷ [], tt)) ∷ []) ∵ enter ! C Λ code.function (T′.lowered d ∷ []) _ $
         alloc1 ! (λ l₀. alloc1 ! (λ l₁. alloc1 ! (λ l₂. alloc1 ! (λ l₃. alloc1 ! (λ l₄. alloc1 ! (λ l₅. alloc0 ! $ params1 ! $ pass1 ! (init ! 8 refl wt) $ pass0 ! $
         assigns ! (of-opd ! (load ! (from ! (fld ! refl (stop !))) (look-in ! 8 (sub ! 0 refl (whole !))))) (from ! (stop !)) (init ! 6 refl (tt, wt .1 .0)) $
         assigns ! (of-opd ! (load ! (from ! (fld ! refl (stop !))) (look-in ! 8 (sub ! 0 refl (whole !))))) (from ! (stop !)) (init ! 2 refl (tt, wt .1 .0)) $

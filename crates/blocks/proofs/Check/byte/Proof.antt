@@ -4,12 +4,9 @@ use Rattle.blocks.specs.Fnv.{fnvStep}
 use Rattle.blocks.proofs.Check.byte.Statement.{statement}
 use Rattle.blocks.proofs.Check.byte.Tie as tie
 
-wrapping-mul-u32-requires : tie.Need-wrapping-mul-u32-requires
-wrapping-mul-u32-requires c κs = search needs
-
 returns : tie.Need-returns
 unfolding fnvStep
 returns c = c .wrapping-mul-u32 .ensures
 
 pub byte-spec : {M : Type 1} → statement M
-byte-spec = tie.close (tie.spec wrapping-mul-u32-requires returns)
+byte-spec = tie.close (tie.spec (search needs) returns)

@@ -6,20 +6,11 @@ use Rattle.blocks.proofs.Heads.{count-most}
 use Rattle.blocks.proofs.Counts.with.Statement.{statement}
 use Rattle.blocks.proofs.Counts.with.Tie as tie
 
-count-of-requires : tie.Need-count-of-requires
-count-of-requires c κs = search needs
-
 add-t4 : tie.Need-add-t4
 add-t4 c = omega (arith, count-most 1 (c .before .before .args .head))
 
-count-of-requires-2 : tie.Need-count-of-requires-2
-count-of-requires-2 c κs = search needs
-
 add-t6 : tie.Need-add-t6
 add-t6 c = omega (arith, count-most 2 (c .before .before .before .before .args .head))
-
-count-of-requires-3 : tie.Need-count-of-requires-3
-count-of-requires-3 c κs = search needs
 
 add-t8 : tie.Need-add-t8
 add-t8 c = omega (arith, count-most 3 (c .before .before .before .before .before .before .args .head))
@@ -29,13 +20,4 @@ unfolding countsWith
 returns c = rw (c .before .count-of3 .ensures, c .before .before .before .count-of2 .ensures, c .before .before .before .before .before .count-of .ensures)
 
 pub with-spec : {M : Type 1} → statement M
-with-spec =
-    tie.close
-    (tie.spec
-    count-of-requires
-    add-t4
-    count-of-requires-2
-    add-t6
-    count-of-requires-3
-    add-t8
-    returns)
+with-spec = tie.close (tie.spec (search needs) add-t4 (search needs) add-t6 (search needs) add-t8 returns)

@@ -5,9 +5,6 @@ use Rattle.blocks.specs.Blocks.{countOf}
 use Rattle.blocks.proofs.Head.count_of.Statement.{statement}
 use Rattle.blocks.proofs.Head.count_of.Tie as tie
 
-wide-requires : tie.Need-wide-requires
-wide-requires c κs = search needs
-
 returns : tie.Need-returns
 unfolding countOf
 returns c = rw (eq-eqb _ _ (c .before .if1 .taken), c .wide .ensures)
@@ -17,4 +14,4 @@ unfolding countOf
 returns-2 c = rw (ne-eqb _ _ (c .if1 .left))
 
 pub count-of-spec : {M : Type 1} → statement M
-count-of-spec = tie.close (tie.spec wide-requires returns returns-2)
+count-of-spec = tie.close (tie.spec (search needs) returns returns-2)

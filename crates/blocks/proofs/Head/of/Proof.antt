@@ -6,18 +6,6 @@ use Rattle.blocks.proofs.Heads.{seen-here}
 use Rattle.blocks.proofs.Head.of.Statement.{statement}
 use Rattle.blocks.proofs.Head.of.Tie as tie
 
-head-at-requires : tie.Need-head-at-requires
-head-at-requires c κs = search needs
-
-enum-known-seen : tie.Need-enum-known-seen
-enum-known-seen c = search needs
-
-enum-told : tie.Need-enum-told
-enum-told c = search needs
-
-none-requires : tie.Need-none-requires
-none-requires c κs = search needs
-
 returns : tie.Need-returns
 returns c = rw (c .none .ensures) (seen-here _ _ NoBlock (c .before .before .before .before .before .pre) (sym (c .before .enum-told .given .1) ∙ c .before .before .before .head-at .ensures))
 
@@ -25,4 +13,4 @@ returns-2 : tie.Need-returns-2
 returns-2 c = seen-here _ _ (Block (c .before .seen .given .0 .0)) (c .before .before .before .before .before .pre) (sym (c .before .seen .given .1) ∙ c .before .before .before .head-at .ensures)
 
 pub of-spec : {M : Type 1} → statement M
-of-spec = tie.close (tie.spec head-at-requires enum-known-seen enum-told none-requires returns returns-2)
+of-spec = tie.close (tie.spec (search needs) (search needs) (search needs) (search needs) returns returns-2)

@@ -8,12 +8,6 @@ use Rattle.blocks.proofs.Product.{below}
 use Rattle.blocks.proofs.Head.records_end.Statement.{statement}
 use Rattle.blocks.proofs.Head.records_end.Tie as tie
 
-by-kind-requires : tie.Need-by-kind-requires
-by-kind-requires c κs = search needs
-
-wide-requires : tie.Need-wide-requires
-wide-requires c κs = search needs
-
 product : (c : tie.After-wide) → c .before .by-kind .result * c .wide .result < 2 ^ 32
 product c = below 16 (rw (c .before .by-kind .ensures) (omega (arith, by-kind-most (c .before .before .args .self .kind) 1 4 6 6 (omega arith) (omega arith) (omega arith)))) (search needs)
 
@@ -28,5 +22,4 @@ unfolding recordsEnd recordSize
 returns c = rw (c .wide .ensures, c .before .by-kind .ensures)
 
 pub records-end-spec : {M : Type 1} → statement M
-records-end-spec =
-    tie.close (tie.spec by-kind-requires wide-requires mul-result add-result returns)
+records-end-spec = tie.close (tie.spec (search needs) (search needs) mul-result add-result returns)

@@ -4,18 +4,9 @@ use Rattle.blocks.specs.Blocks.{wrongHead, capacity}
 use Rattle.blocks.proofs.Head.wrong.Statement.{statement}
 use Rattle.blocks.proofs.Head.wrong.Tie as tie
 
-by-kind-requires : tie.Need-by-kind-requires
-by-kind-requires c κs = search needs
-
-wide-requires : tie.Need-wide-requires
-wide-requires c κs = search needs
-
-wide-requires-2 : tie.Need-wide-requires-2
-wide-requires-2 c κs = search needs
-
 returns : tie.Need-returns
 unfolding wrongHead capacity
 returns c = rw (c .wide2 .ensures, c .before .wide .ensures, c .before .before .before .before .before .before .before .before .by-kind .ensures)
 
 pub wrong-spec : {M : Type 1} → statement M
-wrong-spec = tie.close (tie.spec by-kind-requires wide-requires wide-requires-2 returns)
+wrong-spec = tie.close (tie.spec (search needs) (search needs) (search needs) returns)

@@ -1,14 +1,14 @@
--- `containment::clear` meets its contract: the bytes before p are 0. Assumes nothing.
+-- `tables::clear` meets its contract: the bytes before p are 0. Assumes nothing.
 use mathlib.Core.List.{List}
 use mathlib.Core.Path.{_≡_, refl, sym, ap, _∙_}
 use Prim.Native.Nat.{ℕ, _-_, _≤_}
 use native.Mathlib.Omega.{arith}
 use borrow.Author.Needs.{needs}
 use lib.ListN.{length, set, length-set}
 use Rattle.tables.specs.Buffers.{written, zeros}
 use Rattle.tables.proofs.BufferLaws.{written-none, written-zeros}
-use Rattle.containment.proofs.clear.Statement.{statement}
-use Rattle.containment.proofs.clear.Tie as tie
+use Rattle.tables.proofs.clear.Statement.{statement}
+use Rattle.tables.proofs.clear.Tie as tie
 
 abbrev Inv-loop : tie.InvT-loop
 Inv-loop s₀ count p₀ s p = (p ≤ count) × (s ≡ written (zeros p) s₀) × (length s ≡ length s₀)
@@ -20,21 +20,9 @@ loop-holds : tie.Need-loop-holds Inv-loop μ-loop
 unfolding zeros
 loop-holds c = (search needs, sym (written-none (c .args .s .now)), refl)
 
-slice-write-s : tie.Need-slice-write-s Inv-loop μ-loop
-slice-write-s c = search needs
-
-add-p : tie.Need-add-p Inv-loop μ-loop
-add-p c = search needs
-
-loop-less : tie.Need-loop-less Inv-loop μ-loop
-loop-less c = search needs
-
 loop-again : tie.Need-loop-again Inv-loop μ-loop
 loop-again c = let at = c .before in
     (search needs, ap (λ (l : List ℕ). set l (at .loop .p) 0) (at .loop .inv .1) ∙ written-zeros (at .loop .p) (at .before .args .s .now) (omega arith), simp length-set (at .loop .inv .2))
-
-same-length : tie.Need-same-length Inv-loop μ-loop
-same-length c = search needs
 
 returns : tie.Need-returns Inv-loop μ-loop
 returns c = let at = c .before in
@@ -42,15 +30,4 @@ returns c = let at = c .before in
     rw e at (at .loop .inv .1)
 
 pub clear-spec : {M : Type 1} → statement M
-clear-spec =
-    tie.close
-    (tie.spec
-    Inv-loop
-    μ-loop
-    loop-holds
-    slice-write-s
-    add-p
-    loop-less
-    loop-again
-    same-length
-    returns)
+clear-spec = tie.close (tie.spec Inv-loop μ-loop loop-holds (search needs) (search needs) (search needs) loop-again (search needs) returns)
