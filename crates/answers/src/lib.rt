@@ -66,7 +66,7 @@ pub fn granting(e: Entry) -> u16
 }
 
 // An answer's byte in the matrix.
-pub fn byte_of(e: Entry) -> u8
+fn byte_of(e: Entry) -> u8
     ensures { λ r. ⌜ r ≡ byteOf e ⌝ }
 {
     match e {
@@ -78,7 +78,7 @@ pub fn byte_of(e: Entry) -> u8
 }
 
 // An answer's number in the matrix.
-pub fn number_of(e: Entry) -> u16
+fn number_of(e: Entry) -> u16
     ensures { λ r. ⌜ r ≡ numberOf e ⌝ }
 {
     match e {
@@ -316,7 +316,7 @@ pub fn no_numbers() -> [u16; 512]
 
 // The answer for a pair, by the numbers of the mode's arrows. The two buffers are for the positive and the negative arrows that
 // reach the pair, so that a caller with many pairs lends the same ones to each.
-pub fn answer_among(
+fn answer_among(
     n: usize,
     rows: &[u16],
     scratch: &[u8],
@@ -683,7 +683,7 @@ pub fn judge(boxes: &[u8], rows: &[u16], arrows: &[u16], scratch: &mut [u8]) -> 
 }
 
 // Whether u is an atomic user and f an atomic file.
-pub fn is_pair(boxes: &[u8], rows: &[u16], u: u16, f: u16) -> bool
+fn is_pair(boxes: &[u8], rows: &[u16], u: u16, f: u16) -> bool
     requires { ⌜ length (now rows) % 2 ≡ 0 ⌝ }
     ensures { λ r. ⌜ r ≡ (atom (now (boxes .entry)) (now (rows .entry)) user u && atom (now (boxes .entry)) (now (rows .entry)) file f) ⌝ }
 {

@@ -16,7 +16,7 @@ use tables::Refusal;
 use tables::Verdict;
 
 // a * b modulo 2^32.
-pub fn wrapping_mul_u32(a: u32, b: u32) -> u32
+fn wrapping_mul_u32(a: u32, b: u32) -> u32
     ensures { λ r. ⌜ r ≡ a * b % 2 ^ 32 ⌝ }
 {
     ((a as u64) * (b as u64) % 4294967296) as u32
@@ -89,7 +89,7 @@ fn wide(x: u16) -> usize
 }
 
 // A byte of a block.
-pub fn byte_of(file: &[u8], block: usize, at: usize) -> u8
+fn byte_of(file: &[u8], block: usize, at: usize) -> u8
     requires { ⌜ (block < blockCount (now file)) × (at < 512) ⌝ }
     ensures { λ r. ⌜ r ≡ getD (blockAt (now (file .entry)) block) at 0 ⌝ }
 {
@@ -97,7 +97,7 @@ pub fn byte_of(file: &[u8], block: usize, at: usize) -> u8
 }
 
 // The 16-bit number that begins at a byte of a block.
-pub fn number_of(file: &[u8], block: usize, at: usize) -> u16
+fn number_of(file: &[u8], block: usize, at: usize) -> u16
     requires { ⌜ (block < blockCount (now file)) × (at + 1 < 512) ⌝ }
     ensures { λ r. ⌜ r ≡ number16 (blockAt (now (file .entry)) block) at ⌝ }
 {
@@ -118,7 +118,7 @@ impl BoxRecord {
     pub const CAPACITY: usize = 500;
 
     // Record j of a block.
-    pub fn at(file: &[u8], block: usize, j: usize) -> Self
+    fn at(file: &[u8], block: usize, j: usize) -> Self
         requires { ⌜ (block < blockCount (now file)) × (j < 500) ⌝ }
         ensures { λ r. ⌜ r ≡ boxAt (blockAt (now (file .entry)) block) j ⌝ }
     {
@@ -143,7 +143,7 @@ impl ContainmentRecord {
     pub const CAPACITY: usize = 125;
 
     // Record j of a block.
-    pub fn at(file: &[u8], block: usize, j: usize) -> Self
+    fn at(file: &[u8], block: usize, j: usize) -> Self
         requires { ⌜ (block < blockCount (now file)) × (j < 125) ⌝ }
         ensures { λ r. ⌜ r ≡ containmentAt (blockAt (now (file .entry)) block) j ⌝ }
     {
@@ -171,7 +171,7 @@ impl ArrowRecord {
     pub const CAPACITY: usize = 83;
 
     // Record j of a block.
-    pub fn at(file: &[u8], block: usize, j: usize) -> Self
+    fn at(file: &[u8], block: usize, j: usize) -> Self
         requires { ⌜ (block < blockCount (now file)) × (j < 83) ⌝ }
         ensures { λ r. ⌜ r ≡ arrowAt (blockAt (now (file .entry)) block) j ⌝ }
     {
@@ -362,7 +362,7 @@ pub fn head_at(file: &[u8], block: usize) -> Seen
 }
 
 // The check of a block's bytes 0 to 507.
-pub fn check_of(file: &[u8], block: usize) -> u32
+fn check_of(file: &[u8], block: usize) -> u32
     requires { ⌜ block < blockCount (now file) ⌝ }
     ensures { λ r. ⌜ r ≡ fnv1a (take 508 (blockAt (now (file .entry)) block)) ⌝ }
 {
@@ -373,7 +373,7 @@ pub fn check_of(file: &[u8], block: usize) -> u32
 }
 
 // The check that stands in a block's bytes 508 to 511.
-pub fn stored_check(file: &[u8], block: usize) -> u32
+fn stored_check(file: &[u8], block: usize) -> u32
     requires { ⌜ block < blockCount (now file) ⌝ }
     ensures { λ r. ⌜ r ≡ number32 (blockAt (now (file .entry)) block) 508 ⌝ }
 {

@@ -5,4 +5,3 @@ pub mod Index
 mod Rounds
 mod StepLaws
 pub mod PictureLaws
-pub mod AroundLaws

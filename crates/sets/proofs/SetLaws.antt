@@ -83,9 +83,6 @@ word-is g (suc n) w h s =
     (s 0 (omega arith))
     ∙ sym (wordOf-push g n)
 
-pub word-unique : (g : ℕ → Bool) (w : ℕ) → w < 2 ^ 64 → ((b : ℕ) → b < 64 → bitAt w b ≡ g b) → w ≡ wordOf g 64
-word-unique g w = word-is g 64 w
-
 pub same-bits : (n x y : ℕ) → x < 2 ^ n → y < 2 ^ n → ((b : ℕ) → b < n → bitAt x b ≡ bitAt y b) → x ≡ y
 same-bits n x y h k s = word-is (bitAt y) n x h s ∙ sym (word-is (bitAt y) n y k (λ b l. refl))
 
@@ -133,9 +130,6 @@ pub zero-bit : (b : ℕ) → bitAt 0 b ≡ false
 unfolding bitAt
 zero-bit zero = refl
 zero-bit (suc b) = zero-bit b
-
-pub zero-word : (n w : ℕ) → w < 2 ^ n → ((b : ℕ) → b < n → T (bitAt w b) → ⊥) → w ≡ 0
-zero-word n w h s = same-bits n w 0 h (omega arith) (λ b l. not-false (bitAt w b) (s b l) ∙ sym (zero-bit b))
 
 -- ---- what two words share
 

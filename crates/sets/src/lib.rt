@@ -41,7 +41,7 @@ pub fn share(table: &[u64], a: usize, b: usize, c: usize) -> [u64; 8]
 }
 
 // Whether set r of the table has all of a set.
-pub fn is_inside(set: &[u64], table: &[u64], r: usize) -> bool
+fn is_inside(set: &[u64], table: &[u64], r: usize) -> bool
     requires { ⌜ (8 ≤ length (now set)) × (8 * r + 8 ≤ length (now table)) ⌝ }
     ensures { λ x. ⌜ x ≡ inside (now (set .entry)) (now (table .entry)) r ⌝ }
 {

@@ -52,7 +52,3 @@ halves m n h =
 pub pairs-most : (boxes rows : List ℕ) → length boxes ≤ 256 → pairCount boxes rows ≤ 16384
 unfolding pairCount
 pairs-most boxes rows h = halves (length (atoms boxes rows user)) (length (atoms boxes rows file)) (omega (arith, atoms-apart boxes rows))
-
-pub pairs-product : (boxes rows : List ℕ) → pairCount boxes rows ≡ length (atoms boxes rows user) * length (atoms boxes rows file)
-unfolding pairCount
-pairs-product boxes rows = refl

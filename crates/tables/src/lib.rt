@@ -127,7 +127,7 @@ pub fn narrow(x: usize) -> u16
 }
 
 // The side that box b is on, 0 where there is no such box.
-pub fn side_of(boxes: &[u8], b: usize) -> u8
+fn side_of(boxes: &[u8], b: usize) -> u8
     ensures { λ r. ⌜ r ≡ sideOf (now (boxes .entry)) b ⌝ }
 {
     if b < boxes.len() {
@@ -137,7 +137,7 @@ pub fn side_of(boxes: &[u8], b: usize) -> u8
 }
 
 // Whether b is a box of the side.
-pub fn on_side(boxes: &[u8], side: u8, b: usize) -> bool
+fn on_side(boxes: &[u8], side: u8, b: usize) -> bool
     ensures { λ r. ⌜ r ≡ onSide (now (boxes .entry)) side b ⌝ }
 {
     b < boxes.len() && side_of(boxes, b) == side

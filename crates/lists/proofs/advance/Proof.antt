@@ -87,17 +87,5 @@ returns-3 c = let s = c .before .before .before .before .before .before .before 
 
 pub advance-spec : {M : Type 1} → statement M
 advance-spec =
-    tie.close
-    (tie.spec
-    Inv-loop
-    μ-loop
-    returns
-    at-requires
-    loop-holds
-    stops-at-requires
-    returns-2
-    ahead-requires
-    place-of-requires
-    loop-less
-    loop-again
-    returns-3)
+    tie.close (tie.spec Inv-loop μ-loop returns at-requires loop-holds stops-at-requires returns-2 ahead-requires place-of-requires
+    loop-less loop-again returns-3)

@@ -54,12 +54,4 @@ returns-2 c = let s = c .before .before .before .before .before .before .before 
 
 pub ahead-spec : {M : Type 1} → statement M
 ahead-spec =
-    tie.close
-    (tie.spec
-    mul-is-around
-    shared-slice-read-is-around
-    is-around-requires
-    next-requires
-    returns
-    add-t12
-    returns-2)
+    tie.close (tie.spec mul-is-around shared-slice-read-is-around is-around-requires next-requires returns add-t12 returns-2)

@@ -22,25 +22,10 @@ loop-holds : tie.Need-loop-holds Inv-loop μ-loop
 unfolding blanks
 loop-holds c = (search needs, sym (written-none (c .args .out .now)), refl)
 
-mul-out : tie.Need-mul-out Inv-loop μ-loop
-mul-out c = search needs
-
-slice-write-out : tie.Need-slice-write-out Inv-loop μ-loop
-slice-write-out c = search needs
-
-add-p : tie.Need-add-p Inv-loop μ-loop
-add-p c = search needs
-
-loop-less : tie.Need-loop-less Inv-loop μ-loop
-loop-less c = search needs
-
 loop-again : tie.Need-loop-again Inv-loop μ-loop
 unfolding blanks
 loop-again c = let at = c .before in
     (search needs, ap (λ (l : List ℕ). set l (at .loop .p) 65535) (at .loop .inv .1) ∙ written-same 65535 (at .loop .p) (at .before .args .out .now) (omega arith), simp length-set (at .loop .inv .2))
-
-same-length : tie.Need-same-length Inv-loop μ-loop
-same-length c = search needs
 
 returns : tie.Need-returns Inv-loop μ-loop
 returns c = let at = c .before in
@@ -49,15 +34,5 @@ returns c = let at = c .before in
 
 pub blank-spec : {M : Type 1} → statement M
 blank-spec =
-    tie.close
-    (tie.spec
-    Inv-loop
-    μ-loop
-    loop-holds
-    mul-out
-    slice-write-out
-    add-p
-    loop-less
-    loop-again
-    same-length
+    tie.close (tie.spec Inv-loop μ-loop loop-holds (search needs) (search needs) (search needs) (search needs) loop-again (search needs)
     returns)

@@ -25,9 +25,6 @@ loop-holds c = let s = c .before .before .before .before .before in
     let a = s .args in
     (omega arith, search-none (λ q. eqb (getD (a .work .now) q 0) 1) (λ q. noOrder (a .mode) (userAt (a .boxes .now) (a .rows .now) q) (fileAt (a .boxes .now) (a .rows .now) q)))
 
-shared-slice-read-if1 : tie.Need-shared-slice-read-if1 Inv-loop μ-loop
-shared-slice-read-if1 c = search needs
-
 refuse-pair-requires : tie.Need-refuse-pair-requires Inv-loop μ-loop
 refuse-pair-requires c κs = let s = c .before .before .before .before .before .before .before .before .before in
     let a = s .args in
@@ -41,12 +38,6 @@ returns c = let s = c .before .before .before .before .before .before .before .b
     let i = c .before .before .before .before .loop in
     c .refuse-pair .ensures
     ∙ sym (ap verdictOf (search-here (λ q. eqb (getD (a .work .now) q 0) 1) (λ q. noOrder (a .mode) (userAt (a .boxes .now) (a .rows .now) q) (fileAt (a .boxes .now) (a .rows .now) q)) (pairCount (a .boxes .now) (a .rows .now)) (i .p) (i .inv .1) (eq-eqb _ 1 (c .before .if1 .taken)) (omega (arith, s .pre .0 .pairs-are))))
-
-add-p : tie.Need-add-p Inv-loop μ-loop
-add-p c = search needs
-
-loop-less : tie.Need-loop-less Inv-loop μ-loop
-loop-less c = search needs
 
 loop-again : tie.Need-loop-again Inv-loop μ-loop
 loop-again c = let s = c .before .before .before .before .before .before .before .before .before in
@@ -64,15 +55,5 @@ returns-2 c = let s = c .before .before .before .before .before .before .before 
 
 pub check-left-spec : {M : Type 1} → statement M
 check-left-spec =
-    tie.close
-    (tie.spec
-    Inv-loop
-    μ-loop
-    loop-holds
-    shared-slice-read-if1
-    refuse-pair-requires
-    returns
-    add-p
-    loop-less
-    loop-again
+    tie.close (tie.spec Inv-loop μ-loop loop-holds (search needs) refuse-pair-requires returns (search needs) (search needs) loop-again
     returns-2)

@@ -26,19 +26,10 @@ shared-slice-read-work c = omega arith
 slice-write-work : tie.Need-slice-write-work Inv-loop μ-loop
 slice-write-work c = omega arith
 
-add-p : tie.Need-add-p Inv-loop μ-loop
-add-p c = search needs
-
-loop-less : tie.Need-loop-less Inv-loop μ-loop
-loop-less c = search needs
-
 loop-again : tie.Need-loop-again Inv-loop μ-loop
 loop-again c = let at = c .before .before in
     let a = at .before .args in
     (omega arith, ap (λ (l : List ℕ). set l (at .loop .p) (getD (a .bytes .now) (at .loop .p) 0)) (at .loop .inv .1) ∙ written-copy (a .bytes .now) (a .work .now) (at .loop .p) (omega arith) (omega arith), simp length-set (at .loop .inv .2))
-
-same-length : tie.Need-same-length Inv-loop μ-loop
-same-length c = search needs
 
 returns : tie.Need-returns Inv-loop μ-loop
 returns c = let at = c .before in
@@ -47,15 +38,5 @@ returns c = let at = c .before in
 
 pub copy-spec : {M : Type 1} → statement M
 copy-spec =
-    tie.close
-    (tie.spec
-    Inv-loop
-    μ-loop
-    loop-holds
-    shared-slice-read-work
-    slice-write-work
-    add-p
-    loop-less
-    loop-again
-    same-length
-    returns)
+    tie.close (tie.spec Inv-loop μ-loop loop-holds shared-slice-read-work slice-write-work (search needs) (search needs) loop-again
+    (search needs) returns)

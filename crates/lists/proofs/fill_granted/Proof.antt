@@ -38,9 +38,6 @@ loop-holds c = let a = c .before .before .before .before .before .before .before
 answer-at-requires : tie.Need-answer-at-requires Inv-loop μ-loop
 answer-at-requires c κs = (c .before .before .before .before .before .before .before .before .before .pre .0, c .before .before .before .before .before .before .before .before .before .pre .1, omega (arith, counted (c .before .before .before .before .before .before .before .before .before), c .loop-test .taken))
 
-is-unclear-requires : tie.Need-is-unclear-requires Inv-loop μ-loop
-is-unclear-requires c κs = search needs
-
 refuse-pair-requires : tie.Need-refuse-pair-requires Inv-loop μ-loop
 refuse-pair-requires c κs = (placed-is (c .before .before .before .before .before .before .before .before .before .before .before .before .pre .0), c .before .before .before .loop-test .taken)
 
@@ -52,9 +49,6 @@ returns c = let a = c .before .before .before .before .before .before .before .b
     let i = c .before .before .before .before .before .loop in
     let named = filling-unclear (a .boxes .now) (a .rows .now) (a .arrows .now) (a .mode) (a .bytes .now) (i .bytes) (i .p) (c .before .before .before .answer-at .result) (omega (arith, counted (c .before .before .before .before .before .before .before .before .before .before .before .before .before), c .before .before .before .before .loop-test .taken)) (c .before .before .before .answer-at .ensures) (sym (c .before .before .is-unclear .ensures) ∙ c .before .if1 .taken) (i .inv .0) in
     (c .refuse-pair .ensures ∙ sym (ap verdictOf named), λ e. absurd (some-none (passed (some _) (sym (c .refuse-pair .ensures) ∙ e))))
-
-granted-byte-requires : tie.Need-granted-byte-requires Inv-loop μ-loop
-granted-byte-requires c κs = search needs
 
 slice-write-bytes : tie.Need-slice-write-bytes Inv-loop μ-loop
 slice-write-bytes c = omega (arith, counted (c .before .before .before .before .before .before .before .before .before .before .before .before .before), c .before .before .before .before .loop-test .taken, c .before .before .before .before .before .before .before .before .before .before .before .before .before .pre .2, kept (c .before .before .before .before .before))
@@ -83,21 +77,5 @@ returns-2 c = let a = c .before .before .before .before .before .before .before 
 
 pub fill-granted-spec : {M : Type 1} → statement M
 fill-granted-spec =
-    tie.close
-    (tie.spec
-    Inv-loop
-    μ-loop
-    mul-pairs
-    loop-holds
-    answer-at-requires
-    is-unclear-requires
-    refuse-pair-requires
-    same-length
-    returns
-    granted-byte-requires
-    slice-write-bytes
-    add-p
-    loop-less
-    loop-again
-    same-length-2
-    returns-2)
+    tie.close (tie.spec Inv-loop μ-loop mul-pairs loop-holds answer-at-requires (λ c κs. search needs) refuse-pair-requires same-length
+    returns (λ c κs. search needs) slice-write-bytes add-p loop-less loop-again same-length-2 returns-2)

@@ -8,29 +8,11 @@ use Rattle.tables.proofs.Verdicts.{passed, refused}
 use Rattle.lists.proofs.finish.Statement.{statement}
 use Rattle.lists.proofs.finish.Tie as tie
 
-order-requires : tie.Need-order-requires
-order-requires c κs = search needs
-
-check-left-requires : tie.Need-check-left-requires
-check-left-requires c κs = search needs
-
-clear-requires : tie.Need-clear-requires
-clear-requires c κs = search needs
-
-enum-known-left : tie.Need-enum-known-left
-enum-known-left c = search needs
-
 blank-requires : tie.Need-blank-requires
 blank-requires c κs = let s = c .before .before .before .before .before .before .before .before .before .before .before .before .before .before .before .before .before .before .before .before .before .before .before .before .before .before in
     let a = s .args in
     let d = c .before .before .before .before .before .before .before .before .before .before .before .before .before .before .order in
     omega (arith, d .kept .1 .1 .1 .1 .1 .1 .1 .1 .1 .0, s .pre .1 .1)
-
-same-length : tie.Need-same-length
-same-length c = search needs
-
-same-length-2 : tie.Need-same-length-2
-same-length-2 c = search needs
 
 returns : tie.Need-returns
 returns c = let s = c .before .before .before .before .before .before .before .before .before .before .before .before .before .before .before .before .before .before .before .before .before .before .before .before .before .before .before .before .before in
@@ -38,15 +20,6 @@ returns c = let s = c .before .before .before .before .before .before .before .b
     let d = c .before .before .before .before .before .before .before .before .before .before .before .before .before .before .before .before .before .order in
     let left = refused (leftIn (a .boxes .now) (a .rows .now) (a .mode) (d .last .1 .1 .1 .1 .1 .1 .1 .1 .1 .1 .0)) _ (sym (c .before .before .before .before .before .before .before .before .before .before .before .check-left .ensures) ∙ c .before .before .before .before .before .left .given .1) in
     (rw (c .before .before .blank .ensures) (finish-refused (a .boxes .now) (a .rows .now) (a .arrows .now) (a .mode) (a .out .now) (a .work .now) (d .result) (d .last .1 .1 .1 .1 .1 .1 .1 .1 .1 .0) (d .last .1 .1 .1 .1 .1 .1 .1 .1 .1 .1 .0) (d .ensures) (a .own .now) (s .pre .0 .3) (s .pre .1 .1) _ left), c .before .before .before .before .before .before .before .before .before .clear .ensures ∙ rw (s .pre .0 .1 .pairs-are) (finish-work (a .boxes .now) (a .rows .now) (a .arrows .now) (a .mode) (a .out .now) (a .work .now) (d .result) (d .last .1 .1 .1 .1 .1 .1 .1 .1 .1 .0) (d .last .1 .1 .1 .1 .1 .1 .1 .1 .1 .1 .0) (d .ensures) (omega (arith, s .pre .1 .2, s .pre .0 .1 .pairs-are))))
-
-enum-told : tie.Need-enum-told
-enum-told c = search needs
-
-same-length-3 : tie.Need-same-length-3
-same-length-3 c = search needs
-
-same-length-4 : tie.Need-same-length-4
-same-length-4 c = search needs
 
 returns-2 : tie.Need-returns-2
 returns-2 c = let s = c .before .before .before .before .before .before .before .before .before .before .before .before .before .before .before .before .before .before .before .before .before .before .before .before in
@@ -57,17 +30,5 @@ returns-2 c = let s = c .before .before .before .before .before .before .before 
 
 pub finish-spec : {M : Type 1} → statement M
 finish-spec =
-    tie.close
-    (tie.spec
-    order-requires
-    check-left-requires
-    clear-requires
-    enum-known-left
-    blank-requires
-    same-length
-    same-length-2
-    returns
-    enum-told
-    same-length-3
-    same-length-4
-    returns-2)
+    tie.close (tie.spec (λ c κs. search needs) (λ c κs. search needs) (λ c κs. search needs) (search needs) blank-requires (search needs)
+    (search needs) returns (search needs) (search needs) (search needs) returns-2)

@@ -5,9 +5,6 @@ use Rattle.answers.proofs.GrantLaws.{grants, grants-not}
 use Rattle.lists.proofs.granted_byte.Statement.{statement}
 use Rattle.lists.proofs.granted_byte.Tie as tie
 
-enum-told : tie.Need-enum-told
-enum-told c = search needs
-
 returns : tie.Need-returns
 unfolding bit
 returns c = rw (grants-not (c .before .args .e) (c .match .keys2))
@@ -17,4 +14,5 @@ unfolding bit
 returns-2 c = rw (c .enum-told .given .1, grants)
 
 pub granted-byte-spec : {M : Type 1} → statement M
-granted-byte-spec = tie.close (tie.spec enum-told returns returns-2)
+granted-byte-spec =
+    tie.close (tie.spec (search needs) returns returns-2)

@@ -28,18 +28,9 @@ asked c = let a = c .before .before .before .before .before .before .before .bef
 early : (c : tie.After-enum-told2) → let a = c .before .before .before .before .before .before .before .before .before .before .before .before .before .before .before .before .before .before .before .before .before .args in rest (a .boxes .now) (a .rows .now) (a .arrows .now) (a .mode) (a .scratch .now) (a .out .now) (a .work .now) ≡ none
 early c = let a = c .before .before .before .before .before .before .before .before .before .before .before .before .before .before .before .before .before .before .before .before .before .args in passed (rest (a .boxes .now) (a .rows .now) (a .arrows .now) (a .mode) (a .scratch .now) (a .out .now) (a .work .now)) (sym (asked (c .before .before)) ∙ c .enum-told2 .given .1)
 
-check-requires : tie.Need-check-requires
-check-requires c κs = search needs
-
-enum-known-tables : tie.Need-enum-known-tables
-enum-known-tables c = search needs
-
 returns : tie.Need-returns
 returns c = let a = c .before .before .before .before .before .before .before .before .before .before .args in
     end-early (a .boxes .now) (a .rows .now) (a .arrows .now) (a .mode) (a .scratch .now) (a .out .now) (a .work .now) _ (early-tables (a .boxes .now) (a .rows .now) (a .arrows .now) (a .mode) (a .scratch .now) (a .out .now) (a .work .now) _ (refused (tableFault (a .boxes .now) (a .rows .now) (a .arrows .now)) _ (sym (c .before .before .before .check .ensures) ∙ c .before .tables .given .1)))
-
-enum-told : tie.Need-enum-told
-enum-told c = search needs
 
 pair-count-requires : tie.Need-pair-count-requires
 pair-count-requires c κs = let a = c .before .before .before .before .before .before .before .before .before .args in
@@ -49,71 +40,26 @@ mode-count-requires : tie.Need-mode-count-requires
 mode-count-requires c κs = let a = c .before .before .before .before .before .before .before .before .before .before .args in
     sound-arrows (a .boxes .now) (a .rows .now) (a .arrows .now) (sound (c .before)) .few-arrows
 
-check-mode-requires : tie.Need-check-mode-requires
-check-mode-requires c κs = search needs
-
 check-scratch-requires : tie.Need-check-scratch-requires
 check-scratch-requires c κs = let a = c .before .before .before .before .before .before .before .before .before .before .before .before .before .args in
     sound-rows (a .boxes .now) (a .rows .now) (a .arrows .now) (sound (c .before .before .before .before)) .few-boxes
-
-or-else-requires : tie.Need-or-else-requires
-or-else-requires c κs = search needs
-
-check-room-requires : tie.Need-check-room-requires
-check-room-requires c κs = search needs
-
-or-else-requires-2 : tie.Need-or-else-requires-2
-or-else-requires-2 c κs = search needs
-
-check-room-requires-2 : tie.Need-check-room-requires-2
-check-room-requires-2 c κs = search needs
-
-or-else-requires-3 : tie.Need-or-else-requires-3
-or-else-requires-3 c κs = search needs
-
-enum-known-early : tie.Need-enum-known-early
-enum-known-early c = search needs
-
-same-length : tie.Need-same-length
-same-length c = search needs
 
 returns-2 : tie.Need-returns-2
 returns-2 c = let a = c .before .before .before .before .before .before .before .before .before .before .before .before .before .before .before .before .before .before .before .before .before .before .args in
     end-early (a .boxes .now) (a .rows .now) (a .arrows .now) (a .mode) (a .scratch .now) (a .out .now) (a .work .now) _ (early-rest (a .boxes .now) (a .rows .now) (a .arrows .now) (a .mode) (a .scratch .now) (a .out .now) (a .work .now) (sound (c .before .before .before .before .before .before .before .before .before .before .before .before .before)) ∙ refused (rest (a .boxes .now) (a .rows .now) (a .arrows .now) (a .mode) (a .scratch .now) (a .out .now) (a .work .now)) _ (sym (asked (c .before .before .before)) ∙ c .before .early .given .1))
 
-enum-told-2 : tie.Need-enum-told-2
-enum-told-2 c = search needs
-
 contain-requires : tie.Need-contain-requires
 contain-requires c κs = let a = c .before .before .before .before .before .before .before .before .before .before .before .before .before .before .before .before .before .before .before .before .before .before .args in
     (sound-rows (a .boxes .now) (a .rows .now) (a .arrows .now) (sound (c .before .before .before .before .before .before .before .before .before .before .before .before .before)), rooms (a .boxes .now) (a .rows .now) (a .arrows .now) (a .mode) (a .scratch .now) (a .out .now) (a .work .now) (early (c .before)) .scratch-room)
-
-enum-known-loops : tie.Need-enum-known-loops
-enum-known-loops c = search needs
-
-same-length-2 : tie.Need-same-length-2
-same-length-2 c = search needs
 
 returns-3 : tie.Need-returns-3
 returns-3 c = let a = c .before .before .before .before .before .before .before .before .before .before .before .before .before .before .before .before .before .before .before .before .before .before .before .before .before .before .before .before .args in
     rw (c .before .before .before .before .before .contain .ensures .1) (end-loops (a .boxes .now) (a .rows .now) (a .arrows .now) (a .mode) (a .scratch .now) (a .out .now) (a .work .now) (early-rest (a .boxes .now) (a .rows .now) (a .arrows .now) (a .mode) (a .scratch .now) (a .out .now) (a .work .now) (sound (c .before .before .before .before .before .before .before .before .before .before .before .before .before .before .before .before .before .before .before)) ∙ early (c .before .before .before .before .before .before .before)) _ (refused (loopFault (a .boxes .now) (a .rows .now)) _ (sym (c .before .before .before .before .before .contain .ensures .0) ∙ c .before .loops .given .1)))
 
-enum-told-3 : tie.Need-enum-told-3
-enum-told-3 c = search needs
-
 write-list-requires : tie.Need-write-list-requires
 write-list-requires c κs = let a = c .before .before .before .before .before .before .before .before .before .before .before .before .before .before .before .before .before .before .before .before .before .before .before .before .before .before .before .before .before .before .args in
     let room = rooms (a .boxes .now) (a .rows .now) (a .arrows .now) (a .mode) (a .scratch .now) (a .out .now) (a .work .now) (early (c .before .before .before .before .before .before .before .before .before)) in
     ((sound-rows (a .boxes .now) (a .rows .now) (a .arrows .now) (sound (c .before .before .before .before .before .before .before .before .before .before .before .before .before .before .before .before .before .before .before .before .before)), sound-arrows (a .boxes .now) (a .rows .now) (a .arrows .now) (sound (c .before .before .before .before .before .before .before .before .before .before .before .before .before .before .before .before .before .before .before .before .before)), rw (c .before .before .before .before .before .before .before .contain .ensures .1) (filled-says (length (a .boxes .now)) (a .rows .now) (a .scratch .now) (room .scratch-room)), room .mode-few), (room .out-room, room .work-room))
-
-same-length-3 : tie.Need-same-length-3
-same-length-3 c = search needs
-
-same-length-4 : tie.Need-same-length-4
-same-length-4 c = search needs
-
-same-length-5 : tie.Need-same-length-5
-same-length-5 c = search needs
 
 returns-4 : tie.Need-returns-4
 returns-4 c = let a = c .before .before .before .before .before .before .before .before .before .before .before .before .before .before .before .before .before .before .before .before .before .before .before .before .before .before .before .before .before .before .before .before .before .before .before .args in
@@ -121,32 +67,7 @@ returns-4 c = let a = c .before .before .before .before .before .before .before 
 
 pub list-spec : {M : Type 1} → statement M
 list-spec =
-    tie.close
-    (tie.spec
-    check-requires
-    enum-known-tables
-    returns
-    enum-told
-    pair-count-requires
-    mode-count-requires
-    check-mode-requires
-    check-scratch-requires
-    or-else-requires
-    check-room-requires
-    or-else-requires-2
-    check-room-requires-2
-    or-else-requires-3
-    enum-known-early
-    same-length
-    returns-2
-    enum-told-2
-    contain-requires
-    enum-known-loops
-    same-length-2
-    returns-3
-    enum-told-3
-    write-list-requires
-    same-length-3
-    same-length-4
-    same-length-5
-    returns-4)
+    tie.close (tie.spec (λ c κs. search needs) (search needs) returns (search needs) pair-count-requires mode-count-requires
+    (λ c κs. search needs) check-scratch-requires (λ c κs. search needs) (λ c κs. search needs) (λ c κs. search needs)
+    (λ c κs. search needs) (λ c κs. search needs) (search needs) (search needs) returns-2 (search needs) contain-requires (search needs)
+    (search needs) returns-3 (search needs) write-list-requires (search needs) (search needs) (search needs) returns-4)

@@ -33,30 +33,15 @@ work-is : (c : tie.After-copy) → let a = c .before .before .before .before .be
 work-is c = let a = c .before .before .before .before .before .before .before .before .before .before .before .before .before .before .before .before .before .before .before .args in
     c .copy .ensures ∙ copied (a .boxes .now) (a .rows .now) (a .arrows .now) (a .mode) (a .out .now) (a .work .now) _ _ _ (tabled-pairs (c .before .before .before .before .before .before .before .before .before .before .before .before .before .before .before .before .before .before .before .pre .0 .1) .0) (c .before .before .before .before .before .before .fill-granted .ensures .1 (c .before .before .before .enum-told .given .1))
 
-no-bytes-requires : tie.Need-no-bytes-requires
-no-bytes-requires c κs = search needs
-
-slice-aggregate-fill-granted : tie.Need-slice-aggregate-fill-granted
-slice-aggregate-fill-granted c = search needs
-
 fill-granted-requires : tie.Need-fill-granted-requires
 fill-granted-requires c κs = (c .before .before .before .before .before .before .before .before .before .before .before .before .pre .0 .1, c .before .before .before .before .before .before .before .before .before .before .before .before .pre .0 .2, bytes-room (c .before))
-
-enum-known-clear : tie.Need-enum-known-clear
-enum-known-clear c = search needs
 
 returns : tie.Need-returns
 returns c = let a = c .before .before .before .before .before .before .before .before .before .before .before .before .before .before .before .before .before .args in
     listing-refused (a .boxes .now) (a .rows .now) (a .arrows .now) (a .mode) (a .out .now) (a .work .now) _ (refused _ _ (sym (c .before .before .before .before .fill-granted .ensures .0) ∙ c .before .clear .given .1))
 
-enum-told : tie.Need-enum-told
-enum-told c = search needs
-
 mul-pairs : tie.Need-mul-pairs
 mul-pairs c = omega (arith, tabled-pairs (c .before .before .before .before .before .before .before .before .before .before .before .before .before .before .before .before .pre .0 .1))
-
-slice-aggregate-copy : tie.Need-slice-aggregate-copy
-slice-aggregate-copy c = search needs
 
 copy-requires : tie.Need-copy-requires
 copy-requires c κs = let e = tabled-pairs (c .before .before .before .before .before .before .before .before .before .before .before .before .before .before .before .before .before .before .pre .0 .1) .0 in
@@ -74,30 +59,11 @@ finish-requires c κs = let a = c .before .before .before .before .before .befor
       ),
     )
 
-same-length : tie.Need-same-length
-same-length c = search needs
-
-same-length-2 : tie.Need-same-length-2
-same-length-2 c = search needs
-
 returns-2 : tie.Need-returns-2
 returns-2 c = let a = c .before .before .before .before .before .before .before .before .before .before .before .before .before .before .before .before .before .before .before .before .before .before .before .before .before .before .before .before .args in
     listing-done (a .boxes .now) (a .rows .now) (a .arrows .now) (a .mode) (a .out .now) (a .work .now) (c .before .before .before .before .before .before .before .before .before .before .before .before .before .before .before .before .before .before .before .before .before .before .before .before .before .before .before .before .pre .1 .1) _ (work-is (c .before .before .before .before .before .before .before .before .before)) (clear (c .before .before .before .before .before .before .before .before .before .before .before .before)) _ _ _ (c .before .before .before .before .finish .ensures .0) _ (tabled-pairs (c .before .before .before .before .before .before .before .before .before .before .before .before .before .before .before .before .before .before .before .before .before .before .before .before .before .before .before .before .pre .0 .1) .0) (c .before .before .before .before .finish .ensures .1)
 
 pub list-pairs-spec : {M : Type 1} → statement M
 list-pairs-spec =
-    tie.close
-    (tie.spec
-    no-bytes-requires
-    slice-aggregate-fill-granted
-    fill-granted-requires
-    enum-known-clear
-    returns
-    enum-told
-    mul-pairs
-    slice-aggregate-copy
-    copy-requires
-    finish-requires
-    same-length
-    same-length-2
-    returns-2)
+    tie.close (tie.spec (λ c κs. search needs) (search needs) fill-granted-requires (search needs) returns (search needs) mul-pairs
+    (search needs) copy-requires finish-requires (search needs) (search needs) returns-2)

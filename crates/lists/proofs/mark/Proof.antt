@@ -98,9 +98,6 @@ loop-again c = let s = c .before .before .before .before .before .before .before
       simp length-set (i .inv .3),
     )
 
-same-length : tie.Need-same-length Inv-loop μ-loop
-same-length c = search needs
-
 returns-2 : tie.Need-returns-2 Inv-loop μ-loop
 returns-2 c = let s = c .before .before .before .before .before .before .before .before .before .before in
     let a = s .args in
@@ -110,20 +107,5 @@ returns-2 c = let s = c .before .before .before .before .before .before .before 
 
 pub mark-spec : {M : Type 1} → statement M
 mark-spec =
-    tie.close
-    (tie.spec
-    Inv-loop
-    μ-loop
-    returns
-    at-requires
-    loop-holds
-    stops-at-requires
-    slice-read-marked-byte
-    marked-byte-requires
-    slice-write-work
-    ahead-requires
-    place-of-requires
-    loop-less
-    loop-again
-    same-length
-    returns-2)
+    tie.close (tie.spec Inv-loop μ-loop returns at-requires loop-holds stops-at-requires slice-read-marked-byte marked-byte-requires
+    slice-write-work ahead-requires place-of-requires loop-less loop-again (search needs) returns-2)

@@ -15,4 +15,5 @@ returns-2 : tie.Need-returns-2
 returns-2 c = rw (c .if1 .left) (sym (add-zero _))
 
 pub marked-byte-spec : {M : Type 1} → statement M
-marked-byte-spec = tie.close (tie.spec add-result returns returns-2)
+marked-byte-spec =
+    tie.close (tie.spec add-result returns returns-2)

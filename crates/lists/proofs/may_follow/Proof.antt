@@ -11,15 +11,6 @@ use Rattle.lists.proofs.StepLaws.{blocked-no, fresh-is, behind-set}
 use Rattle.lists.proofs.may_follow.Statement.{statement}
 use Rattle.lists.proofs.may_follow.Tie as tie
 
-mul-wide : tie.Need-mul-wide
-mul-wide c = search needs
-
-shared-slice-read-wide : tie.Need-shared-slice-read-wide
-shared-slice-read-wide c = search needs
-
-wide-requires : tie.Need-wide-requires
-wide-requires c κs = search needs
-
 at-requires : tie.Need-at-requires
 at-requires c κs = let s = c .before .before .before .before .before .before .before .before .before .before .before .before in
     let a = s .args in
@@ -130,25 +121,6 @@ returns-2 c = let s = c .before .before .before .before .before .before .before 
 
 pub may-follow-spec : {M : Type 1} → statement M
 may-follow-spec =
-    tie.close
-    (tie.spec
-    mul-wide
-    shared-slice-read-wide
-    wide-requires
-    at-requires
-    sign-byte-requires
-    mul-advance
-    slice-read-advance
-    advance-requires
-    mul-blocked
-    slice-write-blocked
-    same-length
-    returns
-    mul-advance-2
-    slice-read-advance-2
-    advance-requires-2
-    mul-fresh
-    slice-write-fresh
-    same-length-2
-    same-length-3
-    returns-2)
+    tie.close (tie.spec (search needs) (search needs) (λ c κs. search needs) at-requires sign-byte-requires mul-advance slice-read-advance
+    advance-requires mul-blocked slice-write-blocked same-length returns mul-advance-2 slice-read-advance-2 advance-requires-2 mul-fresh
+    slice-write-fresh same-length-2 same-length-3 returns-2)

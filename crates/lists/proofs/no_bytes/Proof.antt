@@ -9,4 +9,5 @@ unfolding zeros
 returns c = refl
 
 pub no-bytes-spec : {M : Type 1} → statement M
-no-bytes-spec = tie.close (tie.spec returns)
+no-bytes-spec =
+    tie.close (tie.spec returns)

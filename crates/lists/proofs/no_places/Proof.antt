@@ -9,4 +9,5 @@ unfolding zeros
 returns c = refl
 
 pub no-places-spec : {M : Type 1} → statement M
-no-places-spec = tie.close (tie.spec returns)
+no-places-spec =
+    tie.close (tie.spec returns)

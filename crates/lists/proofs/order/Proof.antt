@@ -18,12 +18,6 @@ abbrev μ-loop : tie.MeasureT-loop
 μ-loop boxes rows scratch users files pairs arrows mode own out₀ work₀ block₀ fresh₀ count₀ out work block fresh count =
     length own - count
 
-no-places-requires : tie.Need-no-places-requires Inv-loop μ-loop
-no-places-requires c κs = search needs
-
-no-places-requires-2 : tie.Need-no-places-requires-2 Inv-loop μ-loop
-no-places-requires-2 c κs = search needs
-
 loop-holds : tie.Need-loop-holds Inv-loop μ-loop
 loop-holds c = let s = c .before .before .before .before .before .before .before .before .before .before .before in
     let a = s .args in
@@ -103,9 +97,6 @@ add-count c = let s = c .before .before .before .before .before .before .before 
     let f = k .ensures .0 .holds l in
     omega (arith, s .pre .0 .2 .few, growing-room (a .boxes .now) (a .rows .now) (a .arrows .now) (a .mode) (a .own .now) (a .out .now) (a .work .now) (s .pre .0 .3) (s .pre .1 .0) (s .pre .1 .1) (omega (arith, s .pre .0 .1 .pairs-are, s .pre .1 .2)) (i .out) (i .work) (i .block) (i .fresh) (i .count) (i .inv .0) (k .result) l f)
 
-wide-requires : tie.Need-wide-requires Inv-loop μ-loop
-wide-requires c κs = search needs
-
 at-requires : tie.Need-at-requires Inv-loop μ-loop
 at-requires c κs = let s = c .before .before .before .before .before .before .before .before .before .before .before .before .before .before .before .before .before .before .before .before .before in
     let a = s .args in
@@ -149,26 +140,6 @@ loop-again c = let s = c .before .before .before .before .before .before .before
 
 pub order-spec : {M : Type 1} → statement M
 order-spec =
-    tie.close
-    (tie.spec
-    Inv-loop
-    μ-loop
-    no-places-requires
-    no-places-requires-2
-    loop-holds
-    slice-aggregate-pick
-    slice-aggregate-pick-2
-    pick-requires
-    same-length
-    same-length-2
-    returns
-    mul-k
-    shared-slice-read-k
-    mul-out
-    slice-write-out
-    add-count
-    wide-requires
-    at-requires
-    mark-requires
-    loop-less
-    loop-again)
+    tie.close (tie.spec Inv-loop μ-loop (λ c κs. search needs) (λ c κs. search needs) loop-holds slice-aggregate-pick
+    slice-aggregate-pick-2 pick-requires same-length same-length-2 returns mul-k shared-slice-read-k mul-out slice-write-out add-count
+    (λ c κs. search needs) at-requires mark-requires loop-less loop-again)

@@ -60,9 +60,6 @@ add-t c = let s = c .before .before .before .before .before .before .before .bef
     let i = c .before .before .before .before .before .before .before .before .before .loop in
     omega (arith, s .pre .0 .2 .few, i .inv .0, c .before .before .before .before .before .before .before .before .loop-test)
 
-loop-less : tie.Need-loop-less Inv-loop μ-loop
-loop-less c = search needs
-
 loop-again : tie.Need-loop-again Inv-loop μ-loop
 loop-again c = let s = c .before .before .before .before .before .before .before .before .before .before .before .before .before .before .before .before .before .before .before .before in
     let a = s .args in
@@ -76,12 +73,6 @@ loop-again c = let s = c .before .before .before .before .before .before .before
       m .kept .1 .1 .1 .1 .1 .1 .1 .1 .1 .1 .0 ∙ i .inv .5,
     )
 
-same-length-3 : tie.Need-same-length-3 Inv-loop μ-loop
-same-length-3 c = search needs
-
-same-length-4 : tie.Need-same-length-4 Inv-loop μ-loop
-same-length-4 c = search needs
-
 returns-2 : tie.Need-returns-2 Inv-loop μ-loop
 returns-2 c = let s = c .before .before .before .before .before .before .before .before .before .before .before .before in
     let a = s .args in
@@ -90,18 +81,5 @@ returns-2 c = let s = c .before .before .before .before .before .before .before 
 
 pub pick-spec : {M : Type 1} → statement M
 pick-spec =
-    tie.close
-    (tie.spec
-    Inv-loop
-    μ-loop
-    loop-holds
-    may-follow-requires
-    same-length
-    same-length-2
-    returns
-    add-t
-    loop-less
-    loop-again
-    same-length-3
-    same-length-4
-    returns-2)
+    tie.close (tie.spec Inv-loop μ-loop loop-holds may-follow-requires same-length same-length-2 returns add-t (search needs) loop-again
+    (search needs) (search needs) returns-2)

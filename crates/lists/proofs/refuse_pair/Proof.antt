@@ -5,21 +5,6 @@ use Rattle.tables.specs.Search.{given}
 use Rattle.lists.proofs.refuse_pair.Statement.{statement}
 use Rattle.lists.proofs.refuse_pair.Tie as tie
 
-pair-at-requires : tie.Need-pair-at-requires
-pair-at-requires c κs = search needs
-
-wide-requires : tie.Need-wide-requires
-wide-requires c κs = search needs
-
-wide-requires-2 : tie.Need-wide-requires-2
-wide-requires-2 c κs = search needs
-
-wide-requires-3 : tie.Need-wide-requires-3
-wide-requires-3 c κs = search needs
-
-refused-if-requires : tie.Need-refused-if-requires
-refused-if-requires c κs = search needs
-
 returns : tie.Need-returns
 unfolding given
 returns c = let at = c .before .before .before .before .pair-at .ensures in
@@ -27,11 +12,5 @@ returns c = let at = c .before .before .before .before .pair-at .ensures in
 
 pub refuse-pair-spec : {M : Type 1} → statement M
 refuse-pair-spec =
-    tie.close
-    (tie.spec
-    pair-at-requires
-    wide-requires
-    wide-requires-2
-    wide-requires-3
-    refused-if-requires
+    tie.close (tie.spec (λ c κs. search needs) (λ c κs. search needs) (λ c κs. search needs) (λ c κs. search needs) (λ c κs. search needs)
     returns)

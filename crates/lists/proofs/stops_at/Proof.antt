@@ -11,9 +11,6 @@ use Rattle.lists.proofs.PlaceLaws.{place-there, user-read, file-read, u
 use Rattle.lists.proofs.stops_at.Statement.{statement}
 use Rattle.lists.proofs.stops_at.Tie as tie
 
-shared-slice-read-byte : tie.Need-shared-slice-read-byte
-shared-slice-read-byte c = search needs
-
 returns : tie.Need-returns
 returns c = let s = c .before .before .before .before .before .before .before .before in
     let a = s .args in
@@ -69,14 +66,5 @@ returns-3 c = let s = c .before .before .before .before .before .before .before 
 
 pub stops-at-spec : {M : Type 1} → statement M
 stops-at-spec =
-    tie.close
-    (tie.spec
-    shared-slice-read-byte
-    returns
-    returns-2
-    mul-does-reach
-    shared-slice-read-does-reach
-    mul-does-reach-2
-    shared-slice-read-does-reach-2
-    does-reach-requires
-    returns-3)
+    tie.close (tie.spec (search needs) returns returns-2 mul-does-reach shared-slice-read-does-reach mul-does-reach-2
+    shared-slice-read-does-reach-2 does-reach-requires returns-3)

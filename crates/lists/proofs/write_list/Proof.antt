@@ -7,36 +7,6 @@ use Rattle.lists.proofs.ReadyLaws.{drawn-is}
 use Rattle.lists.proofs.write_list.Statement.{statement}
 use Rattle.lists.proofs.write_list.Tie as tie
 
-no-boxes-requires : tie.Need-no-boxes-requires
-no-boxes-requires c κs = search needs
-
-no-boxes-requires-2 : tie.Need-no-boxes-requires-2
-no-boxes-requires-2 c κs = search needs
-
-no-words-requires : tie.Need-no-words-requires
-no-words-requires c κs = search needs
-
-no-numbers-requires : tie.Need-no-numbers-requires
-no-numbers-requires c κs = search needs
-
-slice-aggregate-tabulate : tie.Need-slice-aggregate-tabulate
-slice-aggregate-tabulate c = search needs
-
-slice-aggregate-tabulate-2 : tie.Need-slice-aggregate-tabulate-2
-slice-aggregate-tabulate-2 c = search needs
-
-slice-aggregate-tabulate-3 : tie.Need-slice-aggregate-tabulate-3
-slice-aggregate-tabulate-3 c = search needs
-
-tabulate-requires : tie.Need-tabulate-requires
-tabulate-requires c κs = search needs
-
-slice-aggregate-mode-arrows : tie.Need-slice-aggregate-mode-arrows
-slice-aggregate-mode-arrows c = search needs
-
-mode-arrows-requires : tie.Need-mode-arrows-requires
-mode-arrows-requires c κs = search needs
-
 array-share-prefix-users : tie.Need-array-share-prefix-users
 array-share-prefix-users c = users-within (c .before .before .before .before .before .before .before .before .before .before .before .before .before .before .before .before .before .before .before .before .pre .0 .0) (c .before .before .before .before .before .before .tabulate .ensures) (c .before .before .before .before .before .before .before .before .before .before .before .before .before .no-boxes .ensures)
 
@@ -48,9 +18,6 @@ array-share-prefix-files c = files-within (c .before .before .before .before .be
 
 slice-aggregate-list-pairs-2 : tie.Need-slice-aggregate-list-pairs-2
 slice-aggregate-list-pairs-2 c = files-length (c .before .before .before .before .before .before .before .before .before .before .before .before .before .before .before .before .before .before .before .before .before .before .pre .0 .0) (c .before .before .before .before .before .before .before .before .tabulate .ensures)
-
-slice-aggregate-list-pairs-3 : tie.Need-slice-aggregate-list-pairs-3
-slice-aggregate-list-pairs-3 c = search needs
 
 array-share-prefix-own : tie.Need-array-share-prefix-own
 array-share-prefix-own c = mode-within _ _ _ _ _ (c .before .before .before .before .before .before .before .before .before .before .before .before .before .before .before .before .before .before .before .before .before .before .before .pre .0 .1 .few-arrows) (c .before .before .before .before .before .before .before .before .before .before .before .before .before .no-numbers .ensures) (c .before .before .before .before .mode-arrows .ensures)
@@ -65,37 +32,9 @@ list-pairs-requires c κs = let p = c .before .before .before .before .before .b
       (rw own (p .1 .0), p .1 .1),
     )
 
-same-length : tie.Need-same-length
-same-length c = search needs
-
-same-length-2 : tie.Need-same-length-2
-same-length-2 c = search needs
-
-returns : tie.Need-returns
-returns c = search needs
-
 pub write-list-spec : {M : Type 1} → statement M
 write-list-spec =
-    tie.close
-    (tie.spec
-    no-boxes-requires
-    no-boxes-requires-2
-    no-words-requires
-    no-numbers-requires
-    slice-aggregate-tabulate
-    slice-aggregate-tabulate-2
-    slice-aggregate-tabulate-3
-    tabulate-requires
-    slice-aggregate-mode-arrows
-    mode-arrows-requires
-    array-share-prefix-users
-    slice-aggregate-list-pairs
-    array-share-prefix-files
-    slice-aggregate-list-pairs-2
-    slice-aggregate-list-pairs-3
-    array-share-prefix-own
-    slice-aggregate-list-pairs-4
-    list-pairs-requires
-    same-length
-    same-length-2
-    returns)
+    tie.close (tie.spec (λ c κs. search needs) (λ c κs. search needs) (λ c κs. search needs) (λ c κs. search needs) (search needs)
+    (search needs) (search needs) (λ c κs. search needs) (search needs) (λ c κs. search needs) array-share-prefix-users
+    slice-aggregate-list-pairs array-share-prefix-files slice-aggregate-list-pairs-2 (search needs) array-share-prefix-own
+    slice-aggregate-list-pairs-4 list-pairs-requires (search needs) (search needs) (λ c. search needs))
