@@ -10,7 +10,8 @@
  *   never followed. Arrays lent for writing must overlap no other array of the same call.
  *   Apart from that every length and every content is allowed: faults are refused, not
  *   undefined. A call keeps no pointer and no state, so calls on different memory may run at
- *   the same time.
+ *   the same time. Measured: 16 KiB of stack suffice for an entry and for reading, 64 KiB for
+ *   judge and matrix, 96 KiB for the list.
  *
  * A picture is three tables, never written to by the four calls on tables:
  *   boxes   one byte each: 0 user side, 1 file side. A box's number is its place.

@@ -49,14 +49,14 @@ unfoldable pub recordsEnd : Head → ℕ
 recordsEnd head = 8 + recordSize (head .kind) * (head .count)
 
 -- record j of a block of each kind
-unfoldable pub boxAt : List ℕ → ℕ → BoxRecord
-boxAt block j = record { side = getD block (8 + j) 0 }
+unfoldable pub boxRecord : List ℕ → ℕ → BoxRecord
+boxRecord block j = record { side = getD block (8 + j) 0 }
 
-unfoldable pub containmentAt : List ℕ → ℕ → ContainmentRecord
-containmentAt block j = record { outer = number16 block (8 + 4 * j); inner = number16 block (10 + 4 * j) }
+unfoldable pub containmentRecord : List ℕ → ℕ → ContainmentRecord
+containmentRecord block j = record { outer = number16 block (8 + 4 * j); inner = number16 block (10 + 4 * j) }
 
-unfoldable pub arrowAt : List ℕ → ℕ → ArrowRecord
-arrowAt block j = record {
+unfoldable pub arrowRecord : List ℕ → ℕ → ArrowRecord
+arrowRecord block j = record {
   tail = number16 block (8 + 6 * j);
   head = number16 block (10 + 6 * j);
   mode = getD block (12 + 6 * j) 0;
@@ -65,14 +65,14 @@ arrowAt block j = record {
 
 -- a record as the numbers of its table's row
 unfoldable pub boxRow : List ℕ → ℕ → List ℕ
-boxRow block j = boxAt block j .side ∷ []
+boxRow block j = boxRecord block j .side ∷ []
 
 unfoldable pub containmentRow : List ℕ → ℕ → List ℕ
-containmentRow block j = containmentAt block j .outer ∷ containmentAt block j .inner ∷ []
+containmentRow block j = containmentRecord block j .outer ∷ containmentRecord block j .inner ∷ []
 
 unfoldable pub arrowRow : List ℕ → ℕ → List ℕ
 arrowRow block j =
-    arrowAt block j .tail ∷ arrowAt block j .head ∷ arrowAt block j .mode ∷ arrowAt block j .sign ∷ []
+    arrowRecord block j .tail ∷ arrowRecord block j .head ∷ arrowRecord block j .mode ∷ arrowRecord block j .sign ∷ []
 
 -- how many records of a kind a block has
 unfoldable pub countOf : ℕ → Head → ℕ

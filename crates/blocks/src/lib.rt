@@ -7,7 +7,7 @@ ghost use lib.Seq.{sets};
 ghost use Rattle.tables.specs.Buffers.{written};
 ghost use Rattle.tables.specs.Refusals.{verdictOf};
 ghost use Rattle.blocks.specs.Fnv.{fnvStart, fnvStep, fnvFold, fnv1a};
-ghost use Rattle.blocks.specs.Blocks.{number16, number32, headOf, byKind, capacity, recordsEnd, boxAt, containmentAt, arrowAt, boxRow, containmentRow, arrowRow, countOf, joined, boxesSaid, containmentsSaid, arrowsSaid, wrongHead, allZero, wrongFiller, blockFault};
+ghost use Rattle.blocks.specs.Blocks.{number16, number32, headOf, byKind, capacity, recordsEnd, boxRecord, containmentRecord, arrowRecord, boxRow, containmentRow, arrowRow, countOf, joined, boxesSaid, containmentsSaid, arrowsSaid, wrongHead, allZero, wrongFiller, blockFault};
 ghost use Rattle.blocks.specs.Files.{blockAt, blockCount, kindBefore, blocksFault, lengthFault, boxesOf, containmentsOf, arrowsOf};
 ghost use Rattle.blocks.specs.Reader.{seenAt, nextBlock};
 ghost use Rattle.blocks.specs.Reads.{countsOf, tablesFault, answerOf, ReadDone};
@@ -120,7 +120,7 @@ impl BoxRecord {
     // Record j of a block.
     fn at(file: &[u8], block: usize, j: usize) -> Self
         requires { ⌜ (block < blockCount (now file)) × (j < 500) ⌝ }
-        ensures { λ r. ⌜ r ≡ boxAt (blockAt (now (file .entry)) block) j ⌝ }
+        ensures { λ r. ⌜ r ≡ boxRecord (blockAt (now (file .entry)) block) j ⌝ }
     {
         Self {
             side: byte_of(file, block, 8 + j),
@@ -145,7 +145,7 @@ impl ContainmentRecord {
     // Record j of a block.
     fn at(file: &[u8], block: usize, j: usize) -> Self
         requires { ⌜ (block < blockCount (now file)) × (j < 125) ⌝ }
-        ensures { λ r. ⌜ r ≡ containmentAt (blockAt (now (file .entry)) block) j ⌝ }
+        ensures { λ r. ⌜ r ≡ containmentRecord (blockAt (now (file .entry)) block) j ⌝ }
     {
         Self {
             outer: number_of(file, block, 8 + Self::SIZE * j),
@@ -173,7 +173,7 @@ impl ArrowRecord {
     // Record j of a block.
     fn at(file: &[u8], block: usize, j: usize) -> Self
         requires { ⌜ (block < blockCount (now file)) × (j < 83) ⌝ }
-        ensures { λ r. ⌜ r ≡ arrowAt (blockAt (now (file .entry)) block) j ⌝ }
+        ensures { λ r. ⌜ r ≡ arrowRecord (blockAt (now (file .entry)) block) j ⌝ }
     {
         Self {
             tail: number_of(file, block, 8 + Self::SIZE * j),

@@ -1,11 +1,11 @@
 -- A record of one byte. Assumes nothing.
 use borrow.Author.Needs.{needs}
-use Rattle.blocks.specs.Blocks.{boxAt}
+use Rattle.blocks.specs.Blocks.{boxRecord}
 use Rattle.blocks.proofs.BoxRecord.at.Statement.{statement}
 use Rattle.blocks.proofs.BoxRecord.at.Tie as tie
 
 returns : tie.Need-returns
-unfolding boxAt
+unfolding boxRecord
 returns c = rw (c .byte-of .ensures)
 
 pub at-spec : {M : Type 1} → statement M

@@ -1,11 +1,11 @@
 -- A record of two numbers. Assumes nothing.
 use borrow.Author.Needs.{needs}
-use Rattle.blocks.specs.Blocks.{containmentAt}
+use Rattle.blocks.specs.Blocks.{containmentRecord}
 use Rattle.blocks.proofs.ContainmentRecord.at.Statement.{statement}
 use Rattle.blocks.proofs.ContainmentRecord.at.Tie as tie
 
 returns : tie.Need-returns
-unfolding containmentAt
+unfolding containmentRecord
 returns c = rw (c .number-of2 .ensures, c .before .number-of .ensures)
 
 pub at-spec : {M : Type 1} → statement M
