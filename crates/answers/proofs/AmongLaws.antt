@@ -16,14 +16,9 @@ use Rattle.tables.proofs.SearchLaws.{every-at, every-is}
 use Rattle.tables.proofs.BufferLaws.{select-most}
 use Rattle.tables.proofs.SelectLaws.{select-found, select-has, selected-lowest, selected-nothing}
 use Rattle.answers.specs.Meaning.{positive, negative, reaches, overrides, hits, certifies, settle, answer}
-use Rattle.answers.specs.Among.{hasMode, modeArrows, reachesBy, reaching, overridesAll, wins, Numbers, NoneBefore, FirstAt}
+use Rattle.answers.specs.Among.{hasMode, modeArrows, reaching, overridesAll, wins, Numbers, NoneBefore, FirstAt}
 use Rattle.answers.specs.declared.Entry.the-variants.{Granted, Denied, Default, Unclear}
-use Rattle.answers.proofs.Keep.{keep, keep-most, select-keep}
 use Rattle.answers.proofs.AnswerLaws.{overrides-asym, certifies-hits, certifies-over, certifies-is}
-
--- arrow k has sign s and reaches the pair
-unfoldable pub reachesAt : List ℕ → List ℕ → ℕ → ℕ → ℕ → ℕ → Bool
-reachesAt rows arrows s u f k = reachesBy rows s u f (arrowAt arrows k)
 
 pub mode-most : (arrows : List ℕ) (m : ℕ) → length (modeArrows arrows m) ≤ arrowCount arrows
 unfolding modeArrows
@@ -34,14 +29,9 @@ unfolding modeArrows
 mode-numbers arrows m i h = select-found _ (arrowCount arrows) i h .0
 
 module _ (rows arrows : List ℕ) where
-  -- the arrows that reach a pair, out of the mode's arrows
-  pub reaching-keep : (m s u f : ℕ) → reaching rows arrows m s u f ≡ keep (reachesAt rows arrows s u f) (modeArrows arrows m)
-  unfolding reaching hits hasMode modeArrows reachesAt reachesBy
-  reaching-keep m s u f =
-      select-keep (λ k. eqb (arrowAt arrows k .mode) m) (λ k. eqb (arrowAt arrows k .sign) s && reaches rows (arrowAt arrows k) u f) (arrowCount arrows)
-
-  pub reaching-most : (m s u f : ℕ) → length (reaching rows arrows m s u f) ≤ length (modeArrows arrows m)
-  reaching-most m s u f = rw (reaching-keep m s u f) (keep-most (reachesAt rows arrows s u f) (modeArrows arrows m))
+  pub reaching-most : (m s u f : ℕ) → length (reaching rows arrows m s u f) ≤ arrowCount arrows
+  unfolding reaching
+  reaching-most m s u f = select-most (hits rows arrows m s u f) (arrowCount arrows)
 
   pub reaching-numbers : (m s u f : ℕ) → Numbers arrows (reaching rows arrows m s u f)
   unfolding reaching

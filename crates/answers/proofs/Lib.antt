@@ -1,7 +1,6 @@
 -- Laws for the proofs of this crate and of the crates above it.
 pub mod AnswerLaws
 pub mod PairLaws
-mod Keep
 pub mod AmongLaws
 pub mod ReadyLaws
 pub mod TableLaws

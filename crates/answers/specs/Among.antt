@@ -20,10 +20,6 @@ hasMode arrows m k = eqb (arrowAt arrows k .mode) m
 unfoldable pub modeArrows : List ℕ → ℕ → List ℕ
 modeArrows arrows m = select (hasMode arrows m) (arrowCount arrows)
 
--- an arrow has sign s and reaches the pair
-unfoldable pub reachesBy : List ℕ → ℕ → ℕ → ℕ → Arrow → Bool
-reachesBy rows s u f a = eqb (a .sign) s && reaches rows a u f
-
 -- the arrows of mode m and sign s that reach the pair, rising
 unfoldable pub reaching : List ℕ → List ℕ → ℕ → ℕ → ℕ → ℕ → List ℕ
 reaching rows arrows m s u f = select (hits rows arrows m s u f) (arrowCount arrows)

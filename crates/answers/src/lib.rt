@@ -17,7 +17,7 @@ ghost use Rattle.answers.specs.Meaning.{positive, negative, reaches, nes
 ghost use Rattle.answers.specs.Pairs.{userAt, fileAt, answerAt, matrixBytes, matrixNumbers, unclearFault, anyUnclear};
 ghost use Rattle.answers.specs.Calls.{askedFault, replyOf, entryEarly, entryFault, judgeFault, matrixEarly, matrixFault, bytesAfter, numbersAfter};
 ghost use Rattle.sets.specs.Sets.{has, overAll};
-ghost use Rattle.answers.specs.Among.{modeArrows, reachesBy, reaching, overridesAll, Within, Numbers, FirstAt, wins, NoneBefore};
+ghost use Rattle.answers.specs.Among.{modeArrows, reaching, overridesAll, Within, Numbers, FirstAt, wins, NoneBefore};
 ghost use Rattle.answers.specs.Table.{beats, signed, member, setWord, setWords, setCount, Source, Tabled, Tabulates};
 use containment::check_scratch;
 use containment::contain;
@@ -25,6 +25,7 @@ use containment::does_contain;
 use containment::prepare;
 use sets::first_over;
 use sets::next_in;
+use sets::push;
 use sets::share;
 use tables::Arrow;
 use tables::BoxRow;
@@ -141,19 +142,23 @@ fn does_override(n: usize, rows: &[u16], scratch: &[u8], p: Arrow, q: Arrow) -> 
     is_nested(n, rows, scratch, q.tail, p.tail) || is_nested(n, rows, scratch, q.head, p.head)
 }
 
-// Whether an arrow has the sign and reaches the pair.
-fn does_reach_by(
+// Whether an arrow has the mode and the sign and reaches the pair.
+fn does_hit(
     n: usize,
     rows: &[u16],
     scratch: &[u8],
-    sign: u16,
     a: Arrow,
+    mode: u16,
+    sign: u16,
     u: u16,
     f: u16,
 ) -> bool
     requires { ⌜ Says n (now rows) (now scratch) × (a .tail < n) × (a .head < n) × (u < n) × (f < n) ⌝ }
-    ensures { λ r. ⌜ r ≡ reachesBy (now (rows .entry)) sign u f a ⌝ }
+    ensures { λ r. ⌜ r ≡ (eqb (a .mode) mode && (eqb (a .sign) sign && reaches (now (rows .entry)) a u f)) ⌝ }
 {
+    if a.mode != mode {
+        return false;
+    }
     a.sign == sign && does_reach(n, rows, scratch, a, u, f)
 }
 
@@ -165,7 +170,7 @@ fn arrow_at(arrows: &[u16], k: u16) -> Arrow
     Arrow::at(arrows, wide(k))
 }
 
-// Writes the numbers of the mode's arrows, rising, and answers how many. Done once for all pairs of a mode.
+// Writes the numbers of the mode's arrows, rising, and answers how many.
 pub fn mode_arrows(arrows: &[u16], mode: u16, out: &mut [u16]) -> usize
     requires { ⌜ (arrowCount (now arrows) ≤ 512) × (512 ≤ length (now out)) ⌝ }
     ensures { λ r. ⌜ (r ≡ length (modeArrows (now (arrows .entry)) mode)) × (now (out .exit) ≡ written (modeArrows (now (arrows .entry)) mode) (now (out .entry))) ⌝ }
@@ -181,27 +186,26 @@ pub fn mode_arrows(arrows: &[u16], mode: u16, out: &mut [u16]) -> usize
     count
 }
 
-// Writes those of the mode's arrows that have the sign and reach the pair, and answers how many.
+// Writes the numbers of the mode's arrows that have the sign and reach the pair, rising, and answers how many.
 fn gather(
     n: usize,
     rows: &[u16],
     scratch: &[u8],
     arrows: &[u16],
     mode: u16,
-    own: &[u16],
     sign: u16,
     u: u16,
     f: u16,
     out: &mut [u16],
 ) -> usize
-    requires { ⌜ Says n (now rows) (now scratch) × Within n (now arrows) × (now own ≡ modeArrows (now arrows) mode) × (u < n) × (f < n) × (length (now own) ≤ length (now out)) ⌝ }
+    requires { ⌜ Says n (now rows) (now scratch) × Within n (now arrows) × (u < n) × (f < n) × (arrowCount (now arrows) ≤ 512) × (512 ≤ length (now out)) ⌝ }
     ensures { λ r. ⌜ (r ≡ length (reaching (now (rows .entry)) (now (arrows .entry)) mode sign u f)) × (now (out .exit) ≡ written (reaching (now (rows .entry)) (now (arrows .entry)) mode sign u f) (now (out .entry))) ⌝ }
 {
     let mut count = 0;
-    for t in 0..own.len() {
-        let k = own[t];
-        if does_reach_by(n, rows, scratch, sign, arrow_at(arrows, k), u, f) {
-            out[count] = k;
+    for k in 0..arrows.len() / 4 {
+        let a = Arrow::at(arrows, k);
+        if does_hit(n, rows, scratch, a, mode, sign, u, f) {
+            out[count] = narrow(k);
             count += 1;
         }
     }
@@ -314,28 +318,6 @@ pub fn no_numbers() -> [u16; 512]
     [0u16; 512]
 }
 
-// The answer for a pair, by the numbers of the mode's arrows. The two buffers are for the positive and the negative arrows that
-// reach the pair, so that a caller with many pairs lends the same ones to each.
-fn answer_among(
-    n: usize,
-    rows: &[u16],
-    scratch: &[u8],
-    arrows: &[u16],
-    mode: u16,
-    own: &[u16],
-    u: u16,
-    f: u16,
-    ps: &mut [u16],
-    ns: &mut [u16],
-) -> Entry
-    requires { ⌜ Says n (now rows) (now scratch) × Within n (now arrows) × (now own ≡ modeArrows (now arrows) mode) × (u < n) × (f < n) × (length (now own) ≤ length (now ps)) × (length (now own) ≤ length (now ns)) ⌝ }
-    ensures { λ r. ⌜ (r ≡ answer (now (rows .entry)) (now (arrows .entry)) mode u f) × (now (ps .exit) ≡ written (reaching (now (rows .entry)) (now (arrows .entry)) mode positive u f) (now (ps .entry))) × (now (ns .exit) ≡ written (reaching (now (rows .entry)) (now (arrows .entry)) mode negative u f) (now (ns .entry))) ⌝ }
-{
-    let p = gather(n, rows, scratch, arrows, mode, own, 1, u, f, ps);
-    let q = gather(n, rows, scratch, arrows, mode, own, 0, u, f, ns);
-    settle(n, rows, scratch, arrows, &ps[..p], &ns[..q])
-}
-
 // The answer for a pair of one mode.
 pub fn answer_pair(
     n: usize,
@@ -349,22 +331,11 @@ pub fn answer_pair(
     requires { ⌜ Says n (now rows) (now scratch) × Within n (now arrows) × (arrowCount (now arrows) ≤ 512) × (u < n) × (f < n) ⌝ }
     ensures { λ r. ⌜ r ≡ answer (now (rows .entry)) (now (arrows .entry)) mode u f ⌝ }
 {
-    let mut own = no_numbers();
     let mut ps = no_numbers();
     let mut ns = no_numbers();
-    let m = mode_arrows(arrows, mode, &mut own);
-    answer_among(
-        n,
-        rows,
-        scratch,
-        arrows,
-        mode,
-        &own[..m],
-        u,
-        f,
-        &mut ps,
-        &mut ns,
-    )
+    let p = gather(n, rows, scratch, arrows, mode, 1, u, f, &mut ps);
+    let q = gather(n, rows, scratch, arrows, mode, 0, u, f, &mut ns);
+    settle(n, rows, scratch, arrows, &ps[..p], &ns[..q])
 }
 
 // ---- All pairs of an atomic user and an atomic file, by place: rows are the users, columns the files.
@@ -455,17 +426,6 @@ fn is_member(
         return is_around(n, rows, scratch, a.head, files[r - of_files]);
     }
     has_sign(a, r - of_modes)
-}
-
-// One more bit below the others.
-fn push(w: u64, t: bool) -> u64
-    requires { ⌜ w < 2 ^ 63 ⌝ }
-    ensures { λ r. ⌜ r ≡ w * 2 + bit t ⌝ }
-{
-    if t {
-        return w * 2 + 1;
-    }
-    w * 2
 }
 
 // Word i of the table, from its highest bit down.

@@ -1,10 +1,10 @@
 // Sets of numbers below 512 as eight words of 64 bits, and tables of such sets. Each step takes 64 numbers at a time.
 ghost use mathlib.Core.Path.{_≡_};
 ghost use mathlib.Core.Option.{some};
-ghost use Prim.Native.Nat.{_+_, _*_, _<_, _≤_};
+ghost use Prim.Native.Nat.{_+_, _*_, _^_, _<_, _≤_};
 ghost use lib.Bits.{bitAnd};
 ghost use lib.ListN.{length};
-ghost use Rattle.tables.specs.Search.{lowest};
+ghost use Rattle.tables.specs.Search.{bit, lowest};
 ghost use Rattle.sets.specs.Sets.{bitAt, wordIn, has, shared, inside, overAll, NextAt};
 
 // Word q of set r.
@@ -91,4 +91,15 @@ pub fn first_over(table: &[u64], own: &[u64], opposite: &[u64]) -> usize
         k = next_in(own, k + 1);
     }
     k
+}
+
+// A word with one more bit below its others.
+pub fn push(w: u64, t: bool) -> u64
+    requires { ⌜ w < 2 ^ 63 ⌝ }
+    ensures { λ r. ⌜ r ≡ w * 2 + bit t ⌝ }
+{
+    if t {
+        return w * 2 + 1;
+    }
+    w * 2
 }

@@ -1,9 +1,9 @@
--- `answers::push` meets its contract: the bits go up by one place, and the new one is the lowest. Assumes nothing.
+-- `sets::push` meets its contract: the bits go up by one place, and the new one is the lowest. Assumes nothing.
 use native.Mathlib.Nat.{add-zero}
 use borrow.Author.Needs.{needs}
 use Rattle.tables.specs.Search.{bit}
-use Rattle.answers.proofs.push.Statement.{statement}
-use Rattle.answers.proofs.push.Tie as tie
+use Rattle.sets.proofs.push.Statement.{statement}
+use Rattle.sets.proofs.push.Tie as tie
 
 returns : tie.Need-returns
 unfolding bit
