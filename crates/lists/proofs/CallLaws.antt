@@ -10,7 +10,6 @@ use Rattle.tables.specs.Atoms.{pairCount}
 use Rattle.tables.specs.declared.Refusal.{Refusal}
 use Rattle.answers.specs.Among.{modeArrows}
 use Rattle.answers.specs.Pairs.{unclearFault}
-use Rattle.answers.specs.Calls.{unlessRefused}
 use Rattle.lists.specs.Greedy.{orderFault}
 use Rattle.lists.specs.Calls.{blanks, Answered, Listing}
 use Rattle.lists.specs.Steps.{leftIn, workOf, Ordered}

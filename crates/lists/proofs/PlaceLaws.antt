@@ -6,9 +6,8 @@ use Prim.Native.Nat.{ℕ, _+_, _*_, _-_, _/_, _%_, _<_, _≤_}
 use native.Mathlib.Nat.{add-zero, mul-le-mul-right, mul-le-mul}
 use native.Mathlib.Omega.{arith}
 use lib.Dec.{T}
-use lib.ListN.{length, getD}
+use lib.ListN.{length}
 use Rattle.tables.specs.Rows.{user, file, arrowCount}
-use Rattle.tables.specs.Atoms.{pairCount}
 use Rattle.tables.proofs.Tests.{and-T}
 use Rattle.tables.proofs.AtomPlaces.{atoms-most}
 use Rattle.containment.proofs.Index.{at-div, at-mod, place, next-row}

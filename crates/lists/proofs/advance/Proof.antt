@@ -2,7 +2,6 @@
 use mathlib.Core.Path.{_≡_, refl, sym, _∙_}
 use Prim.Native.Nat.{_-_, _≤_}
 use native.Mathlib.Omega.{arith}
-use borrow.Author.Needs.{needs}
 use Rattle.tables.proofs.Tests.{true-T, false-not}
 use Rattle.lists.specs.Steps.{cellAt, touches, NoStop}
 use Rattle.lists.proofs.StepLaws.{no-stop-ahead}

@@ -1,8 +1,6 @@
 -- `lists::ahead` meets its contract: the places that are passed over are in a row whose user the arrow does not reach. Assumes nothing.
 use mathlib.Core.Path.{sym, _∙_}
 use native.Mathlib.Omega.{arith}
-use borrow.Author.Needs.{needs}
-use Rattle.lists.specs.Steps.{touches}
 use Rattle.lists.proofs.PlaceLaws.{few-pairs, row-in, col-in, ahead-next, ahead-row}
 use Rattle.lists.proofs.ahead.Statement.{statement}
 use Rattle.lists.proofs.ahead.Tie as tie

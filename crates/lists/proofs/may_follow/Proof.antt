@@ -1,5 +1,5 @@
 -- `lists::may_follow` meets its contract: the two pointers move on to the first place that stops the arrow. Assumes nothing.
-use mathlib.Core.Path.{_≡_, sym, ap, _∙_}
+use mathlib.Core.Path.{sym}
 use native.Mathlib.Omega.{arith}
 use Prim.Native.Nat.{_<_}
 use borrow.Author.Needs.{needs}

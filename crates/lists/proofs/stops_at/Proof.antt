@@ -1,8 +1,6 @@
 -- `lists::stops_at` meets its contract: the byte is tested, then whether the arrow is in both sets of the pair. Assumes nothing.
 use mathlib.Core.Path.{sym, _∙_}
 use native.Mathlib.Omega.{arith}
-use borrow.Author.Needs.{needs}
-use Rattle.lists.specs.Steps.{touches}
 use Rattle.lists.proofs.StepLaws.{stop-reached, stop-skipped, stop-touches}
 use Rattle.lists.proofs.PlaceLaws.{row-in, col-in, touched, row-passed}
 use Rattle.lists.proofs.stops_at.Statement.{statement}
