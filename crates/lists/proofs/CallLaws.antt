@@ -10,7 +10,6 @@ use Rattle.tables.specs.Atoms.{pairCount}
 use Rattle.tables.specs.declared.Refusal.{Refusal}
 use Rattle.answers.specs.Among.{modeArrows}
 use Rattle.answers.specs.Pairs.{unclearFault}
-use Rattle.answers.specs.Calls.{unlessRefused}
 use Rattle.lists.specs.Greedy.{orderFault}
 use Rattle.lists.specs.Calls.{blanks, Answered, Listing}
 use Rattle.lists.specs.Steps.{leftIn, workOf, Ordered}
@@ -87,13 +86,13 @@ module _ (boxes rows arrows : List ℕ) (m : ℕ) (out work : List ℕ) where
 
     pub listing-done : unclearFault boxes rows arrows m ≡ none → (r : Listed) (out′ work′ : List ℕ)
         → Answered boxes rows arrows m none (orderFault boxes rows arrows m) r out out′
-        → (n : ℕ) → n ≡ pairCount boxes rows → work′ ≡ written (zeros n) work₁ → Listing boxes rows arrows m out work r out′ work′
-    listing-done u r out′ work′ a n p z = record {
+        → work′ ≡ written (zeros (pairCount boxes rows)) work₁ → Listing boxes rows arrows m out work r out′ work′
+    listing-done u r out′ work′ a z = record {
       answered = rw u a;
       work-after =
           rw u
           (z
-          ∙ rw (p, e)
+          ∙ rw e
           (written-over (zeros (pairCount boxes rows)) (workOf boxes rows arrows m []) work
           (omega (arith, work-length boxes rows arrows m [], zeros-length (pairCount boxes rows))) (omega (arith, zeros-length (pairCount boxes rows)))));
     }

@@ -13,14 +13,13 @@ use Rattle.tables.specs.Search.{every, select, bit}
 use Rattle.tables.specs.Buffers.{build, written, zeros}
 use Rattle.tables.specs.Rows.{arrowCount, arrowAt}
 use Rattle.tables.specs.Atoms.{pairCount}
-use Rattle.tables.specs.declared.Arrow.{Arrow}
 use Rattle.answers.specs.Meaning.{positive, negative, isGranted, isUnclear}
 use Rattle.answers.specs.Pairs.{answerAt}
 use Rattle.answers.specs.Among.{modeArrows}
 use Rattle.answers.specs.declared.Entry.{Entry}
 use Rattle.lists.specs.Order.{anyOf, gives, ofMode, meets, reached, granted, right}
 use Rattle.lists.specs.Greedy.{new, fits, addable, leftBy}
-use Rattle.lists.specs.Steps.{touches, stops, follows, followsAt, marked, Behind, leftIn, Clear, workOf}
+use Rattle.lists.specs.Steps.{stops, follows, followsAt, marked, Behind, leftIn, Clear, workOf}
 use Rattle.tables.proofs.Tests.{and-T, T-and, T-true}
 use Rattle.tables.proofs.BufferLaws.{written-length, written-at, written-rest, build-length, build-at, zeros-length, zeros-at}
 use Rattle.tables.proofs.SelectLaws.{select-found, select-has}
@@ -56,13 +55,6 @@ every-same s t zero e = refl
 every-same s t (suc n) e = rw (every-same s t n (λ k l. e k (omega arith)), e n (omega arith))
 
 -- ---- a work byte: granted, reached
-
-byte-open : (g r : Bool) → ltb (bit g + cond r 2 0) 2 ≡ not r
-unfolding bit
-byte-open true true = refl
-byte-open true false = refl
-byte-open false true = refl
-byte-open false false = refl
 
 byte-left : (g r : Bool) → eqb (bit g + cond r 2 0) 1 ≡ (g && not r)
 unfolding bit
@@ -149,56 +141,57 @@ module _ (boxes rows arrows : List ℕ) (m : ℕ) where
   unfolding workOf
   byte-at l w p h = written-at (build (shown l) pairs) w p (rw build-length h) ∙ build-at (shown l) pairs p h
 
-  module _ (l w : List ℕ) where
-    stops-new : (k p : ℕ) → p < pairs → stops boxes rows (arrowAt arrows k) (written (workOf boxes rows arrows m l) w) 2 p ≡ new boxes rows arrows l k p
-    unfolding stops new touches meets
-    stops-new k p h =
-        rw (byte-at l w p h)
+  -- the pair that they leave is the one that the list leaves
+  pub left-by : (l w : List ℕ) → leftIn boxes rows m (written (workOf boxes rows arrows m l) w) ≡ leftBy boxes rows arrows m l
+  unfolding leftIn leftBy
+  left-by l w =
+      first-same _ _ pairs
+      (λ p h. rw (byte-at l w p h, byte-left (granted boxes rows arrows m p) (reached boxes rows arrows l p)))
+
+  -- of arrow k, by a test that says which pairs it reaches
+  module _ (touch : ℕ → Bool) (k : ℕ) (same : (p : ℕ) → p < pairs → touch p ≡ meets boxes rows arrows p k) (l w : List ℕ) where
+    stops-new : (p : ℕ) → p < pairs → stops touch (written (workOf boxes rows arrows m l) w) 2 p ≡ new boxes rows arrows l k p
+    unfolding stops new
+    stops-new p h =
+        rw (byte-at l w p h, same p h)
         (byte-new (granted boxes rows arrows m p) (reached boxes rows arrows l p) (meets boxes rows arrows p k))
 
-    stops-wrong : Clear boxes rows arrows m → (k p : ℕ) → p < pairs
-        → stops boxes rows (arrowAt arrows k) (written (workOf boxes rows arrows m l) w) (arrowAt arrows k .sign) p
+    stops-wrong : Clear boxes rows arrows m → (p : ℕ) → p < pairs
+        → stops touch (written (workOf boxes rows arrows m l) w) (arrowAt arrows k .sign) p
         ≡ (new boxes rows arrows l k p && not (right boxes rows arrows m p k))
-    unfolding stops new touches meets right granted
-    stops-wrong c k p h =
-        rw (byte-at l w p h, gives-clear (arrowAt arrows k .sign) (answerAt boxes rows arrows m p) (c p h))
+    unfolding stops new right granted
+    stops-wrong c p h =
+        rw (byte-at l w p h, same p h, gives-clear (arrowAt arrows k .sign) (answerAt boxes rows arrows m p) (c p h))
         (byte-wrong (granted boxes rows arrows m p) (reached boxes rows arrows l p) (meets boxes rows arrows p k) (arrowAt arrows k .sign))
 
     -- so an arrow of the mode follows by the bytes exactly if it can be added to the list
-    follows-addable : Clear boxes rows arrows m → (k : ℕ) → T (ofMode arrows m k)
-        → follows boxes rows (arrowAt arrows k) (written (workOf boxes rows arrows m l) w) ≡ addable boxes rows arrows m l k
+    follows-addable : Clear boxes rows arrows m → T (ofMode arrows m k)
+        → follows touch (arrowAt arrows k .sign) pairs (written (workOf boxes rows arrows m l) w) ≡ addable boxes rows arrows m l k
     unfolding follows addable fits
-    follows-addable c k o =
+    follows-addable c o =
         rw (T-true (ofMode arrows m k) o)
         (ap₂ (λ (a b : Bool). a && not b)
-        (every-same _ _ pairs (λ p h. ap not (stops-wrong c k p h) ∙ unless (new boxes rows arrows l k p) (right boxes rows arrows m p k)))
-        (every-same _ _ pairs (λ p h. ap not (stops-new k p h))))
+        (every-same _ _ pairs (λ p h. ap not (stops-wrong c p h) ∙ unless (new boxes rows arrows l k p) (right boxes rows arrows m p k)))
+        (every-same _ _ pairs (λ p h. ap not (stops-new p h))))
       where
         unless : (a b : Bool) → not (a && not b) ≡ (not a || b)
         unless true true = refl
         unless true false = refl
         unless false b = refl
 
-    -- and the pair that they leave is the one that the list leaves
-    pub left-by : leftIn boxes rows m (written (workOf boxes rows arrows m l) w) ≡ leftBy boxes rows arrows m l
-    unfolding leftIn leftBy
-    left-by =
-        first-same _ _ pairs
-        (λ p h. rw (byte-at l w p h, byte-left (granted boxes rows arrows m p) (reached boxes rows arrows l p)))
-
-    marked-shown : (k p : ℕ) → p < pairs → marked boxes rows (arrowAt arrows k) (written (workOf boxes rows arrows m l) w) p ≡ shown (l ++ (k ∷ [])) p
+    marked-shown : (p : ℕ) → p < pairs → marked touch (written (workOf boxes rows arrows m l) w) p ≡ shown (l ++ (k ∷ [])) p
     unfolding marked reached new
-    marked-shown k p h =
-        rw (byte-at l w p h, stops-new k p h, anyOf-snoc (meets boxes rows arrows p) l k)
+    marked-shown p h =
+        rw (byte-at l w p h, stops-new p h, anyOf-snoc (meets boxes rows arrows p) l k)
         (byte-marked (granted boxes rows arrows m p) (anyOf (meets boxes rows arrows p) l) (meets boxes rows arrows p k))
 
     -- marking the pairs of an arrow goes on to the list with the arrow at its end
-    pub mark-shown : pairs ≤ length w → (k : ℕ)
-        → written (build (marked boxes rows (arrowAt arrows k) (written (workOf boxes rows arrows m l) w)) pairs) (written (workOf boxes rows arrows m l) w)
+    pub mark-shown : pairs ≤ length w
+        → written (build (marked touch (written (workOf boxes rows arrows m l) w)) pairs) (written (workOf boxes rows arrows m l) w)
         ≡ written (workOf boxes rows arrows m (l ++ (k ∷ []))) w
     unfolding workOf
-    mark-shown h k =
-        ap (λ (x : List ℕ). written x (written (workOf boxes rows arrows m l) w)) (build-same _ (shown (l ++ (k ∷ []))) pairs (marked-shown k))
+    mark-shown h =
+        ap (λ (x : List ℕ). written x (written (workOf boxes rows arrows m l) w)) (build-same _ (shown (l ++ (k ∷ []))) pairs marked-shown)
         ∙ written-over (workOf boxes rows arrows m (l ++ (k ∷ []))) (workOf boxes rows arrows m l) w
         (omega (arith, work-length (l ++ (k ∷ [])), work-length l)) (omega (arith, work-length (l ++ (k ∷ []))))
 
@@ -232,24 +225,28 @@ module _ (boxes rows arrows : List ℕ) (m : ℕ) where
 
     -- ---- the turns of the loop that grows the list
 
-    module _ (c : Clear boxes rows arrows m) (l w : List ℕ) where
-      followsAt-addable : (t : ℕ) → t < length own
-          → followsAt boxes rows arrows own (written (workOf boxes rows arrows m l) w) t ≡ addable boxes rows arrows m l (getD own t 0)
+    pub own-there : (t : ℕ) → t < length own → getD own t 0 < arrowCount arrows
+    own-there t h = ofMode-there arrows m (getD own t 0) (own-mode t h)
+
+    module _ (c : Clear boxes rows arrows m) (touch : ℕ → ℕ → Bool)
+        (same : (k p : ℕ) → k < arrowCount arrows → p < pairs → touch k p ≡ meets boxes rows arrows p k) (l w : List ℕ) where
+      abbrev Next : ℕ → Bool
+      Next = followsAt touch own arrows pairs (written (workOf boxes rows arrows m l) w)
+
+      followsAt-addable : (t : ℕ) → t < length own → Next t ≡ addable boxes rows arrows m l (getD own t 0)
       unfolding followsAt
-      followsAt-addable t h = follows-addable l w c (getD own t 0) (own-mode t h)
+      followsAt-addable t h =
+          follows-addable (touch (getD own t 0)) (getD own t 0) (λ p. same (getD own t 0) p (own-there t h)) l w c (own-mode t h)
 
       -- the arrow that was picked is added
-      pub grown-next : (t : ℕ) → t < length own → T (followsAt boxes rows arrows own (written (workOf boxes rows arrows m l) w) t)
-          → Grown boxes rows arrows m l → Grown boxes rows arrows m (l ++ (getD own t 0 ∷ []))
+      pub grown-next : (t : ℕ) → t < length own → T (Next t) → Grown boxes rows arrows m l → Grown boxes rows arrows m (l ++ (getD own t 0 ∷ []))
       grown-next t h f g = grown-more boxes rows arrows m l (getD own t 0) g (rw (followsAt-addable t h) at f)
 
-      pub room-next : (t : ℕ) → t < length own → T (followsAt boxes rows arrows own (written (workOf boxes rows arrows m l) w) t)
-          → Grown boxes rows arrows m l → length l < length own
+      pub room-next : (t : ℕ) → t < length own → T (Next t) → Grown boxes rows arrows m l → length l < length own
       room-next t h f g = omega (arith, length-append l (getD own t 0 ∷ []), own-room (l ++ (getD own t 0 ∷ [])) (grown-next t h f g))
 
       -- none was picked: nothing can be added
-      pub none-next : (t : ℕ) → length own ≤ t → ((k : ℕ) → k < t → T (followsAt boxes rows arrows own (written (workOf boxes rows arrows m l) w) k) → ⊥)
-          → (k : ℕ) → T (addable boxes rows arrows m l k) → ⊥
+      pub none-next : (t : ℕ) → length own ≤ t → ((k : ℕ) → k < t → T (Next k) → ⊥) → (k : ℕ) → T (addable boxes rows arrows m l k) → ⊥
       none-next t g n k a =
           let i = own-has k (addable-own boxes rows arrows m l k a) in
           n (i .0) (omega (arith, i .1)) (rw (followsAt-addable (i .0) (i .1), i .2) a)
@@ -260,32 +257,28 @@ module _ (boxes rows arrows : List ℕ) (m : ℕ) where
 abbrev pub Grew : List ℕ → List ℕ → Type 0
 Grew work work′ = (p : ℕ) → getD work′ p 0 < 2 → getD work′ p 0 ≡ getD work p 0
 
-pub mark-grew : (boxes rows : List ℕ) (a : Arrow) (work : List ℕ) (n : ℕ) → Grew work (written (build (marked boxes rows a work) n) work)
+pub mark-grew : (touch : ℕ → Bool) (work : List ℕ) (n : ℕ) → Grew work (written (build (marked touch work) n) work)
 unfolding marked
-mark-grew boxes rows a work n p l = go (decLt p n)
+mark-grew touch work n p l = go (decLt p n)
   where
     step : (b : Bool) → getD work p 0 + cond b 2 0 < 2 → getD work p 0 + cond b 2 0 ≡ getD work p 0
     step true h = absurd (omega arith)
     step false h = omega arith
 
-    go : Dec (p < n) → getD (written (build (marked boxes rows a work) n) work) p 0 ≡ getD work p 0
+    go : Dec (p < n) → getD (written (build (marked touch work) n) work) p 0 ≡ getD work p 0
     go (yes h) =
-        let e = written-at (build (marked boxes rows a work) n) work p (rw build-length h) ∙ build-at (marked boxes rows a work) n p h in
-        e ∙ step (stops boxes rows a work 2 p) (rw e at l)
-    go (no h) = written-rest (build (marked boxes rows a work) n) work p (rw build-length (omega arith))
+        let e = written-at (build (marked touch work) n) work p (rw build-length h) ∙ build-at (marked touch work) n p h in
+        e ∙ step (stops touch work 2 p) (rw e at l)
+    go (no h) = written-rest (build (marked touch work) n) work p (rw build-length (omega arith))
 
-pub behind-grew : (boxes rows arrows own : List ℕ) (skip : Arrow → ℕ) (work work′ pointers : List ℕ) → Grew work work′
-    → Behind boxes rows arrows own skip work pointers → Behind boxes rows arrows own skip work′ pointers
-behind-grew boxes rows arrows own skip work work′ pointers g b = record {
-  room = b .room;
-  passed = λ t h p l s.
-      let a = arrowAt arrows (getD own t 0) in
-      b .passed t h p l (rw (stops-same boxes rows a work′ work (skip a) p (g p (stops-open boxes rows a work′ (skip a) p s))) at s);
-}
+module _ (touch : ℕ → ℕ → Bool) (own : List ℕ) (skip : ℕ → ℕ) (work : List ℕ) where
+  pub behind-grew : (work′ pointers : List ℕ) → Grew work work′ → Behind touch own skip work pointers → Behind touch own skip work′ pointers
+  behind-grew work′ pointers g b = record {
+    room = b .room;
+    passed = λ t h p l s.
+        let k = getD own t 0 in
+        b .passed t h p l (rw (stops-same (touch k) work′ work (skip k) p (g p (stops-open (touch k) work′ (skip k) p s))) at s);
+  }
 
-pub behind-none : (boxes rows arrows own : List ℕ) (skip : Arrow → ℕ) (work : List ℕ) (n : ℕ) → length own ≤ n
-    → Behind boxes rows arrows own skip work (zeros n)
-behind-none boxes rows arrows own skip work n h = record {
-  room = rw zeros-length h;
-  passed = λ t l p k. absurd (omega (arith, zeros-at n t (omega arith)));
-}
+  pub behind-none : (n : ℕ) → length own ≤ n → Behind touch own skip work (zeros n)
+  behind-none n h = record { room = rw zeros-length h; passed = λ t l p k. absurd (omega (arith, zeros-at n t (omega arith))) }

@@ -14,132 +14,122 @@ use lib.ListN.{length, getD, set, take, replicate, length-set, length-replicate,
 use lib.Seq.{getD-set-same, getD-set-other, length-take-le, take-suc, ext-getD}
 use Rattle.tables.specs.Search.{every}
 use Rattle.tables.specs.Buffers.{build, written}
-use Rattle.tables.specs.Rows.{arrowAt}
-use Rattle.tables.specs.Atoms.{pairCount}
-use Rattle.tables.specs.declared.Arrow.{Arrow}
 use Rattle.answers.specs.Among.{FirstAt}
-use Rattle.lists.specs.Steps.{touches, stops, NoStop, follows, marked, Behind}
+use Rattle.lists.specs.Steps.{stops, NoStop, follows, marked, Behind}
 use Rattle.tables.proofs.Tests.{and-T, T-true, not-false}
 use Rattle.tables.proofs.SearchLaws.{every-at, every-is}
 use Rattle.tables.proofs.BufferLaws.{written-more, written-rest, build-length, written-build, written-length, written-at, build-at}
 use Rattle.lists.proofs.GreedyLaws.{not-nowhere}
 
-module _ (boxes rows : List ℕ) (a : Arrow) (work : List ℕ) (skip p : ℕ) where
-  pub stop-reached : 2 ≤ getD work p 0 → stops boxes rows a work skip p ≡ false
+module _ (touch : ℕ → Bool) (work : List ℕ) (skip p : ℕ) where
+  pub stop-reached : 2 ≤ getD work p 0 → stops touch work skip p ≡ false
   unfolding stops
   stop-reached h = rw (le-ltb (getD work p 0) 2 h)
 
-  pub stop-skipped : getD work p 0 < 2 → getD work p 0 ≡ skip → stops boxes rows a work skip p ≡ false
+  pub stop-skipped : getD work p 0 < 2 → getD work p 0 ≡ skip → stops touch work skip p ≡ false
   unfolding stops
   stop-skipped h e = rw (lt-ltb (getD work p 0) 2 h, eq-eqb (getD work p 0) skip e)
 
-  pub stop-touches : getD work p 0 < 2 → getD work p 0 ≢ skip → stops boxes rows a work skip p ≡ touches boxes rows a p
+  pub stop-touches : getD work p 0 < 2 → getD work p 0 ≢ skip → stops touch work skip p ≡ touch p
   unfolding stops
   stop-touches h e = rw (lt-ltb (getD work p 0) 2 h, ne-eqb (getD work p 0) skip e)
 
-module _ (boxes rows : List ℕ) (a : Arrow) where
+module _ (touch : ℕ → Bool) where
   -- the test looks at one byte alone, and holds only where it is none of a reached pair
-  pub stops-same : (work work′ : List ℕ) (skip p : ℕ) → getD work p 0 ≡ getD work′ p 0 → stops boxes rows a work skip p ≡ stops boxes rows a work′ skip p
+  pub stops-same : (work work′ : List ℕ) (skip p : ℕ) → getD work p 0 ≡ getD work′ p 0 → stops touch work skip p ≡ stops touch work′ skip p
   unfolding stops
   stops-same work work′ skip p e = rw e
 
-  pub stops-open : (work : List ℕ) (skip p : ℕ) → T (stops boxes rows a work skip p) → getD work p 0 < 2
+  pub stops-open : (work : List ℕ) (skip p : ℕ) → T (stops touch work skip p) → getD work p 0 < 2
   unfolding stops
   stops-open work skip p t = ltb→lt (getD work p 0) 2 (and-T (ltb (getD work p 0) 2) _ t .0)
 
   -- and only where the arrow reaches the pair
-  stops-touches : (work : List ℕ) (skip p : ℕ) → T (stops boxes rows a work skip p) → T (touches boxes rows a p)
+  stops-touches : (work : List ℕ) (skip p : ℕ) → T (stops touch work skip p) → T (touch p)
   unfolding stops
   stops-touches work skip p t = and-T (not (eqb (getD work p 0) skip)) _ (and-T (ltb (getD work p 0) 2) _ t .1) .1
 
   -- so no place stops the arrow on the way to one ahead
-  pub no-stop-ahead : (work : List ℕ) (skip p q : ℕ) → NoStop boxes rows a work skip p → (T (stops boxes rows a work skip p) → ⊥)
-      → ((k : ℕ) → p < k → k < q → T (touches boxes rows a k) → ⊥) → NoStop boxes rows a work skip q
+  pub no-stop-ahead : (work : List ℕ) (skip p q : ℕ) → NoStop touch work skip p → (T (stops touch work skip p) → ⊥)
+      → ((k : ℕ) → p < k → k < q → T (touch k) → ⊥) → NoStop touch work skip q
   no-stop-ahead work skip p q n here u k l t = go (decLt k p) (ℕ-discrete k p)
     where
       go : Dec (k < p) → Dec (k ≡ p) → ⊥
       go (yes h) e = n k h t
-      go (no h) (yes e) = here (subst (λ (z : ℕ). T (stops boxes rows a work skip z)) e t)
+      go (no h) (yes e) = here (subst (λ (z : ℕ). T (stops touch work skip z)) e t)
       go (no h) (no e) = u k (omega arith) l (stops-touches work skip k t)
 
-  -- ---- whether the arrow may follow, by its two pointers
+  -- ---- whether the arrow, of this sign, may follow, by its two pointers
+  module _ (sign n : ℕ) where
+    pub blocked-no : (work : List ℕ) (b : ℕ) → b < n → T (stops touch work sign b) → follows touch sign n work ≡ false
+    unfolding follows
+    blocked-no work b l t =
+        rw (not-false (every (λ p. not (stops touch work sign p)) n)
+        (λ e. T-not (stops touch work sign b) (every-at (λ p. not (stops touch work sign p)) n e b l) t))
 
-  abbrev pairs : ℕ
-  pairs = pairCount boxes rows
+    -- a test that fails everywhere
+    nowhere : (t : ℕ → Bool) (r : ℕ) → n ≤ r → ((p : ℕ) → p < r → T (t p) → ⊥) → every (λ p. not (t p)) n ≡ true
+    nowhere t r g f = T-true _ (every-is (λ p. not (t p)) n (λ p l. not-T (t p) (f p (omega arith))))
 
-  pub blocked-no : (work : List ℕ) (b : ℕ) → b < pairs → T (stops boxes rows a work (a .sign) b) → follows boxes rows a work ≡ false
-  unfolding follows
-  blocked-no work b l t =
-      rw (not-false (every (λ p. not (stops boxes rows a work (a .sign) p)) pairs)
-      (λ e. T-not (stops boxes rows a work (a .sign) b) (every-at (λ p. not (stops boxes rows a work (a .sign) p)) pairs e b l) t))
+    pub fresh-is : (work : List ℕ) (b f : ℕ) → n ≤ b → NoStop touch work sign b → FirstAt (stops touch work 2) n f
+        → ltb f n ≡ follows touch sign n work
+    unfolding follows
+    fresh-is work b f g z w = rw (nowhere (stops touch work sign) b g z) (go (decLt f n))
+      where
+        go : Dec (f < n) → ltb f n ≡ not (every (λ p. not (stops touch work 2 p)) n)
+        go (yes l) = lt-ltb f n l ∙ sym (T-true _ (not-nowhere (stops touch work 2) n f l (w .holds l)))
+        go (no l) = rw (le-ltb f n (omega arith), nowhere (stops touch work 2) f (omega arith) (w .none-before))
 
-  -- a test that fails everywhere
-  nowhere : (t : ℕ → Bool) (r : ℕ) → pairs ≤ r → ((p : ℕ) → p < r → T (t p) → ⊥) → every (λ p. not (t p)) pairs ≡ true
-  nowhere t r g n = T-true _ (every-is (λ p. not (t p)) pairs (λ p l. not-T (t p) (n p (omega arith))))
+-- ---- the pointers: one of them is moved
 
-  pub fresh-is : (work : List ℕ) (b f : ℕ) → pairs ≤ b → NoStop boxes rows a work (a .sign) b → FirstAt (stops boxes rows a work 2) pairs f
-      → ltb f pairs ≡ follows boxes rows a work
-  unfolding follows
-  fresh-is work b f g n w = rw (nowhere (stops boxes rows a work (a .sign)) b g n) (go (decLt f pairs))
-    where
-      go : Dec (f < pairs) → ltb f pairs ≡ not (every (λ p. not (stops boxes rows a work 2 p)) pairs)
-      go (yes l) = lt-ltb f pairs l ∙ sym (T-true _ (not-nowhere (stops boxes rows a work 2) pairs f l (w .holds l)))
-      go (no l) = rw (le-ltb f pairs (omega arith), nowhere (stops boxes rows a work 2) f (omega arith) (w .none-before))
-
--- ---- the pointers
-
-module _ (boxes rows arrows own work : List ℕ) where
-  -- one of them is moved
-  pub behind-set : (skip : Arrow → ℕ) (pointers : List ℕ) (t r : ℕ) → t < length own → Behind boxes rows arrows own skip work pointers
-      → NoStop boxes rows (arrowAt arrows (getD own t 0)) work (skip (arrowAt arrows (getD own t 0))) r
-      → Behind boxes rows arrows own skip work (set pointers t r)
-  behind-set skip pointers t r l h n = record { room = rw length-set (h .room); passed = λ i k. go i k (ℕ-discrete i t) }
-    where
-      go : (i : ℕ) → i < length own → Dec (i ≡ t)
-          → NoStop boxes rows (arrowAt arrows (getD own i 0)) work (skip (arrowAt arrows (getD own i 0))) (getD (set pointers t r) i 0)
-      go i k (yes e) = rw (e, getD-set-same pointers t r 0 (omega (arith, h .room))) n
-      go i k (no e) = rw (getD-set-other pointers t i r 0 e) (h .passed i k)
+pub behind-set : {touch : ℕ → ℕ → Bool} {own work pointers : List ℕ} {skip : ℕ → ℕ} (t r : ℕ) → t < length own → Behind touch own skip work pointers
+    → NoStop (touch (getD own t 0)) work (skip (getD own t 0)) r → Behind touch own skip work (set pointers t r)
+behind-set {touch} {own} {work} {pointers} {skip} t r l h n = record { room = rw length-set (h .room); passed = λ i k. go i k (ℕ-discrete i t) }
+  where
+    go : (i : ℕ) → i < length own → Dec (i ≡ t) → NoStop (touch (getD own i 0)) work (skip (getD own i 0)) (getD (set pointers t r) i 0)
+    go i k (yes e) = rw (e, getD-set-same pointers t r 0 (omega (arith, h .room))) n
+    go i k (no e) = rw (getD-set-other pointers t i r 0 e) (h .passed i k)
 
 -- ---- marking
 
-module _ (boxes rows : List ℕ) (a : Arrow) (w : List ℕ) where
+module _ (touch : ℕ → Bool) (w : List ℕ) where
   -- place p of the work bytes is marked
-  pub mark-turn : (p : ℕ) (work : List ℕ) (hit : Bool) (b : ℕ) → p < length w → work ≡ written (build (marked boxes rows a w) p) w
-      → hit ≡ stops boxes rows a work 2 p → b ≡ getD work p 0 + cond hit 2 0
-      → set work p b ≡ written (build (marked boxes rows a w) (p + 1)) w
+  pub mark-turn : (p : ℕ) (work : List ℕ) (hit : Bool) (b : ℕ) → p < length w → work ≡ written (build (marked touch w) p) w
+      → hit ≡ stops touch work 2 p → b ≡ getD work p 0 + cond hit 2 0
+      → set work p b ≡ written (build (marked touch w) (p + 1)) w
   unfolding marked
   mark-turn p work hit b l e h i =
       let same : getD work p 0 ≡ getD w p 0 =
-      ap (λ (z : List ℕ). getD z p 0) e ∙ written-rest (build (marked boxes rows a w) p) w p (omega (arith, build-length (marked boxes rows a w) p)) in
-      let to : b ≡ marked boxes rows a w p = i ∙ rw (h ∙ stops-same boxes rows a work w 2 p same, same) in
-      rw (to, e) (written-build (marked boxes rows a w) p w l)
+      ap (λ (z : List ℕ). getD z p 0) e ∙ written-rest (build (marked touch w) p) w p (omega (arith, build-length (marked touch w) p)) in
+      let to : b ≡ marked touch w p = i ∙ rw (h ∙ stops-same touch work w 2 p same, same) in
+      rw (to, e) (written-build (marked touch w) p w l)
 
-  unmarked : (k : ℕ) → (T (touches boxes rows a k) → ⊥) → getD w k 0 ≡ marked boxes rows a w k
+  unmarked : (k : ℕ) → (T (touch k) → ⊥) → getD w k 0 ≡ marked touch w k
   unfolding marked
-  unmarked k n = rw (not-false (stops boxes rows a w 2 k) (λ t. n (stops-touches boxes rows a w 2 k t))) (sym (add-zero (getD w k 0)))
+  unmarked k n = rw (not-false (stops touch w 2 k) (λ t. n (stops-touches touch w 2 k t))) (sym (add-zero (getD w k 0)))
 
   -- and so are the places up to one ahead, which the arrow does not reach
-  pub mark-ahead : (p q : ℕ) → p < q → q ≤ length w → ((k : ℕ) → p < k → k < q → T (touches boxes rows a k) → ⊥)
-      → written (build (marked boxes rows a w) (p + 1)) w ≡ written (build (marked boxes rows a w) q) w
+  pub mark-ahead : (p q : ℕ) → p < q → q ≤ length w → ((k : ℕ) → p < k → k < q → T (touch k) → ⊥)
+      → written (build (marked touch w) (p + 1)) w ≡ written (build (marked touch w) q) w
   mark-ahead p q l h u =
-      let g = marked boxes rows a w in
+      let g = marked touch w in
       ext-getD 0 _ _
       (written-length (build g (p + 1)) w (rw build-length (omega arith)) ∙ sym (written-length (build g q) w (rw build-length h)))
       (λ k z. go k (decLt k (p + 1)) (decLt k q))
     where
       go : (k : ℕ) → Dec (k < p + 1) → Dec (k < q)
-          → getD (written (build (marked boxes rows a w) (p + 1)) w) k 0 ≡ getD (written (build (marked boxes rows a w) q) w) k 0
+          → getD (written (build (marked touch w) (p + 1)) w) k 0 ≡ getD (written (build (marked touch w) q) w) k 0
       go k (yes m) (yes o) =
-          written-at (build (marked boxes rows a w) (p + 1)) w k (rw build-length m) ∙ build-at (marked boxes rows a w) (p + 1) k m
-          ∙ sym (written-at (build (marked boxes rows a w) q) w k (rw build-length o) ∙ build-at (marked boxes rows a w) q k o)
+          written-at (build (marked touch w) (p + 1)) w k (rw build-length m) ∙ build-at (marked touch w) (p + 1) k m
+          ∙ sym (written-at (build (marked touch w) q) w k (rw build-length o) ∙ build-at (marked touch w) q k o)
       go k (yes m) (no o) = absurd (omega arith)
       go k (no m) (yes o) =
-          written-rest (build (marked boxes rows a w) (p + 1)) w k (rw build-length (omega arith))
+          written-rest (build (marked touch w) (p + 1)) w k (rw build-length (omega arith))
           ∙ unmarked k (u k (omega arith) o)
-          ∙ sym (written-at (build (marked boxes rows a w) q) w k (rw build-length o) ∙ build-at (marked boxes rows a w) q k o)
+          ∙ sym (written-at (build (marked touch w) q) w k (rw build-length o) ∙ build-at (marked touch w) q k o)
       go k (no m) (no o) =
-          written-rest (build (marked boxes rows a w) (p + 1)) w k (rw build-length (omega arith))
-          ∙ sym (written-rest (build (marked boxes rows a w) q) w k (rw build-length (omega arith)))
+          written-rest (build (marked touch w) (p + 1)) w k (rw build-length (omega arith))
+          ∙ sym (written-rest (build (marked touch w) q) w k (rw build-length (omega arith)))
 
 -- ---- a buffer that is filled with one value
 

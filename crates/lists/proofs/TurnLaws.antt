@@ -1,20 +1,22 @@
 -- The loop that grows the list, turn by turn. Assumes nothing.
 use mathlib.Core.Path.{_≡_, refl, sym, ap, _∙_}
+use mathlib.Core.Bool.{Bool}
 use mathlib.Core.List.{List, [], _∷_, _++_}
 use Prim.Native.Nat.{ℕ, _+_, _<_, _≤_}
 use native.Mathlib.Omega.{arith}
 use lib.Dec.{T}
 use lib.ListN.{length, getD, set, length-append}
 use Rattle.tables.specs.Buffers.{build, written, zeros}
-use Rattle.tables.specs.Rows.{arrowAt}
+use Rattle.tables.specs.Rows.{arrowCount}
 use Rattle.tables.specs.Atoms.{pairCount}
 use Rattle.answers.specs.Among.{modeArrows}
+use Rattle.lists.specs.Order.{meets}
 use Rattle.lists.specs.Steps.{followsAt, marked, Behind, ownSign, nothing, Clear, workOf, Ordered}
 use Rattle.tables.proofs.BufferLaws.{written-none, written-more, written-length}
 use Rattle.lists.proofs.GreedyLaws.{Grown, grown-none}
-use Rattle.lists.proofs.GrowLaws.{work-length, own-room, grown-next, room-next, none-next, mark-shown, mark-grew, behind-grew, behind-none}
+use Rattle.lists.proofs.GrowLaws.{work-length, own-room, own-there, grown-next, room-next, none-next, mark-shown, mark-grew, behind-grew, behind-none}
 
-module _ (boxes rows arrows : List ℕ) (m : ℕ) (own out₀ work₀ : List ℕ) where
+module _ (boxes rows arrows : List ℕ) (m : ℕ) (touch : ℕ → ℕ → Bool) (own out₀ work₀ : List ℕ) where
   -- the list so far, in the list places and in the work bytes, and the two pointers of each arrow
   pub record Growing (out work blocked fresh : List ℕ) (count : ℕ) : Type 0 where
     pub list : List ℕ
@@ -22,8 +24,8 @@ module _ (boxes rows arrows : List ℕ) (m : ℕ) (own out₀ work₀ : List ℕ
     pub listed : out ≡ written list out₀
     pub shown : work ≡ written (workOf boxes rows arrows m list) work₀
     pub grown : Grown boxes rows arrows m list
-    pub blocked-behind : Behind boxes rows arrows own ownSign work blocked
-    pub fresh-behind : Behind boxes rows arrows own nothing work fresh
+    pub blocked-behind : Behind touch own (ownSign arrows) work blocked
+    pub fresh-behind : Behind touch own nothing work fresh
 
   pub growing-none : work₀ ≡ written (workOf boxes rows arrows m []) work₀ → (n : ℕ) → length own ≤ n → Growing out₀ work₀ (zeros n) (zeros n) 0
   growing-none e n h = record {
@@ -32,53 +34,61 @@ module _ (boxes rows arrows : List ℕ) (m : ℕ) (own out₀ work₀ : List ℕ
     listed = sym (written-none out₀);
     shown = e;
     grown = grown-none boxes rows arrows m;
-    blocked-behind = behind-none boxes rows arrows own ownSign work₀ n h;
-    fresh-behind = behind-none boxes rows arrows own nothing work₀ n h;
+    blocked-behind = behind-none touch own (ownSign arrows) work₀ n h;
+    fresh-behind = behind-none touch own nothing work₀ n h;
   }
 
-  module _ (own-are : own ≡ modeArrows arrows m) (clear : Clear boxes rows arrows m)
-      (out-room : length own ≤ length out₀) (work-room : pairCount boxes rows ≤ length work₀) where
-    module _ (out work blocked fresh : List ℕ) (count : ℕ) (g : Growing out work blocked fresh count) where
-      pub growing-out : length out ≡ length out₀
-      growing-out =
-          ap length (g .listed)
-          ∙ written-length (g .list) out₀ (omega (arith, own-room boxes rows arrows m own own-are (g .list) (g .grown)))
+  -- what the loop is given
+  pub record Given : Type 0 where
+    pub same : (k p : ℕ) → k < arrowCount arrows → p < pairCount boxes rows → touch k p ≡ meets boxes rows arrows p k
+    pub own-are : own ≡ modeArrows arrows m
+    pub clear : Clear boxes rows arrows m
+    pub out-room : length own ≤ length out₀
+    pub work-room : pairCount boxes rows ≤ length work₀
 
-      pub growing-work : length work ≡ length work₀
-      growing-work =
-          ap length (g .shown)
-          ∙ written-length (workOf boxes rows arrows m (g .list)) work₀ (omega (arith, work-length boxes rows arrows m (g .list)))
+  module _ (d : Given) {out work blocked fresh : List ℕ} {count : ℕ} (g : Growing out work blocked fresh count) where
+    pub growing-out : length out ≡ length out₀
+    growing-out =
+        ap length (g .listed)
+        ∙ written-length (g .list) out₀ (omega (arith, d .out-room, own-room boxes rows arrows m own (d .own-are) (g .list) (g .grown)))
 
-      module _ (t : ℕ) (h : t < length own) (f : T (followsAt boxes rows arrows own work t)) where
-        pub growing-room : count < length own
-        growing-room =
-            omega (arith, g .counted, room-next boxes rows arrows m own own-are clear (g .list) work₀ t h (rw (g .shown) at f) (g .grown))
+    pub growing-work : length work ≡ length work₀
+    growing-work =
+        ap length (g .shown)
+        ∙ written-length (workOf boxes rows arrows m (g .list)) work₀ (omega (arith, d .work-room, work-length boxes rows arrows m (g .list)))
 
-        -- the arrow at place t of the numbers is listed and its pairs are marked
-        pub growing-next : (blocked′ fresh′ : List ℕ) → Behind boxes rows arrows own ownSign work blocked′ → Behind boxes rows arrows own nothing work fresh′
-            → Growing (set out count (getD own t 0))
-            (written (build (marked boxes rows (arrowAt arrows (getD own t 0)) work) (pairCount boxes rows)) work) blocked′ fresh′ (count + 1)
-        growing-next blocked′ fresh′ b r =
-            let grew = mark-grew boxes rows (arrowAt arrows (getD own t 0)) work (pairCount boxes rows) in
-            record {
-              list = g .list ++ (getD own t 0 ∷ []);
-              counted = rw (length-append, g .counted);
-              listed = rw (g .counted, g .listed) (written-more (g .list) out₀ (getD own t 0) (omega (arith, g .counted, growing-room)));
-              shown = rw (g .shown) (mark-shown boxes rows arrows m (g .list) work₀ work-room (getD own t 0));
-              grown = grown-next boxes rows arrows m own own-are clear (g .list) work₀ t h (rw (g .shown) at f) (g .grown);
-              blocked-behind = behind-grew boxes rows arrows own ownSign work _ blocked′ grew b;
-              fresh-behind = behind-grew boxes rows arrows own nothing work _ fresh′ grew r;
-            }
+    module _ (t : ℕ) (h : t < length own) (f : T (followsAt touch own arrows (pairCount boxes rows) work t)) where
+      pub growing-room : count < length own
+      growing-room =
+          omega (arith, g .counted, room-next boxes rows arrows m own (d .own-are) (d .clear) touch (d .same) (g .list) work₀ t h (rw (g .shown) at f) (g .grown))
 
-      -- no arrow may follow
-      pub growing-done : (t : ℕ) → length own ≤ t → ((k : ℕ) → k < t → T (followsAt boxes rows arrows own work k) → ⊥)
-          → Ordered boxes rows arrows m out₀ work₀ count out work
-      growing-done t h n = record {
-        list = g .list;
-        counted = g .counted;
-        listed = g .listed;
-        shown = g .shown;
-        is-honest = g .grown .is-honest;
-        once = g .grown .once;
-        full = none-next boxes rows arrows m own own-are clear (g .list) work₀ t h (rw (g .shown) at n);
-      }
+      -- the arrow at place t of the numbers is listed and its pairs are marked
+      pub growing-next : (blocked′ fresh′ : List ℕ) → Behind touch own (ownSign arrows) work blocked′ → Behind touch own nothing work fresh′
+          → Growing (set out count (getD own t 0)) (written (build (marked (touch (getD own t 0)) work) (pairCount boxes rows)) work) blocked′ fresh′ (count + 1)
+      growing-next blocked′ fresh′ b r =
+          let k = getD own t 0 in
+          let grew = mark-grew (touch k) work (pairCount boxes rows) in
+          record {
+            list = g .list ++ (k ∷ []);
+            counted = rw (length-append, g .counted);
+            listed = rw (g .counted, g .listed) (written-more (g .list) out₀ k (omega (arith, g .counted, growing-room, d .out-room)));
+            shown =
+                rw (g .shown)
+                (mark-shown boxes rows arrows m (touch k) k (λ p. d .same k p (own-there boxes rows arrows m own (d .own-are) t h)) (g .list) work₀ (d .work-room));
+            grown = grown-next boxes rows arrows m own (d .own-are) (d .clear) touch (d .same) (g .list) work₀ t h (rw (g .shown) at f) (g .grown);
+            blocked-behind = behind-grew touch own (ownSign arrows) work _ blocked′ grew b;
+            fresh-behind = behind-grew touch own nothing work _ fresh′ grew r;
+          }
+
+    -- no arrow may follow
+    pub growing-done : (t : ℕ) → length own ≤ t → ((k : ℕ) → k < t → T (followsAt touch own arrows (pairCount boxes rows) work k) → ⊥)
+        → Ordered boxes rows arrows m out₀ work₀ count out work
+    growing-done t h n = record {
+      list = g .list;
+      counted = g .counted;
+      listed = g .listed;
+      shown = g .shown;
+      is-honest = g .grown .is-honest;
+      once = g .grown .once;
+      full = none-next boxes rows arrows m own (d .own-are) (d .clear) touch (d .same) (g .list) work₀ t h (rw (g .shown) at n);
+    }

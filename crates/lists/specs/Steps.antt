@@ -3,7 +3,7 @@ use mathlib.Core.Path.{_≡_}
 use mathlib.Core.Bool.{Bool, false, not, cond, _&&_}
 use mathlib.Core.List.{List}
 use mathlib.Core.Option.{Option}
-use Prim.Native.Nat.{ℕ, _+_, _/_, _%_, _<_, _≤_}
+use Prim.Native.Nat.{ℕ, _+_, _*_, _/_, _%_, _<_, _≤_}
 use lib.Dec.{T, eqb, ltb}
 use lib.ListN.{length, getD}
 use Rattle.tables.specs.Search.{first, given, every, bit}
@@ -11,89 +11,103 @@ use Rattle.tables.specs.Buffers.{build, written}
 use Rattle.tables.specs.Rows.{user, file, arrowCount, arrowAt}
 use Rattle.tables.specs.Atoms.{atoms, pairCount}
 use Rattle.tables.specs.Refusals.{noOrder}
-use Rattle.tables.specs.declared.Arrow.{Arrow}
 use Rattle.tables.specs.declared.Refusal.{Refusal}
-use Rattle.answers.specs.Among.{Within, Numbers}
-use Rattle.answers.specs.Meaning.{reaches, isUnclear}
+use Rattle.sets.specs.Sets.{has}
+use Rattle.answers.specs.Among.{Numbers}
+use Rattle.answers.specs.Meaning.{isUnclear}
 use Rattle.answers.specs.Pairs.{userAt, fileAt, answerAt}
-use Rattle.lists.specs.Order.{reached, granted, honest, distinct}
+use Rattle.lists.specs.Order.{meets, reached, granted, honest, distinct}
 use Rattle.lists.specs.Greedy.{addable}
 use Rattle.lists.specs.declared.Cell.{Cell}
+use Rattle.lists.specs.declared.Grid.{Grid}
 
 -- place p of a table of so many columns
 abbrev pub cellAt : ℕ → ℕ → Cell
-cellAt width p = record { row = p / width; col = p % width }
+cellAt width p = record { row = p / width; col = p % width; place = p }
 
--- the users, the files and the number of pairs are those of the picture
-pub record Placed (boxes rows users files : List ℕ) (pairs : ℕ) : Type 0 where
-  pub few : length boxes ≤ 256
-  pub users-are : users ≡ atoms boxes rows user
-  pub files-are : files ≡ atoms boxes rows file
-  pub pairs-are : pairs ≡ pairCount boxes rows
+-- the cell is that of a pair
+abbrev pub Inside : Grid → Cell → Type 0
+Inside g at = (at .place < g .pairs) × (at ≡ cellAt (g .files) (at .place))
+
+abbrev pub gridOf : List ℕ → ℕ → ℕ → Grid
+gridOf arrows users files = record { arrows = arrowCount arrows; users = users; files = files; pairs = users * files }
+
+-- the table has a set for each arrow, then for each user, then for each file
+pub record Laid (table : List ℕ) (g : Grid) : Type 0 where
+  pub pairs-are : g .pairs ≡ g .users * g .files
+  pub few-arrows : g .arrows ≤ 512
+  pub few-users : g .users ≤ 256
+  pub few-files : g .files ≤ 256
+  pub few-sets : 8 * (g .arrows + g .users + g .files) ≤ length table
+
+-- arrow k reaches the pair at place p, by the table: it is in the set of the user and in that of the file
+unfoldable pub touches : List ℕ → Grid → ℕ → ℕ → Bool
+touches table g k p = has table (g .arrows + p / g .files) k && has table (g .arrows + g .users + p % g .files) k
+
+-- the table is that of the picture
+pub record Agrees (boxes rows arrows table : List ℕ) (g : Grid) : Type 0 where
+  pub pairs-are : g .pairs ≡ pairCount boxes rows
+  pub same : (k p : ℕ) → k < arrowCount arrows → p < pairCount boxes rows → touches table g k p ≡ meets boxes rows arrows p k
+
+-- the users and the files are those of the picture
+abbrev pub Placed : List ℕ → List ℕ → List ℕ → List ℕ → Type 0
+Placed boxes rows users files = (users ≡ atoms boxes rows user) × (files ≡ atoms boxes rows file)
 
 -- the arrows of a picture, and numbers of some of them
-pub record Drawn (boxes arrows own : List ℕ) : Type 0 where
+pub record Drawn (arrows own : List ℕ) : Type 0 where
   pub few : length own ≤ 512
-  pub within : Within (length boxes) arrows
+  pub few-arrows : arrowCount arrows ≤ 512
   pub signs : (k : ℕ) → k < arrowCount arrows → arrowAt arrows k .sign ≤ 1
   pub numbers : Numbers arrows own
 
--- the arrow's ends are boxes
-abbrev pub Ends : List ℕ → Arrow → Type 0
-Ends boxes a = (a .tail < length boxes) × (a .head < length boxes)
-
-module _ (boxes rows : List ℕ) where
-  -- the arrow reaches the pair at place p
-  unfoldable pub touches : Arrow → ℕ → Bool
-  touches a p = reaches rows a (userAt boxes rows p) (fileAt boxes rows p)
-
-  -- c is the cell of a place after p, at most `pairs`, and the arrow reaches none of the pairs between
-  pub record Ahead (a : Arrow) (pairs width p : ℕ) (c : Cell) : Type 0 where
-    pub place : ℕ
-    pub cell : c ≡ cellAt width place
-    pub later : p < place
-    pub within : place ≤ pairs
-    pub untouched : (q : ℕ) → p < q → q < place → T (touches a q) → ⊥
+-- of an arrow, by which pairs it reaches
+module _ (touch : ℕ → Bool) where
+  -- c is the cell of a place after p, at most one past the last, and the arrow reaches none of the pairs between
+  pub record Ahead (g : Grid) (p : ℕ) (c : Cell) : Type 0 where
+    pub cell : c ≡ cellAt (g .files) (c .place)
+    pub later : p < c .place
+    pub within : c .place ≤ g .pairs
+    pub untouched : (q : ℕ) → p < q → q < c .place → T (touch q) → ⊥
 
   -- a work byte is 1 if its pair is granted, and 2 more if the list reaches it.
   -- The arrow reaches the pair at place p, whose byte is none of a reached pair and is not `skip`: with the arrow's sign to skip,
   -- the arrow may not follow yet; with 2, it would be the first to reach the pair.
-  unfoldable pub stops : Arrow → List ℕ → ℕ → ℕ → Bool
-  stops a work skip p = ltb (getD work p 0) 2 && (not (eqb (getD work p 0) skip) && touches a p)
+  unfoldable pub stops : List ℕ → ℕ → ℕ → Bool
+  stops work skip p = ltb (getD work p 0) 2 && (not (eqb (getD work p 0) skip) && touch p)
 
   -- none of the first r places does
-  abbrev pub NoStop : Arrow → List ℕ → ℕ → ℕ → Type 0
-  NoStop a work skip r = (p : ℕ) → p < r → T (stops a work skip p) → ⊥
+  abbrev pub NoStop : List ℕ → ℕ → ℕ → Type 0
+  NoStop work skip r = (p : ℕ) → p < r → T (stops work skip p) → ⊥
 
-  -- the arrow may follow, and would be the first to reach some pair
-  unfoldable pub follows : Arrow → List ℕ → Bool
-  follows a work =
-      every (λ p. not (stops a work (a .sign) p)) (pairCount boxes rows) && not (every (λ p. not (stops a work 2 p)) (pairCount boxes rows))
+  -- the arrow, of this sign, may follow, and would be the first to reach some of the n pairs
+  unfoldable pub follows : ℕ → ℕ → List ℕ → Bool
+  follows sign n work = every (λ p. not (stops work sign p)) n && not (every (λ p. not (stops work 2 p)) n)
 
   -- the byte at place p once the arrow is in the list
-  unfoldable pub marked : Arrow → List ℕ → ℕ → ℕ
-  marked a work p = getD work p 0 + cond (stops a work 2 p) 2 0
+  unfoldable pub marked : List ℕ → ℕ → ℕ
+  marked work p = getD work p 0 + cond (stops work 2 p) 2 0
 
+-- what the two kinds of pointers skip, for arrow k
+abbrev pub ownSign : List ℕ → ℕ → ℕ
+ownSign arrows k = arrowAt arrows k .sign
+
+abbrev pub nothing : ℕ → ℕ
+nothing k = 2
+
+module _ (touch : ℕ → ℕ → Bool) (own : List ℕ) where
+  -- a pointer for each of the numbered arrows, before which no place stops it
+  pub record Behind (skip : ℕ → ℕ) (work pointers : List ℕ) : Type 0 where
+    pub room : length own ≤ length pointers
+    pub passed : (t : ℕ) → t < length own → NoStop (touch (getD own t 0)) work (skip (getD own t 0)) (getD pointers t 0)
+
+  -- the arrow at place t of the numbers may follow
+  unfoldable pub followsAt : List ℕ → ℕ → List ℕ → ℕ → Bool
+  followsAt arrows n work t = follows (touch (getD own t 0)) (ownSign arrows (getD own t 0)) n work
+
+module _ (boxes rows : List ℕ) where
   -- the first pair whose byte is that of a granted pair that is not reached
   unfoldable pub leftIn : ℕ → List ℕ → Option Refusal
   leftIn m work = first (λ p. given (eqb (getD work p 0) 1) (noOrder m (userAt boxes rows p) (fileAt boxes rows p))) (pairCount boxes rows)
-
-  module _ (arrows own : List ℕ) where
-    -- a pointer for each of the numbered arrows, before which no place stops it
-    pub record Behind (skip : Arrow → ℕ) (work pointers : List ℕ) : Type 0 where
-      pub room : length own ≤ length pointers
-      pub passed : (t : ℕ) → t < length own → NoStop (arrowAt arrows (getD own t 0)) work (skip (arrowAt arrows (getD own t 0))) (getD pointers t 0)
-
-    -- the arrow at place t of the numbers may follow
-    unfoldable pub followsAt : List ℕ → ℕ → Bool
-    followsAt work t = follows (arrowAt arrows (getD own t 0)) work
-
--- what the two kinds of pointers skip
-abbrev pub ownSign : Arrow → ℕ
-ownSign a = a .sign
-
-abbrev pub nothing : Arrow → ℕ
-nothing a = 2
 
 module _ (boxes rows arrows : List ℕ) (m : ℕ) where
   -- no pair is unclear

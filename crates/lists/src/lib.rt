@@ -18,11 +18,9 @@ ghost use Rattle.answers.specs.Among.{modeArrows, FirstAt};
 ghost use Rattle.answers.specs.Table.{Tabled};
 ghost use Rattle.lists.specs.Greedy.{orderFault};
 ghost use Rattle.lists.specs.Calls.{blanks, Answered, Listing, Outcome};
-ghost use Rattle.lists.specs.Steps.{cellAt, Placed, Drawn, Ends, Ahead, stops, NoStop, marked, Behind, followsAt, ownSign, nothing, leftIn, Clear, workOf, Ordered};
+ghost use Rattle.lists.specs.Steps.{cellAt, gridOf, Laid, Inside, Agrees, Placed, Drawn, touches, Ahead, stops, NoStop, marked, Behind, followsAt, ownSign, nothing, leftIn, Clear, workOf, Ordered};
 use answers::Entry;
 use answers::answer_at;
-use answers::does_reach;
-use answers::is_around;
 use answers::is_unclear;
 use answers::mode_arrows;
 use answers::no_boxes;
@@ -33,6 +31,7 @@ use answers::pair_count;
 use answers::tabulate;
 use containment::check_scratch;
 use containment::contain;
+use sets::is_in;
 use tables::Arrow;
 use tables::Refusal;
 use tables::Verdict;
@@ -48,10 +47,11 @@ pub enum Listed {
     Refused(Refusal),
 }
 
-// A place of the matrix, by its row and its column: a walk over the places then divides only where it begins.
+// A place of the matrix, with its row and its column: a walk over the places then divides only where it begins.
 struct Cell {
     row: usize,
     col: usize,
+    place: usize,
 }
 
 impl Cell {
@@ -63,33 +63,57 @@ impl Cell {
         Self {
             row: p / width,
             col: p % width,
+            place: p,
+        }
+    }
+
+    // The first place of the next row.
+    fn below(self, width: usize) -> Self
+        requires { ⌜ (self .col < width) × (self .row < 256) × (self .place < 65536) × (width ≤ 256) ⌝ }
+        ensures { λ r. ⌜ ((p : ℕ) → self ≡ cellAt width p → r ≡ cellAt width ((p / width + 1) * width)) ⌝ }
+    {
+        Self {
+            row: self.row + 1,
+            col: 0,
+            place: self.place + (width - self.col),
         }
     }
 
     // The place after it.
     fn next(self, width: usize) -> Self
-        requires { ⌜ (self .col < width) × (self .row < 256) ⌝ }
+        requires { ⌜ (self .col < width) × (self .row < 256) × (self .place < 65536) × (width ≤ 256) ⌝ }
         ensures { λ r. ⌜ ((p : ℕ) → self ≡ cellAt width p → r ≡ cellAt width (p + 1)) ⌝ }
     {
         if self.col + 1 < width {
             return Self {
                 row: self.row,
                 col: self.col + 1,
+                place: self.place + 1,
             };
         }
-        Self {
-            row: self.row + 1,
-            col: 0,
-        }
+        self.below(width)
     }
 }
 
-// The place of the cell in a table of so many columns.
-fn place_of(at: Cell, width: usize) -> usize
-    requires { ⌜ at .row * width + at .col < 65536 ⌝ }
-    ensures { λ r. ⌜ r ≡ at .row * width + at .col ⌝ }
+// How many arrows, users, files and pairs the table of sets is of.
+struct Grid {
+    arrows: usize,
+    users: usize,
+    files: usize,
+    pairs: usize,
+}
+
+// The table of so many users and files.
+fn grid_of(arrows: &[u16], users: usize, files: usize) -> Grid
+    requires { ⌜ (users ≤ 256) × (files ≤ 256) ⌝ }
+    ensures { λ r. ⌜ r ≡ gridOf (now (arrows .entry)) users files ⌝ }
 {
-    at.row * width + at.col
+    Grid {
+        arrows: arrows.len() / 4,
+        users,
+        files,
+        pairs: users * files,
+    }
 }
 
 // The sign of an arrow as a byte.
@@ -100,24 +124,12 @@ fn sign_byte(sign: u16) -> u8
     (sign % 256) as u8
 }
 
-// Whether the arrow reaches the pair at place p, and the pair's byte says that it is not reached yet and is none to skip.
-fn stops_at(
-    boxes: &[u8],
-    rows: &[u16],
-    scratch: &[u8],
-    users: &[u16],
-    files: &[u16],
-    pairs: usize,
-    a: Arrow,
-    work: &[u8],
-    skip: u8,
-    p: usize,
-    at: Cell,
-) -> bool
-    requires { ⌜ Says (length (now boxes)) (now rows) (now scratch) × Placed (now boxes) (now rows) (now users) (now files) pairs × Ends (now boxes) a ⌝ }
-    requires { ⌜ (p < pairs) × (p < length (now work)) × (at ≡ cellAt (length (now files)) p) ⌝ }
-    ensures { λ r. ⌜ r ≡ stops (now (boxes .entry)) (now (rows .entry)) a (now (work .entry)) skip p ⌝ }
+// Whether arrow k reaches the pair at the cell, and the pair's byte says that it is not reached yet and is none to skip.
+fn stops_at(table: &[u64], g: Grid, k: usize, work: &[u8], skip: u8, at: Cell) -> bool
+    requires { ⌜ Laid (now table) g × (k < 512) × Inside g at × (g .pairs ≤ length (now work)) ⌝ }
+    ensures { λ r. ⌜ r ≡ stops (touches (now (table .entry)) g k) (now (work .entry)) skip (at .place) ⌝ }
 {
+    let p = at.place;
     let byte = work[p];
     if 2 <= byte {
         return false;
@@ -125,88 +137,44 @@ fn stops_at(
     if byte == skip {
         return false;
     }
-    let i = at.row;
-    let j = at.col;
-    does_reach(boxes.len(), rows, scratch, a, users[i], files[j])
+    is_in(table, g.arrows + at.row, k) && is_in(table, g.arrows + g.users + at.col, k)
 }
 
-// Where the walk of the arrow goes on after place p: at the next place, or in the next row where it reaches no pair of this one.
-fn ahead(
-    boxes: &[u8],
-    rows: &[u16],
-    scratch: &[u8],
-    users: &[u16],
-    files: &[u16],
-    pairs: usize,
-    a: Arrow,
-    p: usize,
-    at: Cell,
-) -> Cell
-    requires { ⌜ Says (length (now boxes)) (now rows) (now scratch) × Placed (now boxes) (now rows) (now users) (now files) pairs × Ends (now boxes) a ⌝ }
-    requires { ⌜ (p < pairs) × (at ≡ cellAt (length (now files)) p) ⌝ }
-    ensures { λ r. ⌜ Ahead (now (boxes .entry)) (now (rows .entry)) a pairs (length (now (files .entry))) p r ⌝ }
+// Where the walk of arrow k goes on: at the next place, or in the next row where it reaches no pair of this one.
+fn ahead(table: &[u64], g: Grid, k: usize, at: Cell) -> Cell
+    requires { ⌜ Laid (now table) g × (k < 512) × Inside g at ⌝ }
+    ensures { λ r. ⌜ Ahead (touches (now (table .entry)) g k) g (at .place) r ⌝ }
 {
-    let i = at.row;
-    if is_around(boxes.len(), rows, scratch, a.tail, users[i]) {
-        return at.next(files.len());
+    if is_in(table, g.arrows + at.row, k) {
+        return at.next(g.files);
     }
-    Cell { row: i + 1, col: 0 }
+    at.below(g.files)
 }
 
-// The first place from `from` on that stops the arrow, or one past the end.
-fn advance(
-    boxes: &[u8],
-    rows: &[u16],
-    scratch: &[u8],
-    users: &[u16],
-    files: &[u16],
-    pairs: usize,
-    a: Arrow,
-    work: &[u8],
-    skip: u8,
-    from: usize,
-) -> usize
-    requires { ⌜ Says (length (now boxes)) (now rows) (now scratch) × Placed (now boxes) (now rows) (now users) (now files) pairs × Ends (now boxes) a × (pairs ≤ length (now work)) ⌝ }
-    requires { ⌜ NoStop (now boxes) (now rows) a (now work) skip from ⌝ }
-    ensures { λ r. ⌜ FirstAt (stops (now (boxes .entry)) (now (rows .entry)) a (now (work .entry)) skip) pairs r ⌝ }
+// The first place from `from` on that stops arrow k, or one past the end.
+fn advance(table: &[u64], g: Grid, k: usize, work: &[u8], skip: u8, from: usize) -> usize
+    requires { ⌜ Laid (now table) g × (k < 512) × (g .pairs ≤ length (now work)) × NoStop (touches (now table) g k) (now work) skip from ⌝ }
+    ensures { λ r. ⌜ FirstAt (stops (touches (now (table .entry)) g k) (now (work .entry)) skip) (g .pairs) r ⌝ }
 {
-    if pairs <= from {
+    if g.pairs <= from {
         return from;
     }
-    let mut at = Cell::at(from, files.len());
-    let mut p = from;
-    while p < pairs {
-        if stops_at(
-            boxes,
-            rows,
-            scratch,
-            users,
-            files,
-            pairs,
-            a,
-            work,
-            skip,
-            p,
-            at,
-        ) {
-            return p;
+    let mut at = Cell::at(from, g.files);
+    while at.place < g.pairs {
+        if stops_at(table, g, k, work, skip, at) {
+            return at.place;
         }
-        at = ahead(boxes, rows, scratch, users, files, pairs, a, p, at);
-        p = place_of(at, files.len());
+        at = ahead(table, g, k, at);
     }
-    p
+    at.place
 }
 
 // Whether the arrow at place t of the numbers may follow the list and would be the first to reach some pair. Each arrow has two
 // pointers, to the first place that may still keep it from following and to the first that it may be the first to reach. What
 // does not stop an arrow never does later, so they only move forward, and cost a step for each pair and arrow in all.
 fn may_follow(
-    boxes: &[u8],
-    rows: &[u16],
-    scratch: &[u8],
-    users: &[u16],
-    files: &[u16],
-    pairs: usize,
+    table: &[u64],
+    g: Grid,
     arrows: &[u16],
     own: &[u16],
     work: &[u8],
@@ -214,78 +182,40 @@ fn may_follow(
     fresh: &mut [usize],
     t: usize,
 ) -> bool
-    requires { ⌜ Says (length (now boxes)) (now rows) (now scratch) × Placed (now boxes) (now rows) (now users) (now files) pairs × Drawn (now boxes) (now arrows) (now own) × (pairs ≤ length (now work)) × (t < length (now own)) ⌝ }
-    requires { ⌜ Behind (now boxes) (now rows) (now arrows) (now own) ownSign (now work) (now blocked) × Behind (now boxes) (now rows) (now arrows) (now own) nothing (now work) (now fresh) ⌝ }
-    ensures { λ r. ⌜ r ≡ followsAt (now (boxes .entry)) (now (rows .entry)) (now (arrows .entry)) (now (own .entry)) (now (work .entry)) t ⌝ }
-    ensures { λ _. ⌜ Behind (now (boxes .entry)) (now (rows .entry)) (now (arrows .entry)) (now (own .entry)) ownSign (now (work .entry)) (now (blocked .exit)) × Behind (now (boxes .entry)) (now (rows .entry)) (now (arrows .entry)) (now (own .entry)) nothing (now (work .entry)) (now (fresh .exit)) ⌝ }
+    requires { ⌜ Laid (now table) g × Drawn (now arrows) (now own) × (g .pairs ≤ length (now work)) × (t < length (now own)) ⌝ }
+    requires { ⌜ Behind (touches (now table) g) (now own) (ownSign (now arrows)) (now work) (now blocked) × Behind (touches (now table) g) (now own) nothing (now work) (now fresh) ⌝ }
+    ensures { λ r. ⌜ r ≡ followsAt (touches (now (table .entry)) g) (now (own .entry)) (now (arrows .entry)) (g .pairs) (now (work .entry)) t ⌝ }
+    ensures { λ _. ⌜ Behind (touches (now (table .entry)) g) (now (own .entry)) (ownSign (now (arrows .entry))) (now (work .entry)) (now (blocked .exit)) × Behind (touches (now (table .entry)) g) (now (own .entry)) nothing (now (work .entry)) (now (fresh .exit)) ⌝ }
 {
-    let a = Arrow::at(arrows, wide(own[t]));
-    let b = advance(
-        boxes,
-        rows,
-        scratch,
-        users,
-        files,
-        pairs,
-        a,
-        work,
-        sign_byte(a.sign),
-        blocked[t],
-    );
+    let k = wide(own[t]);
+    let a = Arrow::at(arrows, k);
+    let b = advance(table, g, k, work, sign_byte(a.sign), blocked[t]);
     blocked[t] = b;
-    if b < pairs {
+    if b < g.pairs {
         return false;
     }
-    let f = advance(
-        boxes,
-        rows,
-        scratch,
-        users,
-        files,
-        pairs,
-        a,
-        work,
-        2,
-        fresh[t],
-    );
+    let f = advance(table, g, k, work, 2, fresh[t]);
     fresh[t] = f;
-    f < pairs
+    f < g.pairs
 }
 
 // The first place of the numbers whose arrow may follow, or one past the end.
 fn pick(
-    boxes: &[u8],
-    rows: &[u16],
-    scratch: &[u8],
-    users: &[u16],
-    files: &[u16],
-    pairs: usize,
+    table: &[u64],
+    g: Grid,
     arrows: &[u16],
     own: &[u16],
     work: &[u8],
     blocked: &mut [usize],
     fresh: &mut [usize],
 ) -> usize
-    requires { ⌜ Says (length (now boxes)) (now rows) (now scratch) × Placed (now boxes) (now rows) (now users) (now files) pairs × Drawn (now boxes) (now arrows) (now own) × (pairs ≤ length (now work)) ⌝ }
-    requires { ⌜ Behind (now boxes) (now rows) (now arrows) (now own) ownSign (now work) (now blocked) × Behind (now boxes) (now rows) (now arrows) (now own) nothing (now work) (now fresh) ⌝ }
-    ensures { λ r. ⌜ FirstAt (followsAt (now (boxes .entry)) (now (rows .entry)) (now (arrows .entry)) (now (own .entry)) (now (work .entry))) (length (now (own .entry))) r ⌝ }
-    ensures { λ _. ⌜ Behind (now (boxes .entry)) (now (rows .entry)) (now (arrows .entry)) (now (own .entry)) ownSign (now (work .entry)) (now (blocked .exit)) × Behind (now (boxes .entry)) (now (rows .entry)) (now (arrows .entry)) (now (own .entry)) nothing (now (work .entry)) (now (fresh .exit)) ⌝ }
+    requires { ⌜ Laid (now table) g × Drawn (now arrows) (now own) × (g .pairs ≤ length (now work)) ⌝ }
+    requires { ⌜ Behind (touches (now table) g) (now own) (ownSign (now arrows)) (now work) (now blocked) × Behind (touches (now table) g) (now own) nothing (now work) (now fresh) ⌝ }
+    ensures { λ r. ⌜ FirstAt (followsAt (touches (now (table .entry)) g) (now (own .entry)) (now (arrows .entry)) (g .pairs) (now (work .entry))) (length (now (own .entry))) r ⌝ }
+    ensures { λ _. ⌜ Behind (touches (now (table .entry)) g) (now (own .entry)) (ownSign (now (arrows .entry))) (now (work .entry)) (now (blocked .exit)) × Behind (touches (now (table .entry)) g) (now (own .entry)) nothing (now (work .entry)) (now (fresh .exit)) ⌝ }
 {
     for t in 0..own.len() {
-        if may_follow(
-            boxes,
-            rows,
-            scratch,
-            users,
-            files,
-            pairs,
-            arrows,
-            own,
-            work,
-            blocked,
-            fresh,
-            t,
-        ) {
+        if may_follow(table, g, arrows, own, work, blocked, fresh, t) {
             return t;
         }
     }
@@ -303,30 +233,20 @@ fn marked_byte(byte: u8, hit: bool) -> u8
     byte
 }
 
-// Marks the pairs that the arrow is the first to reach.
-fn mark(
-    boxes: &[u8],
-    rows: &[u16],
-    scratch: &[u8],
-    users: &[u16],
-    files: &[u16],
-    pairs: usize,
-    a: Arrow,
-    work: &mut [u8],
-)
-    requires { ⌜ Says (length (now boxes)) (now rows) (now scratch) × Placed (now boxes) (now rows) (now users) (now files) pairs × Ends (now boxes) a × (pairs ≤ length (now work)) ⌝ }
-    ensures { λ _. ⌜ now (work .exit) ≡ written (build (marked (now (boxes .entry)) (now (rows .entry)) a (now (work .entry))) pairs) (now (work .entry)) ⌝ }
+// Marks the pairs that arrow k is the first to reach.
+fn mark(table: &[u64], g: Grid, k: usize, work: &mut [u8])
+    requires { ⌜ Laid (now table) g × (k < 512) × (g .pairs ≤ length (now work)) ⌝ }
+    ensures { λ _. ⌜ now (work .exit) ≡ written (build (marked (touches (now (table .entry)) g k) (now (work .entry))) (g .pairs)) (now (work .entry)) ⌝ }
 {
-    if pairs == 0 {
+    if g.pairs == 0 {
         return;
     }
-    let mut at = Cell::at(0, files.len());
-    let mut p = 0;
-    while p < pairs {
-        let hit = stops_at(boxes, rows, scratch, users, files, pairs, a, work, 2, p, at);
+    let mut at = Cell::at(0, g.files);
+    while at.place < g.pairs {
+        let hit = stops_at(table, g, k, work, 2, at);
+        let p = at.place;
         work[p] = marked_byte(work[p], hit);
-        at = ahead(boxes, rows, scratch, users, files, pairs, a, p, at);
-        p = place_of(at, files.len());
+        at = ahead(table, g, k, at);
     }
 }
 
@@ -336,12 +256,11 @@ fn refuse_pair(
     rows: &[u16],
     users: &[u16],
     files: &[u16],
-    pairs: usize,
     number: u8,
     mode: u16,
     p: usize,
 ) -> Verdict
-    requires { ⌜ Placed (now boxes) (now rows) (now users) (now files) pairs × (p < pairs) ⌝ }
+    requires { ⌜ Placed (now boxes) (now rows) (now users) (now files) × (p < pairCount (now boxes) (now rows)) ⌝ }
     ensures { λ r. ⌜ r ≡ verdictOf (some (refusal number mode (userAt (now (boxes .entry)) (now (rows .entry)) p) (fileAt (now (boxes .entry)) (now (rows .entry)) p))) ⌝ }
 {
     let pair = pair_at(boxes, rows, users, files, p);
@@ -354,16 +273,15 @@ fn check_left(
     rows: &[u16],
     users: &[u16],
     files: &[u16],
-    pairs: usize,
     mode: u16,
     work: &[u8],
 ) -> Verdict
-    requires { ⌜ Placed (now boxes) (now rows) (now users) (now files) pairs × (pairs ≤ length (now work)) ⌝ }
+    requires { ⌜ Placed (now boxes) (now rows) (now users) (now files) × (length (now boxes) ≤ 256) × (pairCount (now boxes) (now rows) ≤ length (now work)) ⌝ }
     ensures { λ r. ⌜ r ≡ verdictOf (leftIn (now (boxes .entry)) (now (rows .entry)) mode (now (work .entry))) ⌝ }
 {
-    for p in 0..pairs {
+    for p in 0..users.len() * files.len() {
         if work[p] == 1 {
-            return refuse_pair(boxes, rows, users, files, pairs, 13, mode, p);
+            return refuse_pair(boxes, rows, users, files, 13, mode, p);
         }
     }
     Verdict::Passed
@@ -391,45 +309,30 @@ fn no_places() -> [usize; 512]
 fn order(
     boxes: &[u8],
     rows: &[u16],
-    scratch: &[u8],
-    users: &[u16],
-    files: &[u16],
-    pairs: usize,
     arrows: &[u16],
+    table: &[u64],
+    g: Grid,
     mode: u16,
     own: &[u16],
     out: &mut [u16],
     work: &mut [u8],
 ) -> usize
-    requires { ⌜ Says (length (now boxes)) (now rows) (now scratch) × Placed (now boxes) (now rows) (now users) (now files) pairs × Drawn (now boxes) (now arrows) (now own) × (now own ≡ modeArrows (now arrows) mode) ⌝ }
-    requires { ⌜ Clear (now boxes) (now rows) (now arrows) mode × (length (now own) ≤ length (now out)) × (pairs ≤ length (now work)) × (now work ≡ written (workOf (now boxes) (now rows) (now arrows) mode []) (now work)) ⌝ }
+    requires { ⌜ Laid (now table) g × Agrees (now boxes) (now rows) (now arrows) (now table) g × Drawn (now arrows) (now own) × (now own ≡ modeArrows (now arrows) mode) ⌝ }
+    requires { ⌜ Clear (now boxes) (now rows) (now arrows) mode × (length (now own) ≤ length (now out)) × (pairCount (now boxes) (now rows) ≤ length (now work)) × (now work ≡ written (workOf (now boxes) (now rows) (now arrows) mode []) (now work)) ⌝ }
     ensures { λ r. ⌜ Ordered (now (boxes .entry)) (now (rows .entry)) (now (arrows .entry)) mode (now (out .entry)) (now (work .entry)) r (now (out .exit)) (now (work .exit)) ⌝ }
 {
     let mut block = no_places();
     let mut fresh = no_places();
     let mut count = 0;
     loop {
-        let t = pick(
-            boxes,
-            rows,
-            scratch,
-            users,
-            files,
-            pairs,
-            arrows,
-            own,
-            work,
-            &mut block,
-            &mut fresh,
-        );
+        let t = pick(table, g, arrows, own, work, &mut block, &mut fresh);
         if own.len() <= t {
             return count;
         }
         let k = own[t];
         out[count] = k;
         count += 1;
-        let a = Arrow::at(arrows, wide(k));
-        mark(boxes, rows, scratch, users, files, pairs, a, work);
+        mark(table, g, wide(k), work);
     }
 }
 
@@ -458,11 +361,10 @@ fn fill_granted(
     ensures { λ r. ⌜ r ≡ verdictOf (unclearFault (now (boxes .entry)) (now (rows .entry)) (now (arrows .entry)) mode) ⌝ }
     ensures { λ r. ⌜ (r ≡ Verdict.Passed → now (bytes .exit) ≡ written (workOf (now (boxes .entry)) (now (rows .entry)) (now (arrows .entry)) mode []) (now (bytes .entry))) ⌝ }
 {
-    let pairs = users.len() * files.len();
-    for p in 0..pairs {
+    for p in 0..users.len() * files.len() {
         let e = answer_at(boxes, rows, arrows, users, files, table, mode, p);
         if is_unclear(e) {
-            return refuse_pair(boxes, rows, users, files, pairs, 12, mode, p);
+            return refuse_pair(boxes, rows, users, files, 12, mode, p);
         }
         bytes[p] = granted_byte(e);
     }
@@ -479,48 +381,6 @@ fn copy(bytes: &[u8], work: &mut [u8], count: usize)
     }
 }
 
-// Writes the list of a clear mode, or 65,535 into each needed place where it leaves a granted pair. The work bytes are those of
-// the empty list, and 0 afterwards.
-fn finish(
-    boxes: &[u8],
-    rows: &[u16],
-    scratch: &[u8],
-    users: &[u16],
-    files: &[u16],
-    pairs: usize,
-    arrows: &[u16],
-    mode: u16,
-    own: &[u16],
-    out: &mut [u16],
-    work: &mut [u8],
-) -> Listed
-    requires { ⌜ Says (length (now boxes)) (now rows) (now scratch) × Placed (now boxes) (now rows) (now users) (now files) pairs × Drawn (now boxes) (now arrows) (now own) × (now own ≡ modeArrows (now arrows) mode) ⌝ }
-    requires { ⌜ Clear (now boxes) (now rows) (now arrows) mode × (length (now own) ≤ length (now out)) × (pairs ≤ length (now work)) × (now work ≡ written (workOf (now boxes) (now rows) (now arrows) mode []) (now work)) ⌝ }
-    ensures { λ r. ⌜ Answered (now (boxes .entry)) (now (rows .entry)) (now (arrows .entry)) mode none (orderFault (now (boxes .entry)) (now (rows .entry)) (now (arrows .entry)) mode) r (now (out .entry)) (now (out .exit)) ⌝ }
-    ensures { λ _. ⌜ now (work .exit) ≡ written (zeros pairs) (now (work .entry)) ⌝ }
-{
-    let count = order(
-        boxes,
-        rows,
-        scratch,
-        users,
-        files,
-        pairs,
-        arrows,
-        mode,
-        own,
-        out,
-        work,
-    );
-    let left = check_left(boxes, rows, users, files, pairs, mode, work);
-    tables::clear(work, pairs);
-    if let Verdict::Refused(r) = left {
-        blank(out, own.len());
-        return Listed::Refused(r);
-    }
-    Listed::Written(count)
-}
-
 // Room for a byte for each pair: 256 boxes make at most 128 × 128.
 fn no_bytes() -> [u8; 16384]
     ensures { λ r. ⌜ r ≡ zeros 16384 ⌝ }
@@ -528,11 +388,11 @@ fn no_bytes() -> [u8; 16384]
     [0u8; 16384]
 }
 
-// Check 12, then the list, by the mode's arrows, the atomic boxes and the table.
+// Check 12, then the list, by the mode's arrows, the atomic boxes and the table: 65,535 goes into each needed place where the list
+// leaves a granted pair.
 fn list_pairs(
     boxes: &[u8],
     rows: &[u16],
-    scratch: &[u8],
     arrows: &[u16],
     users: &[u16],
     files: &[u16],
@@ -542,30 +402,25 @@ fn list_pairs(
     out: &mut [u16],
     work: &mut [u8],
 ) -> Listed
-    requires { ⌜ Says (length (now boxes)) (now rows) (now scratch) × Tabled (now boxes) (now rows) (now arrows) (now users) (now files) (now table) × (mode < 8) × Drawn (now boxes) (now arrows) (now own) × (now own ≡ modeArrows (now arrows) mode) ⌝ }
+    requires { ⌜ Tabled (now boxes) (now rows) (now arrows) (now users) (now files) (now table) × (mode < 8) × Drawn (now arrows) (now own) × (now own ≡ modeArrows (now arrows) mode) ⌝ }
     requires { ⌜ (length (now own) ≤ length (now out)) × (pairCount (now boxes) (now rows) ≤ length (now work)) ⌝ }
     ensures { λ r. ⌜ Listing (now (boxes .entry)) (now (rows .entry)) (now (arrows .entry)) mode (now (out .entry)) (now (work .entry)) r (now (out .exit)) (now (work .exit)) ⌝ }
 {
     let mut bytes = no_bytes();
-    let clear = fill_granted(boxes, rows, arrows, users, files, table, mode, &mut bytes);
-    if let Verdict::Refused(r) = clear {
+    let unclear = fill_granted(boxes, rows, arrows, users, files, table, mode, &mut bytes);
+    if let Verdict::Refused(r) = unclear {
         return Listed::Refused(r);
     }
-    let pairs = users.len() * files.len();
-    copy(&bytes, work, pairs);
-    finish(
-        boxes,
-        rows,
-        scratch,
-        users,
-        files,
-        pairs,
-        arrows,
-        mode,
-        own,
-        out,
-        work,
-    )
+    let g = grid_of(arrows, users.len(), files.len());
+    copy(&bytes, work, g.pairs);
+    let count = order(boxes, rows, arrows, table, g, mode, own, out, work);
+    let left = check_left(boxes, rows, users, files, mode, work);
+    tables::clear(work, g.pairs);
+    if let Verdict::Refused(r) = left {
+        blank(out, own.len());
+        return Listed::Refused(r);
+    }
+    Listed::Written(count)
 }
 
 // Check 12, then the list, by a filled scratch.
@@ -599,7 +454,6 @@ fn write_list(
     list_pairs(
         boxes,
         rows,
-        scratch,
         arrows,
         &users[..s.users],
         &files[..s.files],

@@ -6,7 +6,7 @@ use mathlib.Core.Option.{some}
 use Prim.Native.Nat.{ℕ, zero, suc, _+_, _-_, _*_, _/_, _%_, _^_, _<_, _≤_}
 use native.Mathlib.Omega.{arith}
 use native.Mathlib.Decide.{decLt}
-use native.Mathlib.Nat.{zero-add, suc-add, div-one, le-of-suc-le-suc}
+use native.Mathlib.Nat.{zero-add, add-zero, suc-add, div-one, le-of-suc-le-suc}
 use native.Mathlib.Numerals.{one-add}
 use lib.Arith.{lt-one}
 use lib.Count.{trailingZeros, under}
@@ -52,6 +52,10 @@ shift-bit (suc k) w b =
     ap (λ (x : ℕ). bitAt x b) (ap (λ (i : ℕ). w / 2 ^ i) (sym (one-add k)) ∙ sym (shr-shr w 1 k))
     ∙ shift-bit k (w / 2) b
     ∙ ap (bitAt w) (sym (suc-add k b))
+
+pub low-shifted : (k w : ℕ) → eqb (w / 2 ^ k % 2) 1 ≡ bitAt w k
+unfolding bitAt
+low-shifted k w = shift-bit k w 0 ∙ ap (bitAt w) (add-zero k)
 
 -- no bit stands beyond the word
 beyond : (n w b : ℕ) → w < 2 ^ n → n ≤ b → T (bitAt w b) → ⊥

@@ -23,6 +23,14 @@ fn shared_word(table: &[u64], a: usize, b: usize, c: usize, q: usize) -> u64
     word(table, a, q) & word(table, b, q) & word(table, c, q)
 }
 
+// Whether k is in set r.
+pub fn is_in(table: &[u64], r: usize, k: usize) -> bool
+    requires { ⌜ (8 * r + 8 ≤ length (now table)) × (k < 512) ⌝ }
+    ensures { λ x. ⌜ x ≡ has (now (table .entry)) r k ⌝ }
+{
+    (word(table, r, k / 64) >> (k % 64)) % 2 == 1
+}
+
 // What sets a, b and c of the table share.
 pub fn share(table: &[u64], a: usize, b: usize, c: usize) -> [u64; 8]
     requires { ⌜ (8 * a + 8 ≤ length (now table)) × (8 * b + 8 ≤ length (now table)) × (8 * c + 8 ≤ length (now table)) ⌝ }

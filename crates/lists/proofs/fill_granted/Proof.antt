@@ -11,15 +11,14 @@ use Rattle.tables.proofs.Verdicts.{passed}
 use Rattle.tables.proofs.SearchLaws.{some-none}
 use Rattle.answers.proofs.TableLaws.{tabled-pairs}
 use Rattle.lists.proofs.FillLaws.{Filling, filling-none, filling-length, filling-next, filling-unclear, filling-done}
-use Rattle.lists.proofs.ReadyLaws.{placed-is}
 use Rattle.lists.proofs.fill_granted.Statement.{statement}
 use Rattle.lists.proofs.fill_granted.Tie as tie
 
 abbrev Inv-loop : tie.InvT-loop
-Inv-loop boxes rows arrows users files table mode bytes₀ pairs p₀ bytes p = Filling boxes rows arrows mode bytes₀ bytes p × (p ≤ pairCount boxes rows)
+Inv-loop boxes rows arrows users files table mode bytes₀ p₀ p-end bytes p = Filling boxes rows arrows mode bytes₀ bytes p × (p ≤ pairCount boxes rows)
 
 abbrev μ-loop : tie.MeasureT-loop
-μ-loop boxes rows arrows users files table mode bytes₀ pairs p₀ bytes p = pairCount boxes rows - p
+μ-loop boxes rows arrows users files table mode bytes₀ p₀ p-end bytes p = pairCount boxes rows - p
 
 counted : (c : tie.Start Inv-loop μ-loop) → let a = c .args in
     (length (a .users .now) * length (a .files .now) ≡ pairCount (a .boxes .now) (a .rows .now)) × (length (a .users .now) * length (a .files .now) ≤ 65536)
@@ -27,10 +26,11 @@ counted c = tabled-pairs (c .pre .0)
 
 -- the bytes keep their length
 kept : (c : tie.At-loop Inv-loop μ-loop) → length (c .loop .bytes) ≡ length (c .before .before .before .before .before .before .before .before .args .bytes .now)
-kept c = filling-length (c .before .before .before .before .before .before .before .before .args .boxes .now) (c .before .before .before .before .before .before .before .before .args .rows .now) (c .before .before .before .before .before .before .before .before .args .arrows .now) (c .before .before .before .before .before .before .before .before .args .mode) (c .before .before .before .before .before .before .before .before .args .bytes .now) (c .loop .bytes) (c .loop .p) (omega (arith, c .loop .inv .1, c .before .before .before .before .before .before .before .before .pre .2)) (c .loop .inv .0)
+kept c = let a = c .before .before .before .before .before .before .before .before .args in
+    filling-length (a .boxes .now) (a .rows .now) (a .arrows .now) (a .mode) (a .bytes .now) (c .loop .bytes) (c .loop .p) (omega (arith, c .loop .inv .1, c .before .before .before .before .before .before .before .before .pre .2)) (c .loop .inv .0)
 
-mul-pairs : tie.Need-mul-pairs Inv-loop μ-loop
-mul-pairs c = omega (arith, counted (c .before .before .before .before .before .before .before))
+mul-p-end : tie.Need-mul-p-end Inv-loop μ-loop
+mul-p-end c = omega (arith, counted (c .before .before .before .before .before .before .before))
 
 loop-holds : tie.Need-loop-holds Inv-loop μ-loop
 loop-holds c = let a = c .before .before .before .before .before .before .before .args in (filling-none (a .boxes .now) (a .rows .now) (a .arrows .now) (a .mode) (a .bytes .now), omega arith)
@@ -39,7 +39,7 @@ answer-at-requires : tie.Need-answer-at-requires Inv-loop μ-loop
 answer-at-requires c κs = (c .before .before .before .before .before .before .before .before .before .pre .0, c .before .before .before .before .before .before .before .before .before .pre .1, omega (arith, counted (c .before .before .before .before .before .before .before .before .before), c .loop-test .taken))
 
 refuse-pair-requires : tie.Need-refuse-pair-requires Inv-loop μ-loop
-refuse-pair-requires c κs = (placed-is (c .before .before .before .before .before .before .before .before .before .before .before .before .pre .0), c .before .before .before .loop-test .taken)
+refuse-pair-requires c κs = ((c .before .before .before .before .before .before .before .before .before .before .before .before .pre .0 .users-are, c .before .before .before .before .before .before .before .before .before .before .before .before .pre .0 .files-are), omega (arith, counted (c .before .before .before .before .before .before .before .before .before .before .before .before), c .before .before .before .loop-test .taken))
 
 same-length : tie.Need-same-length Inv-loop μ-loop
 same-length c = kept (c .before .before .before .before .before)
@@ -77,5 +77,5 @@ returns-2 c = let a = c .before .before .before .before .before .before .before 
 
 pub fill-granted-spec : {M : Type 1} → statement M
 fill-granted-spec =
-    tie.close (tie.spec Inv-loop μ-loop mul-pairs loop-holds answer-at-requires (λ c κs. search needs) refuse-pair-requires same-length
+    tie.close (tie.spec Inv-loop μ-loop mul-p-end loop-holds answer-at-requires (λ c κs. search needs) refuse-pair-requires same-length
     returns (λ c κs. search needs) slice-write-bytes add-p loop-less loop-again same-length-2 returns-2)

@@ -7,63 +7,91 @@ use native.Mathlib.Omega.{arith}
 use borrow.Author.Needs.{needs}
 use lib.ListN.{length}
 use Rattle.tables.specs.Atoms.{pairCount}
-use Rattle.tables.specs.Buffers.{written}
+use Rattle.tables.specs.Buffers.{written, zeros}
 use Rattle.tables.proofs.Verdicts.{passed, refused}
 use Rattle.tables.proofs.AtomSides.{pairs-most}
 use Rattle.tables.proofs.BufferLaws.{zeros-length}
 use Rattle.answers.specs.Pairs.{unclearFault}
 use Rattle.answers.proofs.TableLaws.{tabled-pairs}
-use Rattle.lists.specs.Steps.{workOf}
-use Rattle.lists.proofs.CallLaws.{listing-refused, copied, copied-again, listing-done}
+use Rattle.lists.specs.Steps.{leftIn, workOf}
+use Rattle.lists.proofs.CallLaws.{finish-written, finish-refused, finish-work, listing-refused, copied, copied-again, listing-done}
 use Rattle.lists.proofs.FillLaws.{all-clear}
-use Rattle.lists.proofs.ReadyLaws.{placed-is}
+use Rattle.lists.proofs.PlaceLaws.{few-users, few-files, laid, agrees}
 use Rattle.lists.proofs.list_pairs.Statement.{statement}
 use Rattle.lists.proofs.list_pairs.Tie as tie
 
 -- the local bytes have room for each pair
-bytes-room : (c : tie.After-no-bytes) → let a = c .before .before .before .before .before .before .before .before .before .before .before .args in pairCount (a .boxes .now) (a .rows .now) ≤ length (c .no-bytes .result)
-bytes-room c = let a = c .before .before .before .before .before .before .before .before .before .before .before .args in omega (arith, pairs-most (a .boxes .now) (a .rows .now) (c .before .before .before .before .before .before .before .before .before .before .before .pre .0 .1 .few-boxes), ap length (c .no-bytes .ensures) ∙ zeros-length 16384)
+bytes-room : (c : tie.After-no-bytes) → let a = c .before .before .before .before .before .before .before .before .before .before .args in pairCount (a .boxes .now) (a .rows .now) ≤ length (c .no-bytes .result)
+bytes-room c = let a = c .before .before .before .before .before .before .before .before .before .before .args in omega (arith, pairs-most (a .boxes .now) (a .rows .now) (c .before .before .before .before .before .before .before .before .before .before .pre .0 .0 .few-boxes), ap length (c .no-bytes .ensures) ∙ zeros-length 16384)
 
 -- check 12 passed
-clear : (c : tie.After-enum-told) → let a = c .before .before .before .before .before .before .before .before .before .before .before .before .before .before .before .before .args in unclearFault (a .boxes .now) (a .rows .now) (a .arrows .now) (a .mode) ≡ none
+clear : (c : tie.After-enum-told) → let a = c .before .before .before .before .before .before .before .before .before .before .before .before .before .before .before .args in unclearFault (a .boxes .now) (a .rows .now) (a .arrows .now) (a .mode) ≡ none
 clear c = passed _ (sym (c .before .before .before .fill-granted .ensures .0) ∙ c .enum-told .given .1)
+
+-- the grid's pairs
+pairs : (c : tie.After-grid-of) → let a = c .before .before .before .before .before .before .before .before .before .before .before .before .before .before .before .before .args in c .grid-of .result .pairs ≡ pairCount (a .boxes .now) (a .rows .now)
+pairs c = rw (c .grid-of .ensures) (tabled-pairs (c .before .before .before .before .before .before .before .before .before .before .before .before .before .before .before .before .pre .0 .0) .0)
 
 -- the work bytes are those of the empty list
 work-is : (c : tie.After-copy) → let a = c .before .before .before .before .before .before .before .before .before .before .before .before .before .before .before .before .before .before .before .args in c .copy .last .1 .0 ≡ written (workOf (a .boxes .now) (a .rows .now) (a .arrows .now) (a .mode) []) (a .work .now)
 work-is c = let a = c .before .before .before .before .before .before .before .before .before .before .before .before .before .before .before .before .before .before .before .args in
-    c .copy .ensures ∙ copied (a .boxes .now) (a .rows .now) (a .arrows .now) (a .mode) (a .out .now) (a .work .now) _ _ _ (tabled-pairs (c .before .before .before .before .before .before .before .before .before .before .before .before .before .before .before .before .before .before .before .pre .0 .1) .0) (c .before .before .before .before .before .before .fill-granted .ensures .1 (c .before .before .before .enum-told .given .1))
+    c .copy .ensures ∙ copied (a .boxes .now) (a .rows .now) (a .arrows .now) (a .mode) (a .out .now) (a .work .now) _ _ _ (pairs (c .before .before .before)) (c .before .before .before .before .before .before .before .fill-granted .ensures .1 (c .before .before .before .before .enum-told .given .1))
+
+-- and 0 afterwards
+work-cleared : (c : tie.After-clear) → let a = c .before .before .before .before .before .before .before .before .before .before .before .before .before .before .before .before .before .before .before .before .before .before .before .before .before .before .before .before .before .before .before .before .args in c .clear .last .0 ≡ written (zeros (pairCount (a .boxes .now) (a .rows .now))) (c .before .before .before .before .before .before .before .before .before .before .before .before .before .copy .last .1 .0)
+work-cleared c = let a = c .before .before .before .before .before .before .before .before .before .before .before .before .before .before .before .before .before .before .before .before .before .before .before .before .before .before .before .before .before .before .before .before .args in
+    c .clear .ensures
+    ∙ rw (pairs (c .before .before .before .before .before .before .before .before .before .before .before .before .before .before .before .before)) (finish-work (a .boxes .now) (a .rows .now) (a .arrows .now) (a .mode) _ _ _ _ _ (c .before .before .before .before .before .before .before .before .order .ensures) (omega (arith, c .before .before .before .before .before .before .before .before .before .before .before .before .before .before .before .before .before .before .before .before .before .before .before .before .before .before .before .before .before .before .before .before .pre .1 .1, c .before .before .before .before .before .before .before .before .before .before .before .before .before .copy .kept .1 .0)))
 
 fill-granted-requires : tie.Need-fill-granted-requires
-fill-granted-requires c κs = (c .before .before .before .before .before .before .before .before .before .before .before .before .pre .0 .1, c .before .before .before .before .before .before .before .before .before .before .before .before .pre .0 .2, bytes-room (c .before))
+fill-granted-requires c κs = (c .before .before .before .before .before .before .before .before .before .before .before .pre .0 .0, c .before .before .before .before .before .before .before .before .before .before .before .pre .0 .1, bytes-room (c .before))
 
 returns : tie.Need-returns
-returns c = let a = c .before .before .before .before .before .before .before .before .before .before .before .before .before .before .before .before .before .args in
-    listing-refused (a .boxes .now) (a .rows .now) (a .arrows .now) (a .mode) (a .out .now) (a .work .now) _ (refused _ _ (sym (c .before .before .before .before .fill-granted .ensures .0) ∙ c .before .clear .given .1))
+returns c = let a = c .before .before .before .before .before .before .before .before .before .before .before .before .before .before .before .before .args in
+    listing-refused (a .boxes .now) (a .rows .now) (a .arrows .now) (a .mode) (a .out .now) (a .work .now) _ (refused _ _ (sym (c .before .before .before .before .fill-granted .ensures .0) ∙ c .before .unclear .given .1))
 
-mul-pairs : tie.Need-mul-pairs
-mul-pairs c = omega (arith, tabled-pairs (c .before .before .before .before .before .before .before .before .before .before .before .before .before .before .before .before .pre .0 .1))
+grid-of-requires : tie.Need-grid-of-requires
+grid-of-requires c κs = (few-users (c .before .before .before .before .before .before .before .before .before .before .before .before .before .before .before .pre .0 .0), few-files (c .before .before .before .before .before .before .before .before .before .before .before .before .before .before .before .pre .0 .0))
 
 copy-requires : tie.Need-copy-requires
-copy-requires c κs = let e = tabled-pairs (c .before .before .before .before .before .before .before .before .before .before .before .before .before .before .before .before .before .before .pre .0 .1) .0 in
-    (omega (arith, e, bytes-room (c .before .before .before .before .before .before .before), c .before .before .before .before .before .fill-granted .kept .1 .1 .1 .1 .1 .1 .1 .0), omega (arith, e, c .before .before .before .before .before .before .before .before .before .before .before .before .before .before .before .before .before .before .pre .1 .1))
+copy-requires c κs = let e = pairs (c .before .before) in
+    (omega (arith, e, bytes-room (c .before .before .before .before .before .before .before .before), c .before .before .before .before .before .before .fill-granted .kept .1 .1 .1 .1 .1 .1 .1 .0), omega (arith, e, c .before .before .before .before .before .before .before .before .before .before .before .before .before .before .before .before .before .before .pre .1 .1))
 
-finish-requires : tie.Need-finish-requires
-finish-requires c κs = let a = c .before .before .before .before .before .before .before .before .before .before .before .before .before .before .before .before .before .before .before .before .before .before .before .args in
-    let placed = placed-is (c .before .before .before .before .before .before .before .before .before .before .before .before .before .before .before .before .before .before .before .before .before .before .before .pre .0 .1) in (
-      (c .before .before .before .before .before .before .before .before .before .before .before .before .before .before .before .before .before .before .before .before .before .before .before .pre .0 .0, placed, c .before .before .before .before .before .before .before .before .before .before .before .before .before .before .before .before .before .before .before .before .before .before .before .pre .0 .3, c .before .before .before .before .before .before .before .before .before .before .before .before .before .before .before .before .before .before .before .before .before .before .before .pre .0 .4),
+order-requires : tie.Need-order-requires
+order-requires c κs = let a = c .before .before .before .before .before .before .before .before .before .before .before .before .before .before .before .before .before .before .before .before .before .before .before .args in
+    let d = c .before .before .before .before .before .before .before .before .before .before .before .before .before .before .before .before .before .before .before .before .before .before .before .pre .0 .0 in (
+      (rw (c .before .before .before .before .before .before .before .grid-of .ensures) (laid d), rw (c .before .before .before .before .before .before .before .grid-of .ensures) (agrees d), c .before .before .before .before .before .before .before .before .before .before .before .before .before .before .before .before .before .before .before .before .before .before .before .pre .0 .2, c .before .before .before .before .before .before .before .before .before .before .before .before .before .before .before .before .before .before .before .before .before .before .before .pre .0 .3),
       (
-        all-clear (a .boxes .now) (a .rows .now) (a .arrows .now) (a .mode) (clear (c .before .before .before .before .before .before .before)),
+        all-clear (a .boxes .now) (a .rows .now) (a .arrows .now) (a .mode) (clear (c .before .before .before .before .before .before .before .before)),
         c .before .before .before .before .before .before .before .before .before .before .before .before .before .before .before .before .before .before .before .before .before .before .before .pre .1 .0,
-        omega (arith, placed .pairs-are, c .before .before .before .before .before .before .before .before .before .before .before .before .before .before .before .before .before .before .before .before .before .before .before .pre .1 .1, c .before .before .before .before .copy .kept .1 .0),
+        omega (arith, c .before .before .before .before .before .before .before .before .before .before .before .before .before .before .before .before .before .before .before .before .before .before .before .pre .1 .1, c .before .before .before .before .copy .kept .1 .0),
         copied-again (a .boxes .now) (a .rows .now) (a .arrows .now) (a .mode) (a .out .now) (a .work .now) (c .before .before .before .before .before .before .before .before .before .before .before .before .before .before .before .before .before .before .before .before .before .before .before .pre .1 .1) _ (work-is (c .before .before .before .before)),
       ),
     )
 
+check-left-requires : tie.Need-check-left-requires
+check-left-requires c κs = let d = c .before .before .before .before .before .before .before .before .before .before .before .before .before .before .before .before .before .before .before .before .before .before .before .before .before .before .before .before .before .pre .0 .0 in
+    ((d .users-are, d .files-are), d .few-boxes, omega (arith, c .before .before .before .before .before .before .before .before .before .before .before .before .before .before .before .before .before .before .before .before .before .before .before .before .before .before .before .before .before .pre .1 .1, c .before .before .before .before .before .before .before .before .before .before .copy .kept .1 .0, c .before .before .before .before .before .order .kept .1 .1 .1 .1 .1 .1 .1 .1 .0))
+
+clear-requires : tie.Need-clear-requires
+clear-requires c κs = omega (arith, pairs (c .before .before .before .before .before .before .before .before .before .before .before .before .before .before .before), c .before .before .before .before .before .before .before .before .before .before .before .before .before .before .before .before .before .before .before .before .before .before .before .before .before .before .before .before .before .before .before .pre .1 .1, c .before .before .before .before .before .before .before .before .before .before .before .before .copy .kept .1 .0, c .before .before .before .before .before .before .before .order .kept .1 .1 .1 .1 .1 .1 .1 .1 .0)
+
+blank-requires : tie.Need-blank-requires
+blank-requires c κs = omega (arith, c .before .before .before .before .before .before .before .before .before .before .before .before .before .before .before .before .before .before .before .before .before .before .before .before .before .before .before .before .before .before .before .before .before .before .before .before .before .before .pre .1 .0, c .before .before .before .before .before .before .before .before .before .before .before .before .before .before .order .kept .1 .1 .1 .1 .1 .1 .1 .0)
+
 returns-2 : tie.Need-returns-2
-returns-2 c = let a = c .before .before .before .before .before .before .before .before .before .before .before .before .before .before .before .before .before .before .before .before .before .before .before .before .before .before .before .before .args in
-    listing-done (a .boxes .now) (a .rows .now) (a .arrows .now) (a .mode) (a .out .now) (a .work .now) (c .before .before .before .before .before .before .before .before .before .before .before .before .before .before .before .before .before .before .before .before .before .before .before .before .before .before .before .before .pre .1 .1) _ (work-is (c .before .before .before .before .before .before .before .before .before)) (clear (c .before .before .before .before .before .before .before .before .before .before .before .before)) _ _ _ (c .before .before .before .before .finish .ensures .0) _ (tabled-pairs (c .before .before .before .before .before .before .before .before .before .before .before .before .before .before .before .before .before .before .before .before .before .before .before .before .before .before .before .before .pre .0 .1) .0) (c .before .before .before .before .finish .ensures .1)
+returns-2 c = let a = c .before .before .before .before .before .before .before .before .before .before .before .before .before .before .before .before .before .before .before .before .before .before .before .before .before .before .before .before .before .before .before .before .before .before .before .before .before .before .before .before .before .args in
+    let left = refused (leftIn (a .boxes .now) (a .rows .now) (a .mode) _) _ (sym (c .before .before .before .before .before .before .before .before .before .before .before .check-left .ensures) ∙ c .before .before .before .before .before .left .given .1) in
+    let answered = finish-refused (a .boxes .now) (a .rows .now) (a .arrows .now) (a .mode) _ _ _ _ _ (c .before .before .before .before .before .before .before .before .before .before .before .before .before .before .before .before .before .order .ensures) (a .own .now) (c .before .before .before .before .before .before .before .before .before .before .before .before .before .before .before .before .before .before .before .before .before .before .before .before .before .before .before .before .before .before .before .before .before .before .before .before .before .before .before .before .before .pre .0 .3) (c .before .before .before .before .before .before .before .before .before .before .before .before .before .before .before .before .before .before .before .before .before .before .before .before .before .before .before .before .before .before .before .before .before .before .before .before .before .before .before .before .before .pre .1 .0) _ left in
+    listing-done (a .boxes .now) (a .rows .now) (a .arrows .now) (a .mode) (a .out .now) (a .work .now) (c .before .before .before .before .before .before .before .before .before .before .before .before .before .before .before .before .before .before .before .before .before .before .before .before .before .before .before .before .before .before .before .before .before .before .before .before .before .before .before .before .before .pre .1 .1) _ (work-is (c .before .before .before .before .before .before .before .before .before .before .before .before .before .before .before .before .before .before .before .before .before .before)) (clear (c .before .before .before .before .before .before .before .before .before .before .before .before .before .before .before .before .before .before .before .before .before .before .before .before .before .before)) _ _ _ (rw (c .before .before .blank .ensures) answered) (work-cleared (c .before .before .before .before .before .before .before .before .before))
+
+returns-3 : tie.Need-returns-3
+returns-3 c = let a = c .before .before .before .before .before .before .before .before .before .before .before .before .before .before .before .before .before .before .before .before .before .before .before .before .before .before .before .before .before .before .before .before .before .before .before .before .args in
+    let left = passed (leftIn (a .boxes .now) (a .rows .now) (a .mode) _) (sym (c .before .before .before .before .before .before .check-left .ensures) ∙ c .enum-told2 .given .1) in
+    listing-done (a .boxes .now) (a .rows .now) (a .arrows .now) (a .mode) (a .out .now) (a .work .now) (c .before .before .before .before .before .before .before .before .before .before .before .before .before .before .before .before .before .before .before .before .before .before .before .before .before .before .before .before .before .before .before .before .before .before .before .before .pre .1 .1) _ (work-is (c .before .before .before .before .before .before .before .before .before .before .before .before .before .before .before .before .before)) (clear (c .before .before .before .before .before .before .before .before .before .before .before .before .before .before .before .before .before .before .before .before .before)) _ _ _ (finish-written (a .boxes .now) (a .rows .now) (a .arrows .now) (a .mode) _ _ _ _ _ (c .before .before .before .before .before .before .before .before .before .before .before .before .order .ensures) left) (work-cleared (c .before .before .before .before))
 
 pub list-pairs-spec : {M : Type 1} → statement M
 list-pairs-spec =
-    tie.close (tie.spec (λ c κs. search needs) (search needs) fill-granted-requires (search needs) returns (search needs) mul-pairs
-    (search needs) copy-requires finish-requires (search needs) (search needs) returns-2)
+    tie.close (tie.spec (λ c κs. search needs) (search needs) fill-granted-requires (search needs) returns (search needs) grid-of-requires
+    (search needs) copy-requires order-requires check-left-requires clear-requires (search needs) blank-requires (search needs)
+    (search needs) returns-2 (search needs) (search needs) (search needs) returns-3)

@@ -1,70 +1,48 @@
--- `lists::stops_at` meets its contract: the byte is tested, then whether the arrow reaches the pair. Assumes nothing.
-use mathlib.Core.Path.{refl, _≡_, sym, ap, _∙_}
-use Prim.Native.Nat.{_/_, _%_}
+-- `lists::stops_at` meets its contract: the byte is tested, then whether the arrow is in both sets of the pair. Assumes nothing.
+use mathlib.Core.Path.{sym, _∙_}
 use native.Mathlib.Omega.{arith}
-use borrow.Author.Needs.{needs}
-use lib.ListN.{length}
-use Rattle.lists.specs.Steps.{touches}
-use Rattle.lists.specs.declared.Cell.{Cell}
 use Rattle.lists.proofs.StepLaws.{stop-reached, stop-skipped, stop-touches}
-use Rattle.lists.proofs.PlaceLaws.{place-there, user-read, file-read, user-there, file-there, few-rows}
+use Rattle.lists.proofs.PlaceLaws.{row-in, col-in, touched, row-passed}
 use Rattle.lists.proofs.stops_at.Statement.{statement}
 use Rattle.lists.proofs.stops_at.Tie as tie
 
+shared-slice-read-byte : tie.Need-shared-slice-read-byte
+shared-slice-read-byte c = omega (arith, c .before .before .before .pre .2 .0, c .before .before .before .pre .3)
+
 returns : tie.Need-returns
-returns c = let s = c .before .before .before .before .before .before .before .before in
-    let a = s .args in
-    sym (stop-reached (a .boxes .now) (a .rows .now) (a .a) (a .work .now) (a .skip) (a .p) (omega arith))
+returns c = sym (stop-reached _ (c .before .before .before .before .args .work .now) (c .before .before .before .before .args .skip) (c .before .before .before .before .args .at .place) (omega (arith, c .if1 .taken)))
 
 returns-2 : tie.Need-returns-2
-returns-2 c = let s = c .before .before .before .before .before .before .before .before .before in
-    let a = s .args in
-    sym (stop-skipped (a .boxes .now) (a .rows .now) (a .a) (a .work .now) (a .skip) (a .p) (omega arith) (c .if2 .taken))
+returns-2 c = sym (stop-skipped _ (c .before .before .before .before .before .args .work .now) (c .before .before .before .before .before .args .skip) (c .before .before .before .before .before .args .at .place) (omega (arith, c .before .if1 .left)) (c .if2 .taken))
 
-mul-does-reach : tie.Need-mul-does-reach
-mul-does-reach c = let s = c .before .before .before .before .before .before .before .before .before in
-    let a = s .args in
-    let row : a .at .row ≡ a .p / length (a .files .now) = ap (λ (x : Cell). x .row) (s .pre .1 .2) in
-    omega (arith, few-rows (a .boxes .now) (a .rows .now) (a .users .now) (a .files .now) (a .pairs) (s .pre .0 .1) (a .p) (s .pre .1 .0))
+add-is-in : tie.Need-add-is-in
+add-is-in c = omega (arith, c .before .before .before .before .before .before .before .pre .0 .few-arrows, row-in (c .before .before .before .before .before .before .before .pre .0) (c .before .before .before .before .before .before .before .pre .2), c .before .before .before .before .before .before .before .pre .0 .few-users)
 
-shared-slice-read-does-reach : tie.Need-shared-slice-read-does-reach
-shared-slice-read-does-reach c = let s = c .before .before .before .before .before .before .before .before .before .before in
-    let a = s .args in
-    let row : a .at .row ≡ a .p / length (a .files .now) = ap (λ (x : Cell). x .row) (s .pre .1 .2) in
-    omega (arith, place-there (a .boxes .now) (a .rows .now) (a .users .now) (a .files .now) (a .pairs) (s .pre .0 .1) (a .p) (s .pre .1 .0))
+is-in-requires : tie.Need-is-in-requires
+is-in-requires c κs = (omega (arith, row-in (c .before .before .before .before .before .before .before .pre .0) (c .before .before .before .before .before .before .before .pre .2), c .before .before .before .before .before .before .before .pre .0 .few-sets), c .before .before .before .before .before .before .before .pre .1)
 
-mul-does-reach-2 : tie.Need-mul-does-reach-2
-mul-does-reach-2 c = let s = c .before .before .before .before .before .before .before .before .before .before in
-    let a = s .args in
-    let col : a .at .col ≡ a .p % length (a .files .now) = ap (λ (x : Cell). x .col) (s .pre .1 .2) in
-    omega (arith, place-there (a .boxes .now) (a .rows .now) (a .users .now) (a .files .now) (a .pairs) (s .pre .0 .1) (a .p) (s .pre .1 .0))
+add-is-in-2 : tie.Need-add-is-in-2
+add-is-in-2 c = omega (arith, c .before .before .before .before .before .before .before .before .before .before .pre .0 .few-arrows, c .before .before .before .before .before .before .before .before .before .before .pre .0 .few-users)
 
-shared-slice-read-does-reach-2 : tie.Need-shared-slice-read-does-reach-2
-shared-slice-read-does-reach-2 c = let s = c .before .before .before .before .before .before .before .before .before .before .before in
-    let a = s .args in
-    let col : a .at .col ≡ a .p % length (a .files .now) = ap (λ (x : Cell). x .col) (s .pre .1 .2) in
-    omega (arith, place-there (a .boxes .now) (a .rows .now) (a .users .now) (a .files .now) (a .pairs) (s .pre .0 .1) (a .p) (s .pre .1 .0))
+add-is-in-3 : tie.Need-add-is-in-3
+add-is-in-3 c = omega (arith, c .before .before .before .before .before .before .before .before .before .before .before .pre .0 .few-arrows, c .before .before .before .before .before .before .before .before .before .before .before .pre .0 .few-users, col-in (c .before .before .before .before .before .before .before .before .before .before .before .pre .0) (c .before .before .before .before .before .before .before .before .before .before .before .pre .2), c .before .before .before .before .before .before .before .before .before .before .before .pre .0 .few-files)
 
-does-reach-requires : tie.Need-does-reach-requires
-does-reach-requires c κs = let s = c .before .before .before .before .before .before .before .before .before .before .before in
-    let a = s .args in
-    let row : a .at .row ≡ a .p / length (a .files .now) = ap (λ (x : Cell). x .row) (s .pre .1 .2) in
-    let col : a .at .col ≡ a .p % length (a .files .now) = ap (λ (x : Cell). x .col) (s .pre .1 .2) in
-    let u = user-read (a .boxes .now) (a .rows .now) (a .users .now) (a .files .now) (a .pairs) (s .pre .0 .1) (a .p) (s .pre .1 .0) in
-    let f = file-read (a .boxes .now) (a .rows .now) (a .users .now) (a .files .now) (a .pairs) (s .pre .0 .1) (a .p) (s .pre .1 .0) in
-    (s .pre .0 .0, s .pre .0 .2 .0, s .pre .0 .2 .1, rw (row, u) (user-there (a .boxes .now) (a .rows .now) (a .users .now) (a .files .now) (a .pairs) (s .pre .0 .1) (a .p) (s .pre .1 .0)), rw (col, f) (file-there (a .boxes .now) (a .rows .now) (a .users .now) (a .files .now) (a .pairs) (s .pre .0 .1) (a .p) (s .pre .1 .0)))
+is-in-requires-2 : tie.Need-is-in-requires-2
+is-in-requires-2 c κs = (omega (arith, col-in (c .before .before .before .before .before .before .before .before .before .before .before .pre .0) (c .before .before .before .before .before .before .before .before .before .before .before .pre .2), c .before .before .before .before .before .before .before .before .before .before .before .pre .0 .few-sets), c .before .before .before .before .before .before .before .before .before .before .before .pre .1)
 
 returns-3 : tie.Need-returns-3
-unfolding touches
-returns-3 c = let s = c .before .before .before .before .before .before .before .before .before .before .before .before in
-    let a = s .args in
-    let row : a .at .row ≡ a .p / length (a .files .now) = ap (λ (x : Cell). x .row) (s .pre .1 .2) in
-    let col : a .at .col ≡ a .p % length (a .files .now) = ap (λ (x : Cell). x .col) (s .pre .1 .2) in
-    let u = user-read (a .boxes .now) (a .rows .now) (a .users .now) (a .files .now) (a .pairs) (s .pre .0 .1) (a .p) (s .pre .1 .0) in
-    let f = file-read (a .boxes .now) (a .rows .now) (a .users .now) (a .files .now) (a .pairs) (s .pre .0 .1) (a .p) (s .pre .1 .0) in
-    c .does-reach .ensures ∙ rw (row, u, col, f) refl ∙ sym (stop-touches (a .boxes .now) (a .rows .now) (a .a) (a .work .now) (a .skip) (a .p) (omega arith) (c .before .before .before .if2 .left))
+returns-3 c =
+    c .is-in2 .ensures
+    ∙ touched (c .before .before .before .before .before .before .before .before .before .before .before .before .pre .0) (c .before .before .before .before .before .before .before .before .before .before .before .before .pre .2) (c .before .before .before .before .before .before .before .before .before .before .before .before .args .k) (sym (c .before .before .before .before .is-in .ensures) ∙ c .before .before .before .if3 .taken)
+    ∙ sym (stop-touches _ (c .before .before .before .before .before .before .before .before .before .before .before .before .args .work .now) (c .before .before .before .before .before .before .before .before .before .before .before .before .args .skip) (c .before .before .before .before .before .before .before .before .before .before .before .before .args .at .place) (omega (arith, c .before .before .before .before .before .before .before .before .if1 .left)) (c .before .before .before .before .before .before .before .if2 .left))
+
+returns-4 : tie.Need-returns-4
+returns-4 c =
+    c .if3 .left
+    ∙ row-passed (c .before .before .before .before .before .before .before .before .before .pre .0) (c .before .before .before .before .before .before .before .before .before .pre .2) (c .before .before .before .before .before .before .before .before .before .args .k) (sym (c .before .is-in .ensures) ∙ c .if3 .left)
+    ∙ sym (stop-touches _ (c .before .before .before .before .before .before .before .before .before .args .work .now) (c .before .before .before .before .before .before .before .before .before .args .skip) (c .before .before .before .before .before .before .before .before .before .args .at .place) (omega (arith, c .before .before .before .before .before .if1 .left)) (c .before .before .before .before .if2 .left))
 
 pub stops-at-spec : {M : Type 1} → statement M
 stops-at-spec =
-    tie.close (tie.spec (search needs) returns returns-2 mul-does-reach shared-slice-read-does-reach mul-does-reach-2
-    shared-slice-read-does-reach-2 does-reach-requires returns-3)
+    tie.close (tie.spec shared-slice-read-byte returns returns-2 add-is-in is-in-requires add-is-in-2 add-is-in-3 is-in-requires-2
+    returns-3 returns-4)

@@ -28,7 +28,7 @@ slice-aggregate-list-pairs-4 c = part-length _ _ _ _ (c .before .before .before 
 list-pairs-requires : tie.Need-list-pairs-requires
 list-pairs-requires c κs = let p = c .before .before .before .before .before .before .before .before .before .before .before .before .before .before .before .before .before .before .before .before .before .before .before .before .before .before .pre in
     let own = part-is _ _ _ _ (c .before .before .before .before .before .before .before .mode-arrows .ensures) in (
-      (p .0 .2, made (p .0 .0) (c .before .before .before .before .before .before .before .before .before .before .before .before .tabulate .ensures) (p .0 .1) (c .before .before .before .before .before .before .before .before .before .before .before .before .before .before .before .before .before .no-words .ensures), p .0 .3, rw own (drawn-is (c .before .before .before .before .before .before .before .before .before .before .before .before .before .before .before .before .before .before .before .before .before .before .before .before .before .before .args .boxes .now) (c .before .before .before .before .before .before .before .before .before .before .before .before .before .before .before .before .before .before .before .before .before .before .before .before .before .before .args .arrows .now) (p .0 .1) (c .before .before .before .before .before .before .before .before .before .before .before .before .before .before .before .before .before .before .before .before .before .before .before .before .before .before .args .mode)), own),
+      (made (p .0 .0) (c .before .before .before .before .before .before .before .before .before .before .before .before .tabulate .ensures) (p .0 .1) (c .before .before .before .before .before .before .before .before .before .before .before .before .before .before .before .before .before .no-words .ensures), p .0 .3, rw own (drawn-is (c .before .before .before .before .before .before .before .before .before .before .before .before .before .before .before .before .before .before .before .before .before .before .before .before .before .before .args .boxes .now) (c .before .before .before .before .before .before .before .before .before .before .before .before .before .before .before .before .before .before .before .before .before .before .before .before .before .before .args .arrows .now) (p .0 .1) (c .before .before .before .before .before .before .before .before .before .before .before .before .before .before .before .before .before .before .before .before .before .before .before .before .before .before .args .mode)), own),
       (rw own (p .1 .0), p .1 .1),
     )
 
