@@ -15,8 +15,8 @@ use Rattle.tables.proofs.Tests.{T-true, true-T, not-false, false-not}
 use Rattle.tables.proofs.SearchLaws.{every-at, every-is}
 use Rattle.tables.proofs.BufferLaws.{select-most}
 use Rattle.tables.proofs.SelectLaws.{select-found, select-has, selected-lowest, selected-nothing}
-use Rattle.answers.specs.Meaning.{positive, negative, reaches, overrides, hits, certifies, settle, answer}
-use Rattle.answers.specs.Among.{hasMode, modeArrows, reaching, overridesAll, wins, Numbers, NoneBefore, FirstAt}
+use Rattle.answers.specs.Meaning.{positive, negative, reaches, overrides, hits, certifies, settle, answer, hasMode, modeArrows}
+use Rattle.answers.specs.Among.{reaching, overridesAll, wins, Numbers, NoneBefore, FirstAt}
 use Rattle.answers.specs.declared.Entry.the-variants.{Granted, Denied, Default, Unclear}
 use Rattle.answers.proofs.AnswerLaws.{overrides-asym, certifies-hits, certifies-over, certifies-is}
 

@@ -1,15 +1,12 @@
--- The mode's arrows as the numbers at which a test holds, the answer at a place, and an arrow whose tail is not around the user. Assumes nothing.
+-- The mode's arrows as the numbers at which a test holds, and the answer at a place. Assumes nothing.
 use mathlib.Core.Path.{_≡_, refl}
-use mathlib.Core.Bool.{false, _&&_}
+use mathlib.Core.Bool.{_&&_}
 use mathlib.Core.List.{List}
 use Prim.Native.Nat.{ℕ}
 use lib.Dec.{eqb}
 use Rattle.tables.specs.Search.{select}
 use Rattle.tables.specs.Rows.{arrowCount, arrowAt}
-use Rattle.tables.specs.declared.Arrow.{Arrow}
-use Rattle.containment.specs.Contains.{around}
-use Rattle.answers.specs.Meaning.{reaches, answer}
-use Rattle.answers.specs.Among.{hasMode, modeArrows}
+use Rattle.answers.specs.Meaning.{answer, hasMode, modeArrows}
 use Rattle.answers.specs.Pairs.{userAt, fileAt, answerAt}
 
 pub mode-select : (arrows : List ℕ) (m : ℕ) → modeArrows arrows m ≡ select (λ k. eqb (arrowAt arrows k .mode) m) (arrowCount arrows)
@@ -20,7 +17,3 @@ module _ (boxes rows arrows : List ℕ) (m : ℕ) where
   pub answer-at : (p : ℕ) → answerAt boxes rows arrows m p ≡ answer rows arrows m (userAt boxes rows p) (fileAt boxes rows p)
   unfolding answerAt
   answer-at p = refl
-
-pub reaches-not : (rows : List ℕ) (a : Arrow) (u f : ℕ) → around rows (a .tail) u ≡ false → reaches rows a u f ≡ false
-unfolding reaches
-reaches-not rows a u f e = rw e

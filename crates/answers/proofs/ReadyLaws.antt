@@ -12,7 +12,8 @@ use Rattle.tables.proofs.BufferLaws.{zeros-length}
 use Rattle.tables.proofs.AtomPlaces.{onSide-there, atoms-most}
 use Rattle.tables.proofs.PartLaws.{Wrote, part-within}
 use Rattle.containment.specs.Scratch.{Says}
-use Rattle.answers.specs.Among.{modeArrows, Within}
+use Rattle.answers.specs.Among.{Within}
+use Rattle.answers.specs.Meaning.{modeArrows}
 use Rattle.answers.proofs.AmongLaws.{mode-most}
 
 pub sound-within : (boxes arrows : List ℕ) → SoundArrows boxes arrows → Within (length boxes) arrows

@@ -1,24 +1,15 @@
--- How the code goes about an answer: the mode's arrows, those of them that reach the pair, and tests over such lists of arrow
--- numbers. Assumes nothing.
+-- How the code goes about the answer of one pair: the arrows that reach it, and tests over such lists of arrow numbers.
+-- Assumes nothing.
 use mathlib.Core.Path.{_≡_}
 use mathlib.Core.Bool.{Bool, _&&_}
 use mathlib.Core.List.{List}
 use Prim.Native.Nat.{ℕ, _<_, _≤_}
-use lib.Dec.{T, eqb}
+use lib.Dec.{T}
 use lib.ListN.{length, getD}
 use Rattle.tables.specs.Search.{every, select}
-use Rattle.tables.specs.Rows.{user, file, arrowCount, arrowAt}
-use Rattle.tables.specs.Atoms.{atoms}
+use Rattle.tables.specs.Rows.{arrowCount, arrowAt}
 use Rattle.tables.specs.declared.Arrow.{Arrow}
-use Rattle.containment.specs.Scratch.{Says}
-use Rattle.answers.specs.Meaning.{reaches, overrides, hits}
-
--- the numbers of the arrows of mode m, rising
-unfoldable pub hasMode : List ℕ → ℕ → ℕ → Bool
-hasMode arrows m k = eqb (arrowAt arrows k .mode) m
-
-unfoldable pub modeArrows : List ℕ → ℕ → List ℕ
-modeArrows arrows m = select (hasMode arrows m) (arrowCount arrows)
+use Rattle.answers.specs.Meaning.{overrides, hits}
 
 -- the arrows of mode m and sign s that reach the pair, rising
 unfoldable pub reaching : List ℕ → List ℕ → ℕ → ℕ → ℕ → ℕ → List ℕ

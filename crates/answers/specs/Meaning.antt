@@ -4,7 +4,7 @@ use mathlib.Core.List.{List}
 use mathlib.Core.Option.{Option, none, some}
 use Prim.Native.Nat.{ℕ}
 use lib.Dec.{eqb}
-use Rattle.tables.specs.Search.{every, lowest}
+use Rattle.tables.specs.Search.{every, lowest, select}
 use Rattle.tables.specs.Rows.{arrowCount, arrowAt}
 use Rattle.tables.specs.declared.Arrow.{Arrow}
 use Rattle.containment.specs.Contains.{contains, around}
@@ -17,6 +17,13 @@ positive = 1
 
 abbrev pub negative : ℕ
 negative = 0
+
+-- the numbers of the arrows of mode m, rising
+unfoldable pub hasMode : List ℕ → ℕ → ℕ → Bool
+hasMode arrows m k = eqb (arrowAt arrows k .mode) m
+
+unfoldable pub modeArrows : List ℕ → ℕ → List ℕ
+modeArrows arrows m = select (hasMode arrows m) (arrowCount arrows)
 
 -- an arrow reaches the pair (u, f): its tail is u or contains u, and its head is f or contains f
 unfoldable pub reaches : List ℕ → Arrow → ℕ → ℕ → Bool

@@ -13,11 +13,11 @@ ghost use Rattle.tables.specs.Buffers.{written, zeros};
 ghost use Rattle.tables.specs.Search.{bit, lowest};
 ghost use Rattle.containment.specs.Contains.{around};
 ghost use Rattle.containment.specs.Scratch.{Says, scratchAfter, earlyFault};
-ghost use Rattle.answers.specs.Meaning.{positive, negative, reaches, nests, overrides, settle, answer, byteOf, numberOf, isUnclear, grantingOf};
+ghost use Rattle.answers.specs.Meaning.{positive, negative, reaches, nests, overrides, settle, answer, byteOf, numberOf, isUnclear, grantingOf, modeArrows};
 ghost use Rattle.answers.specs.Pairs.{userAt, fileAt, answerAt, matrixBytes, matrixNumbers, unclearFault, anyUnclear};
 ghost use Rattle.answers.specs.Calls.{askedFault, replyOf, entryEarly, entryFault, judgeFault, matrixEarly, matrixFault, bytesAfter, numbersAfter};
 ghost use Rattle.sets.specs.Sets.{has, overAll};
-ghost use Rattle.answers.specs.Among.{modeArrows, reaching, overridesAll, Within, Numbers, FirstAt, wins, NoneBefore};
+ghost use Rattle.answers.specs.Among.{reaching, overridesAll, Within, Numbers, FirstAt, wins, NoneBefore};
 ghost use Rattle.answers.specs.Table.{beats, signed, member, setWord, setWords, setCount, Source, Tabled, Tabulates};
 use containment::check_scratch;
 use containment::contain;
@@ -105,7 +105,7 @@ pub fn is_unclear(e: Entry) -> bool
 // In what follows the scratch was filled from the rows for n boxes.
 
 // Whether a is b or contains it.
-pub fn is_around(n: usize, rows: &[u16], scratch: &[u8], a: u16, b: u16) -> bool
+fn is_around(n: usize, rows: &[u16], scratch: &[u8], a: u16, b: u16) -> bool
     requires { ⌜ Says n (now rows) (now scratch) × (a < n) × (b < n) ⌝ }
     ensures { λ r. ⌜ r ≡ around (now (rows .entry)) a b ⌝ }
 {
@@ -121,7 +121,7 @@ fn is_nested(n: usize, rows: &[u16], scratch: &[u8], a: u16, b: u16) -> bool
 }
 
 // Whether an arrow reaches the pair.
-pub fn does_reach(n: usize, rows: &[u16], scratch: &[u8], a: Arrow, u: u16, f: u16) -> bool
+fn does_reach(n: usize, rows: &[u16], scratch: &[u8], a: Arrow, u: u16, f: u16) -> bool
     requires { ⌜ Says n (now rows) (now scratch) × (a .tail < n) × (a .head < n) × (u < n) × (f < n) ⌝ }
     ensures { λ r. ⌜ r ≡ reaches (now (rows .entry)) a u f ⌝ }
 {

@@ -8,7 +8,7 @@ use lib.ListN.{length, take, length-replicate}
 use Rattle.tables.specs.Buffers.{written, zeros}
 use Rattle.tables.specs.Atoms.{pairCount}
 use Rattle.tables.specs.declared.Refusal.{Refusal}
-use Rattle.answers.specs.Among.{modeArrows}
+use Rattle.answers.specs.Meaning.{modeArrows}
 use Rattle.answers.specs.Pairs.{unclearFault}
 use Rattle.lists.specs.Greedy.{orderFault}
 use Rattle.lists.specs.Calls.{blanks, Answered, Listing}

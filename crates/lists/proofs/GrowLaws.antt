@@ -13,9 +13,8 @@ use Rattle.tables.specs.Search.{every, select, bit}
 use Rattle.tables.specs.Buffers.{build, written, zeros}
 use Rattle.tables.specs.Rows.{arrowCount, arrowAt}
 use Rattle.tables.specs.Atoms.{pairCount}
-use Rattle.answers.specs.Meaning.{positive, negative, isGranted, isUnclear}
+use Rattle.answers.specs.Meaning.{positive, negative, isGranted, isUnclear, modeArrows}
 use Rattle.answers.specs.Pairs.{answerAt}
-use Rattle.answers.specs.Among.{modeArrows}
 use Rattle.answers.specs.declared.Entry.{Entry}
 use Rattle.lists.specs.Order.{anyOf, gives, ofMode, meets, reached, granted, right}
 use Rattle.lists.specs.Greedy.{new, fits, addable, leftBy}

@@ -9,7 +9,7 @@ use lib.ListN.{length, getD, set, length-append}
 use Rattle.tables.specs.Buffers.{build, written, zeros}
 use Rattle.tables.specs.Rows.{arrowCount}
 use Rattle.tables.specs.Atoms.{pairCount}
-use Rattle.answers.specs.Among.{modeArrows}
+use Rattle.answers.specs.Meaning.{modeArrows}
 use Rattle.lists.specs.Order.{meets}
 use Rattle.lists.specs.Steps.{followsAt, marked, Behind, ownSign, nothing, Clear, workOf, Ordered}
 use Rattle.tables.proofs.BufferLaws.{written-none, written-more, written-length}

@@ -12,7 +12,7 @@ use Rattle.tables.specs.Atoms.{pairCount}
 use Rattle.tables.specs.Faults.{tableFault, modeFault, roomFault}
 use Rattle.tables.specs.declared.Refusal.{Refusal}
 use Rattle.containment.specs.Contains.{loopFault}
-use Rattle.answers.specs.Among.{modeArrows}
+use Rattle.answers.specs.Meaning.{modeArrows}
 use Rattle.answers.specs.Pairs.{unclearFault}
 use Rattle.containment.specs.Scratch.{scratchFault, scratchAfter}
 use Rattle.answers.specs.Calls.{unlessRefused}

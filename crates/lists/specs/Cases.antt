@@ -14,8 +14,7 @@ use Rattle.tables.specs.Faults.{raggedFault, countFault, byteFault, namesNoBox,
 use Rattle.tables.specs.declared.Refusal.{Refusal}
 use Rattle.containment.specs.Contains.{contains, around, loopFault}
 use Rattle.containment.specs.Scratch.{scratchFault, earlyFault, pictureFault}
-use Rattle.answers.specs.Meaning.{reaches, nests, level, overrides, settle, hits, certifies, answer, byteOf, numberOf, isGranted, isUnclear}
-use Rattle.answers.specs.Among.{hasMode, modeArrows}
+use Rattle.answers.specs.Meaning.{reaches, nests, level, overrides, settle, hits, certifies, answer, byteOf, numberOf, isGranted, isUnclear, hasMode, modeArrows}
 use Rattle.answers.specs.Pairs.{userAt, fileAt, firstPair, answerAt, byteAt, numberAt, matrixBytes, matrixNumbers, unclearFault, anyUnclear}
 use Rattle.answers.specs.Calls.{askedFault, entryEarly, entryFault, judgeFault, matrixEarly, matrixFault, replyOf}
 use Rattle.answers.specs.Cases.{Case, compute, picture-A, picture-B, picture-C, picture-D, picture-E, picture-F, picture-G, picture-H, picture-I, picture-J}
