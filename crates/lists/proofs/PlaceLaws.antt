@@ -39,8 +39,8 @@ pub next-line : (w p : ℕ) → p % w < w → record { row = p / w + 1; col = 0;
 next-line w p l = rw (row-end w p l) (cell-is w (p / w + 1) 0 ((p / w + 1) * w) (omega arith) (add-zero ((p / w + 1) * w)))
 
 -- the last place of a row is followed by the next row
-pub row-last : (w p : ℕ) → p % w < w → w ≤ p % w + 1 → (p / w + 1) * w ≡ p + 1
-row-last w p l g = omega (arith, row-end w p l)
+pub next-first : (w p : ℕ) → p % w < w → w ≤ p % w + 1 → record { row = p / w + 1; col = 0; place = p + 1 } ≡ cellAt w (p + 1)
+next-first w p l g = cell-is w (p / w + 1) 0 (p + 1) (omega arith) (omega (arith, row-end w p l))
 
 row-same : (w p q : ℕ) → p < q → q < (p / w + 1) * w → q / w ≡ p / w
 row-same w p q l h =

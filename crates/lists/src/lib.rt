@@ -84,14 +84,19 @@ impl Cell {
         requires { ⌜ (self .col < width) × (self .row < 256) × (self .place < 65536) × (width ≤ 256) ⌝ }
         ensures { λ r. ⌜ ((p : ℕ) → self ≡ cellAt width p → r ≡ cellAt width (p + 1)) ⌝ }
     {
+        let place = self.place + 1;
         if self.col + 1 < width {
             return Self {
                 row: self.row,
                 col: self.col + 1,
-                place: self.place + 1,
+                place,
             };
         }
-        self.below(width)
+        Self {
+            row: self.row + 1,
+            col: 0,
+            place,
+        }
     }
 }
 
