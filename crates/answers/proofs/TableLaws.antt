@@ -23,7 +23,7 @@ use Rattle.tables.proofs.AtomSides.{atoms-apart}
 use Rattle.containment.specs.Contains.{around}
 use Rattle.containment.specs.Scratch.{Says}
 use Rattle.sets.specs.Sets.{has, shared, overAll}
-use Rattle.sets.proofs.SetLaws.{wordOf-bit, shared-has}
+use Rattle.sets.proofs.SetLaws.{word-is, zero-bit, wordOf-bit, shared-has}
 use Rattle.sets.proofs.InsideLaws.{has-word, covers-own, covers-each, covers-is}
 use Rattle.answers.specs.Meaning.{positive, negative, reaches, overrides, settle, hits, certifies, answer}
 use Rattle.answers.specs.Table.{beats, signed, member, setWord, setWords, setCount, userSets, fileSets, modeSets, Source, Tabled, Tabulates}
@@ -91,6 +91,13 @@ module _ (rows arrows users files : List ℕ) where
 
   at-bit : (r k : ℕ) → k < 512 → 64 * ((8 * r + k / 64) % 8) + k % 64 ≡ k
   at-bit r k h = omega arith
+
+  -- a word beyond the numbers of arrows
+  pub word-none : (i : ℕ) → arrowCount arrows ≤ 64 * (i % 8) → setWord rows arrows users files i ≡ 0
+  unfolding setWord
+  word-none i h =
+      sym (word-is (λ b. member rows arrows users files (i / 8) (64 * (i % 8) + b)) 64 0 (omega arith)
+      (λ b l. zero-bit b ∙ sym (member-none (i / 8) (64 * (i % 8) + b) (omega arith))))
 
   pub words-length : length (setWords rows arrows users files) ≡ 8 * setCount rows arrows users files
   unfolding setWords

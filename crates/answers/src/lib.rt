@@ -443,6 +443,9 @@ fn word_at(
 {
     let set = i / 8;
     let first = 64 * (i % 8);
+    if arrows.len() / 4 <= first {
+        return 0;
+    }
     let mut w: u64 = 0;
     let mut b: usize = 64;
     while 0 < b {
