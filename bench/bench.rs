@@ -321,13 +321,13 @@ const CASES: &[(&str, Build, usize, &[Call])] = &[
         "left-32",
         || pictures::candidates_left(32, 32, 512),
         0,
-        &[Judge, Matrix, List],
+        &[Entry, Judge, Matrix, List],
     ),
     (
         "left-full",
         || pictures::candidates_left(125, 124, 512),
         0,
-        &[Matrix],
+        &[Judge, Matrix, List],
     ),
     ("chain-down", || pictures::chain(256, true), 0, &[Fill]),
     ("chain-up", || pictures::chain(256, false), 0, &[Fill]),
@@ -382,9 +382,9 @@ const GROWTH: &[Series] = &[
     },
     Series {
         key: "grow-left",
-        says: "16x16 pairs, candidates left after striking: arrows",
+        says: "125x124 pairs, candidates left: arrows",
         sizes: ARROWS,
-        build: |n| pictures::candidates_left(16, 16, n),
+        build: |n| pictures::candidates_left(125, 124, n),
         call: Matrix,
     },
     Series {
