@@ -1,5 +1,6 @@
--- The table of sets of arrows from which the code answers all pairs: what each arrow overrides, what comes from around each user,
--- what goes to around each file, and what each mode has of each sign. Assumes nothing.
+-- The table of sets of arrows from which the code answers all pairs: for each arrow those of its mode that it overrides, for each
+-- user those whose tail is the user or contains it, for each file those whose head is the file or contains it, and for each mode
+-- those of each sign. Assumes nothing.
 use mathlib.Core.Path.{_≡_}
 use mathlib.Core.Bool.{Bool, _&&_, cond}
 use mathlib.Core.List.{List}

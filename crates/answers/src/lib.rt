@@ -376,9 +376,9 @@ pub fn pair_at(boxes: &[u8], rows: &[u16], users: &[u16], files: &[u16], p: usiz
     }
 }
 
-// ---- The table of sets of arrows. Which arrows come from around a user, go to around a file, or are overridden by an arrow does
-// not depend on the pair, so it is found out once a call. A pair then costs a few steps on sets, and eight words for each arrow
-// that reaches it.
+// ---- The table of sets of arrows. Which arrows' tails are around a user, which heads are around a file, and what an arrow
+// overrides does not depend on the pair, so it is found out once a call. A pair then costs a few steps on sets, and eight words
+// for each arrow that reaches it.
 
 // Whether two arrows have the same mode, and p overrides q.
 fn does_beat(n: usize, rows: &[u16], scratch: &[u8], p: Arrow, q: Arrow) -> bool
@@ -395,7 +395,7 @@ fn has_sign(a: Arrow, d: usize) -> bool
     wide(a.mode) == d / 2 && wide(a.sign) == d % 2
 }
 
-// Whether arrow k is in set r.
+// Whether arrow k is in set r: of an arrow, of a user, of a file, or of a mode and a sign.
 fn is_member(
     n: usize,
     rows: &[u16],

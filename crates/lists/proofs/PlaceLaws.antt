@@ -7,14 +7,15 @@ use native.Mathlib.Nat.{add-zero, mul-le-mul-right, mul-le-mul}
 use native.Mathlib.Omega.{arith}
 use lib.Dec.{T}
 use lib.ListN.{length}
-use Rattle.tables.specs.Rows.{user, file, arrowCount}
+use Rattle.tables.specs.Rows.{user, file, arrowCount, arrowAt}
 use Rattle.tables.proofs.Tests.{and-T}
 use Rattle.tables.proofs.AtomPlaces.{atoms-most}
 use Rattle.containment.proofs.Index.{at-div, at-mod, place, next-row}
 use Rattle.sets.specs.Sets.{has}
-use Rattle.answers.specs.Meaning.{reaches}
+use Rattle.answers.specs.Pairs.{userAt, fileAt}
 use Rattle.answers.specs.Table.{Tabled}
 use Rattle.answers.proofs.PairLaws.{place-in, place-there, user-read, file-read}
+use Rattle.answers.proofs.ModeLaws.{reaches-is}
 use Rattle.answers.proofs.TableLaws.{member-user, member-file, tabled-pairs}
 use Rattle.lists.specs.Order.{meets}
 use Rattle.lists.specs.Steps.{cellAt, gridOf, Inside, Laid, Agrees, touches, Ahead}
@@ -127,7 +128,7 @@ module _ {boxes rows arrows users files table : List ℕ} (d : Tabled boxes rows
   }
 
   pub agrees : Agrees boxes rows arrows table (gridOf arrows (length users) (length files))
-  unfolding touches meets reaches
+  unfolding touches meets
   agrees = record {
     pairs-are = tabled-pairs d .0;
     same = λ k p l h.
@@ -139,6 +140,7 @@ module _ {boxes rows arrows users files table : List ℕ} (d : Tabled boxes rows
         let row : i - arrowCount arrows ≡ p / w = omega arith in
         let col : j - (arrowCount arrows + length users) ≡ p % w = omega arith in
         rw (
+          reaches-is rows (arrowAt arrows k) (userAt boxes rows p) (fileAt boxes rows p),
           d .members i k (omega (arith, at .0)) (omega arith),
           d .members j k (omega (arith, at .1)) (omega arith),
           member-user rows arrows users files k l i (omega arith) (omega (arith, at .0)),
