@@ -224,9 +224,9 @@ impl Filled<'_> {
     }
 
     fn overrides(self, p: Arrow, q: Arrow) -> bool {
-        !self.contains(p.tail, q.tail)
-            && !self.contains(p.head, q.head)
-            && (self.contains(q.tail, p.tail) || self.contains(q.head, p.head))
+        let outer = self.contains(p.tail, q.tail) | self.contains(p.head, q.head);
+        let inner = self.contains(q.tail, p.tail) | self.contains(q.head, p.head);
+        !outer & inner
     }
 }
 

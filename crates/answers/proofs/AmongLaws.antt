@@ -1,12 +1,12 @@
 -- The code's lists of arrow numbers, and how the answer follows from them. Assumes nothing.
 use mathlib.Core.Path.{_≡_, refl, subst}
-use mathlib.Core.Bool.{Bool, true, false, _&&_}
+use mathlib.Core.Bool.{true, false}
 use mathlib.Core.List.{List}
 use mathlib.Core.Option.{Option, none, some}
 use Prim.Native.Nat.{ℕ, _+_, _<_, _≤_}
 use native.Mathlib.Omega.{arith}
 use borrow.Author.Count.{below-more}
-use lib.Dec.{T, eqb}
+use lib.Dec.{T}
 use lib.ListN.{length, getD}
 use Rattle.tables.specs.Search.{lowest}
 use Rattle.tables.specs.Rows.{arrowCount, arrowAt}
@@ -15,7 +15,7 @@ use Rattle.tables.proofs.Tests.{T-true, true-T, not-false, false-not}
 use Rattle.tables.proofs.SearchLaws.{every-at, every-is}
 use Rattle.tables.proofs.BufferLaws.{select-most}
 use Rattle.tables.proofs.SelectLaws.{select-found, select-has, selected-lowest, selected-nothing}
-use Rattle.answers.specs.Meaning.{positive, negative, reaches, overrides, hits, certifies, settle, answer, hasMode, modeArrows}
+use Rattle.answers.specs.Meaning.{positive, negative, overrides, hits, certifies, settle, answer, hasMode, modeArrows}
 use Rattle.answers.specs.Among.{reaching, overridesAll, wins, Numbers, NoneBefore, FirstAt}
 use Rattle.answers.specs.declared.Entry.the-variants.{Granted, Denied, Default, Unclear}
 use Rattle.answers.proofs.AnswerLaws.{overrides-asym, certifies-hits, certifies-over, certifies-is}

@@ -13,7 +13,7 @@ use Rattle.tables.specs.Rows.{arrowCount, arrowAt}
 use Rattle.tables.specs.declared.Arrow.{Arrow}
 use Rattle.tables.proofs.Tests.{or-T, and-T, T-and, T-eqb, T-true, true-T, not-false, false-not}
 use Rattle.tables.proofs.SearchLaws.{every-at, every-is, lowest-some, lowest-none}
-use Rattle.answers.specs.Meaning.{positive, negative, reaches, nests, level, overrides, settle, hits, certifies, answer}
+use Rattle.answers.specs.Meaning.{positive, negative, hasMode, reaches, nests, level, overrides, settle, hits, certifies, answer}
 use Rattle.answers.specs.declared.Entry.the-variants.{Default}
 
 -- ---- "overrides" by tests of nesting alone
@@ -51,6 +51,17 @@ module _ (rows : List ℕ) (p n : Arrow) where
       neither false true = refl
       neither false false = refl
 
+  -- overrides, by the four tests of nesting alone
+  pub overrides-is : overrides rows p n ≡
+      (not (nests rows (p .tail) (n .tail) || nests rows (p .head) (n .head)) && (nests rows (n .tail) (p .tail) || nests rows (n .head) (p .head)))
+  overrides-is = go (nests rows (p .tail) (n .tail)) (nests rows (p .head) (n .head)) refl refl
+    where
+      go : (t h : Bool) → nests rows (p .tail) (n .tail) ≡ t → nests rows (p .head) (n .head) ≡ h
+          → overrides rows p n ≡ (not (t || h) && (nests rows (n .tail) (p .tail) || nests rows (n .head) (p .head)))
+      go true h e f = outer-tail e
+      go false true e f = outer-head e f
+      go false false e f = no-outer e f
+
 -- of two arrows at most one overrides the other
 pub overrides-asym : (rows : List ℕ) (p n : Arrow) → T (overrides rows p n) → T (overrides rows n p) → ⊥
 overrides-asym rows p n h k =
@@ -66,17 +77,17 @@ overrides-asym rows p n h k =
 module _ (rows arrows : List ℕ) (m u f : ℕ) where
   -- what a hit is
   pub hit : (s k : ℕ) → arrowAt arrows k .mode ≡ m → arrowAt arrows k .sign ≡ s → T (reaches rows (arrowAt arrows k) u f) → T (hits rows arrows m s u f k)
-  unfolding hits
+  unfolding hits hasMode
   hit s k e i r =
       T-and (eqb (arrowAt arrows k .mode) m) _ (T-eqb e)
       (T-and (eqb (arrowAt arrows k .sign) s) (reaches rows (arrowAt arrows k) u f) (T-eqb i) r)
 
   pub hit-mode : (s k : ℕ) → T (hits rows arrows m s u f k) → arrowAt arrows k .mode ≡ m
-  unfolding hits
+  unfolding hits hasMode
   hit-mode s k t = eqb→eq (arrowAt arrows k .mode) m (and-T (eqb (arrowAt arrows k .mode) m) _ t .0)
 
   hit-rest : (s k : ℕ) → T (hits rows arrows m s u f k) → T (eqb (arrowAt arrows k .sign) s) × T (reaches rows (arrowAt arrows k) u f)
-  unfolding hits
+  unfolding hits hasMode
   hit-rest s k t =
       and-T (eqb (arrowAt arrows k .sign) s) (reaches rows (arrowAt arrows k) u f) (and-T (eqb (arrowAt arrows k .mode) m) _ t .1)
 

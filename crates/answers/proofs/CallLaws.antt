@@ -11,7 +11,7 @@ use Rattle.tables.specs.Buffers.{written}
 use Rattle.tables.specs.Rows.{user, file}
 use Rattle.tables.specs.Atoms.{atom, pairCount}
 use Rattle.tables.specs.Faults.{tableFault, modeFault, roomFault}
-use Rattle.tables.specs.Refusals.{notAtomic, verdictOf, either}
+use Rattle.tables.specs.Refusals.{notAtomic, verdictOf, unlessRefused, either}
 use Rattle.tables.specs.declared.Refusal.{Refusal}
 use Rattle.tables.specs.declared.Verdict.{Verdict}
 use Rattle.tables.specs.declared.Verdict.the-variants.{Passed, Refused as Stopped}
@@ -24,7 +24,7 @@ use Rattle.containment.specs.Contains.{loopFault}
 use Rattle.containment.specs.Scratch.{filled, scratchFault, scratchAfter}
 use Rattle.answers.specs.Meaning.{answer}
 use Rattle.answers.specs.Pairs.{matrixBytes, matrixNumbers}
-use Rattle.answers.specs.Calls.{askedFault, replyOf, unlessRefused, entryEarly, entryFault, matrixEarly, matrixFault, bytesAfter, numbersAfter}
+use Rattle.answers.specs.Calls.{askedFault, replyOf, entryEarly, entryFault, matrixEarly, matrixFault, bytesAfter, numbersAfter}
 use Rattle.answers.specs.declared.Reply.{Reply}
 use Rattle.answers.specs.declared.Reply.the-variants.{Answered, Refused}
 

@@ -4,16 +4,15 @@ use mathlib.Core.Path.{_≡_, refl}
 use mathlib.Core.Bool.{_&&_}
 use mathlib.Core.List.{List}
 use Prim.Native.Nat.{ℕ}
-use lib.Dec.{eqb}
 use Rattle.tables.specs.Search.{select}
-use Rattle.tables.specs.Rows.{arrowCount, arrowAt}
+use Rattle.tables.specs.Rows.{arrowCount}
 use Rattle.tables.specs.declared.Arrow.{Arrow}
 use Rattle.containment.specs.Contains.{around}
 use Rattle.answers.specs.Meaning.{reaches, answer, hasMode, modeArrows}
 use Rattle.answers.specs.Pairs.{userAt, fileAt, answerAt}
 
-pub mode-select : (arrows : List ℕ) (m : ℕ) → modeArrows arrows m ≡ select (λ k. eqb (arrowAt arrows k .mode) m) (arrowCount arrows)
-unfolding modeArrows hasMode
+pub mode-select : (arrows : List ℕ) (m : ℕ) → modeArrows arrows m ≡ select (hasMode arrows m) (arrowCount arrows)
+unfolding modeArrows
 mode-select arrows m = refl
 
 module _ (boxes rows arrows : List ℕ) (m : ℕ) where

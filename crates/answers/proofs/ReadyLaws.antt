@@ -7,11 +7,10 @@ use lib.ListN.{length}
 use Rattle.tables.specs.Buffers.{zeros}
 use Rattle.tables.specs.Rows.{user, file, arrowCount}
 use Rattle.tables.specs.Atoms.{atoms}
-use Rattle.tables.specs.Faults.{SoundRows, SoundArrows}
+use Rattle.tables.specs.Steps.{SoundRows, SoundArrows}
 use Rattle.tables.proofs.BufferLaws.{zeros-length}
 use Rattle.tables.proofs.AtomPlaces.{onSide-there, atoms-most}
 use Rattle.tables.proofs.PartLaws.{Wrote, part-within}
-use Rattle.containment.specs.Scratch.{Says}
 use Rattle.answers.specs.Among.{Within}
 use Rattle.answers.specs.Meaning.{modeArrows}
 use Rattle.answers.proofs.AmongLaws.{mode-most}

@@ -1,19 +1,18 @@
 -- The table of sets: what stands in it, and how the answer of a pair follows from it. Assumes nothing.
 use mathlib.Core.Path.{_≡_, refl, sym, ap, subst, _∙_}
-use mathlib.Core.Logic.{⊎-elim}
-use mathlib.Core.Bool.{Bool, true, false, not, _&&_, _||_, cond}
+use mathlib.Core.Bool.{Bool, true, false, _&&_}
 use mathlib.Core.List.{List}
 use mathlib.Core.Option.{Option, none, some}
-use Prim.Native.Nat.{ℕ, zero, suc, _+_, _-_, _*_, _/_, _%_, _^_, _<_, _≤_}
+use Prim.Native.Nat.{ℕ, _+_, _-_, _*_, _/_, _%_, _<_, _≤_}
 use native.Mathlib.Omega.{arith}
-use lib.Dec.{T, T-not, eqb, ltb, eqb→eq, ltb→lt, lt→ltb, nltb→le}
+use lib.Dec.{T, eqb, ltb, eqb→eq, ltb→lt, lt→ltb}
 use lib.ListN.{length, getD, take}
 use Rattle.tables.specs.Search.{lowest, bit}
 use Rattle.tables.specs.Buffers.{build, written, zeros}
 use Rattle.tables.specs.Rows.{user, file, arrowCount, arrowAt}
 use Rattle.tables.specs.Atoms.{atoms, pairCount}
-use Rattle.tables.specs.Faults.{SoundRows, SoundArrows}
-use Rattle.tables.proofs.Tests.{or-T, and-T, T-and, T-eqb, T-true, true-T, not-false}
+use Rattle.tables.specs.Steps.{SoundRows, SoundArrows}
+use Rattle.tables.proofs.Tests.{and-T, T-and, T-eqb, T-true, not-false}
 use Rattle.tables.proofs.SearchLaws.{lowest-some, lowest-none}
 use Rattle.tables.proofs.SelectLaws.{lowest-is, lowest-nothing}
 use Rattle.tables.proofs.BufferLaws.{written-at, written-length, build-at, build-length}
@@ -21,11 +20,11 @@ use Rattle.tables.proofs.PartLaws.{part-is, part-length}
 use Rattle.tables.proofs.AtomPlaces.{atoms-found, atom-there}
 use Rattle.tables.proofs.AtomSides.{atoms-apart}
 use Rattle.containment.specs.Contains.{around}
-use Rattle.containment.specs.Scratch.{Says}
+use Rattle.containment.specs.Steps.{Says}
 use Rattle.sets.specs.Sets.{has, shared, overAll}
 use Rattle.sets.proofs.SetLaws.{word-is, zero-bit, wordOf-bit, shared-has}
 use Rattle.sets.proofs.InsideLaws.{has-word, covers-own, covers-each, covers-is}
-use Rattle.answers.specs.Meaning.{positive, negative, reaches, overrides, settle, hits, certifies, answer}
+use Rattle.answers.specs.Meaning.{positive, negative, hasMode, reaches, overrides, settle, hits, certifies, answer}
 use Rattle.answers.specs.Table.{beats, signed, member, setWord, setWords, setCount, userSets, fileSets, modeSets, Source, Tabled, Tabulates}
 use Rattle.answers.specs.declared.Sides.{Sides}
 use Rattle.answers.proofs.ReadyLaws.{sound-within, boxes-within, room}
@@ -210,7 +209,7 @@ module _ {boxes rows arrows users files table : List ℕ} (d : Tabled boxes rows
     -- the three tests
     tests : (s r : ℕ) → OfMode m s r → (k : ℕ) → k < arrowCount arrows → has (of r) 0 k ≡
         ((around rows (arrowAt arrows k .tail) (getD users i 0) && around rows (arrowAt arrows k .head) (getD files j 0)) && (eqb (arrowAt arrows k .mode) m && eqb (arrowAt arrows k .sign) s))
-    unfolding signed
+    unfolding signed hasMode
     tests s r o k l =
         let few = d .few-arrows in
         let a : userSets rows arrows users files + i < setCount rows arrows users files = omega arith in

@@ -8,7 +8,7 @@ use Rattle.tables.specs.Search.{orElse, given}
 use Rattle.tables.specs.Buffers.{written}
 use Rattle.tables.specs.Rows.{user, file}
 use Rattle.tables.specs.Atoms.{atom, pairCount}
-use Rattle.tables.specs.Refusals.{notAtomic}
+use Rattle.tables.specs.Refusals.{notAtomic, unlessRefused}
 use Rattle.tables.specs.Faults.{tableFault, modeFault, roomFault}
 use Rattle.tables.specs.declared.Refusal.{Refusal}
 use Rattle.containment.specs.Contains.{loopFault}
@@ -26,11 +26,6 @@ askedFault boxes rows u f = given (not (atom boxes rows user u && atom boxes row
 unfoldable pub replyOf : Option Refusal → Entry → Reply
 replyOf none e = Answered e
 replyOf (some r) e = Refused r
-
--- a lent buffer at the end: the new places, or after a refusal the old ones
-abbrev pub unlessRefused : Option Refusal → List ℕ → List ℕ → List ℕ
-unlessRefused none new old = new
-unlessRefused (some r) new old = old
 
 -- s is the scratch as it was lent
 module _ (boxes rows arrows s : List ℕ) where

@@ -11,7 +11,7 @@ use Rattle.answers.specs.Pairs.{matrixBytes, matrixNumbers}
 use Rattle.answers.specs.Calls.{replyOf, entryFault, judgeFault}
 use Rattle.answers.specs.declared.Entry.the-variants.{Granted, Denied, Default, Unclear}
 use Rattle.answers.specs.declared.Reply.{Reply}
-use Rattle.answers.specs.declared.Reply.the-variants.{Answered}
+use Rattle.answers.specs.declared.Reply.the-variants.{Answered, Refused}
 
 -- a picture
 pub record Picture : Type 0 where
@@ -168,7 +168,7 @@ table =
       numbers = default ∷ [];
     }
     -- H
-    ∷ record { picture = picture-H; judged = some (inItself 0); entries = []; bytes = []; numbers = [] }
+    ∷ record { picture = picture-H; judged = some (inItself 0); entries = (0, 0, Refused (inItself 0)) ∷ []; bytes = []; numbers = [] }
     -- I
     ∷ record {
       picture = picture-I;

@@ -18,10 +18,11 @@ positive = 1
 abbrev pub negative : ℕ
 negative = 0
 
--- the numbers of the arrows of mode m, rising
+-- arrow k has mode m
 unfoldable pub hasMode : List ℕ → ℕ → ℕ → Bool
 hasMode arrows m k = eqb (arrowAt arrows k .mode) m
 
+-- the numbers of the mode's arrows, rising
 unfoldable pub modeArrows : List ℕ → ℕ → List ℕ
 modeArrows arrows m = select (hasMode arrows m) (arrowCount arrows)
 
@@ -56,7 +57,7 @@ settle none none none n = Default
 module _ (rows arrows : List ℕ) (m : ℕ) where
   -- arrow k has mode m and sign s, and reaches the pair
   unfoldable pub hits : ℕ → ℕ → ℕ → ℕ → Bool
-  hits s u f k = eqb (arrowAt arrows k .mode) m && (eqb (arrowAt arrows k .sign) s && reaches rows (arrowAt arrows k) u f)
+  hits s u f k = hasMode arrows m k && (eqb (arrowAt arrows k .sign) s && reaches rows (arrowAt arrows k) u f)
 
   -- arrow k is a certificate of sign s: it reaches the pair and overrides every arrow of the opposite sign o that does
   unfoldable pub certifies : ℕ → ℕ → ℕ → ℕ → ℕ → Bool

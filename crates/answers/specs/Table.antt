@@ -11,9 +11,9 @@ use Rattle.tables.specs.Buffers.{build, written}
 use Rattle.tables.specs.Rows.{user, file, arrowCount, arrowAt}
 use Rattle.tables.specs.Atoms.{atoms}
 use Rattle.containment.specs.Contains.{around}
-use Rattle.containment.specs.Scratch.{Says}
+use Rattle.containment.specs.Steps.{Says}
 use Rattle.sets.specs.Sets.{wordOf, has}
-use Rattle.answers.specs.Meaning.{overrides}
+use Rattle.answers.specs.Meaning.{hasMode, overrides}
 use Rattle.answers.specs.Among.{Within}
 use Rattle.answers.specs.declared.Sides.{Sides}
 
@@ -23,7 +23,7 @@ beats rows arrows r k = eqb (arrowAt arrows r .mode) (arrowAt arrows k .mode) &&
 
 -- arrow k has mode d / 2 and sign d % 2
 unfoldable pub signed : List ℕ → ℕ → ℕ → Bool
-signed arrows d k = eqb (arrowAt arrows k .mode) (d / 2) && eqb (arrowAt arrows k .sign) (d % 2)
+signed arrows d k = hasMode arrows (d / 2) k && eqb (arrowAt arrows k .sign) (d % 2)
 
 module _ (rows arrows users files : List ℕ) where
   -- where the sets of the users, of the files and of the modes begin, and how many sets there are
@@ -54,6 +54,10 @@ module _ (rows arrows users files : List ℕ) where
 
   unfoldable pub setWords : List ℕ
   setWords = build setWord (8 * setCount)
+
+-- the users and the files are the atomic ones of the picture
+abbrev pub Placed : List ℕ → List ℕ → List ℕ → List ℕ → Type 0
+Placed boxes rows users files = (users ≡ atoms boxes rows user) × (files ≡ atoms boxes rows file)
 
 -- what the table is made from: a filled scratch for n boxes, and arrows, users and files among them
 pub record Source (n : ℕ) (rows scratch arrows users files : List ℕ) : Type 0 where

@@ -1,24 +1,24 @@
 // The answers: one entry, the judge, the matrix of a mode.
 ghost use mathlib.Core.Path.{_≡_};
 ghost use mathlib.Core.Bool.{_&&_};
-ghost use mathlib.Core.List.{List};
-ghost use Prim.Native.Nat.{ℕ, _+_, _*_, _/_, _%_, _^_, _<_, _≤_};
-ghost use lib.Dec.{T, eqb};
-ghost use lib.ListN.{length, getD};
+ghost use Prim.Native.Nat.{ℕ, _+_, _*_, _/_, _%_, _<_, _≤_};
+ghost use lib.Dec.{eqb};
+ghost use lib.ListN.{length};
 ghost use Rattle.tables.specs.Rows.{user, file, arrowAt, arrowCount};
 ghost use Rattle.tables.specs.Atoms.{atom, atoms, pairCount};
-ghost use Rattle.tables.specs.Faults.{SoundRows, SoundArrows};
-ghost use Rattle.tables.specs.Refusals.{verdictOf};
+ghost use Rattle.tables.specs.Steps.{SoundRows, SoundArrows};
+ghost use Rattle.tables.specs.Refusals.{refusal, verdictOf};
 ghost use Rattle.tables.specs.Buffers.{written, zeros};
 ghost use Rattle.tables.specs.Search.{bit, lowest};
 ghost use Rattle.containment.specs.Contains.{around};
-ghost use Rattle.containment.specs.Scratch.{Says, scratchAfter, earlyFault};
+ghost use Rattle.containment.specs.Scratch.{scratchAfter, earlyFault};
+ghost use Rattle.containment.specs.Steps.{Says};
 ghost use Rattle.answers.specs.Meaning.{positive, negative, reaches, nests, overrides, settle, answer, byteOf, numberOf, isUnclear, grantingOf, modeArrows};
 ghost use Rattle.answers.specs.Pairs.{userAt, fileAt, answerAt, matrixBytes, matrixNumbers, unclearFault, anyUnclear};
 ghost use Rattle.answers.specs.Calls.{askedFault, replyOf, entryEarly, entryFault, judgeFault, matrixEarly, matrixFault, bytesAfter, numbersAfter};
 ghost use Rattle.sets.specs.Sets.{has, overAll};
 ghost use Rattle.answers.specs.Among.{reaching, overridesAll, Within, Numbers, FirstAt, wins, NoneBefore};
-ghost use Rattle.answers.specs.Table.{beats, signed, member, setWord, setWords, setCount, Source, Tabled, Tabulates};
+ghost use Rattle.answers.specs.Table.{member, setWord, setWords, setCount, Placed, Source, Tabled, Tabulates};
 use containment::check_scratch;
 use containment::contain;
 use containment::does_contain;
@@ -128,18 +128,17 @@ fn does_reach(n: usize, rows: &[u16], scratch: &[u8], a: Arrow, u: u16, f: u16) 
     is_around(n, rows, scratch, a.tail, u) && is_around(n, rows, scratch, a.head, f)
 }
 
-// Whether p overrides q: no end of p contains that of q, and an end of q contains that of p.
+// Whether p overrides q: no end of p contains that of q, and an end of q contains that of p. It makes all four tests: a branch
+// after each costs more.
 fn does_override(n: usize, rows: &[u16], scratch: &[u8], p: Arrow, q: Arrow) -> bool
     requires { ⌜ Says n (now rows) (now scratch) × (p .tail < n) × (p .head < n) × (q .tail < n) × (q .head < n) ⌝ }
     ensures { λ r. ⌜ r ≡ overrides (now (rows .entry)) p q ⌝ }
 {
-    if is_nested(n, rows, scratch, p.tail, q.tail) {
-        return false;
-    }
-    if is_nested(n, rows, scratch, p.head, q.head) {
-        return false;
-    }
-    is_nested(n, rows, scratch, q.tail, p.tail) || is_nested(n, rows, scratch, q.head, p.head)
+    let outer = is_nested(n, rows, scratch, p.tail, q.tail)
+        | is_nested(n, rows, scratch, p.head, q.head);
+    let inner = is_nested(n, rows, scratch, q.tail, p.tail)
+        | is_nested(n, rows, scratch, q.head, p.head);
+    !outer & inner
 }
 
 // Whether an arrow has the mode and the sign and reaches the pair.
@@ -366,7 +365,7 @@ pub struct Pair {
 
 // The pair at place p, by the lists of the atomic boxes.
 pub fn pair_at(boxes: &[u8], rows: &[u16], users: &[u16], files: &[u16], p: usize) -> Pair
-    requires { ⌜ (now users ≡ atoms (now boxes) (now rows) user) × (now files ≡ atoms (now boxes) (now rows) file) × (p < pairCount (now boxes) (now rows)) ⌝ }
+    requires { ⌜ Placed (now boxes) (now rows) (now users) (now files) × (p < pairCount (now boxes) (now rows)) ⌝ }
     ensures { λ r. ⌜ (r .user ≡ userAt (now (boxes .entry)) (now (rows .entry)) p) × (r .file ≡ fileAt (now (boxes .entry)) (now (rows .entry)) p) ⌝ }
 {
     let columns = files.len();
@@ -374,6 +373,23 @@ pub fn pair_at(boxes: &[u8], rows: &[u16], users: &[u16], files: &[u16], p: usiz
         user: users[p / columns],
         file: files[p % columns],
     }
+}
+
+// A refusal that names the mode and the pair at place p.
+pub fn refuse_pair(
+    boxes: &[u8],
+    rows: &[u16],
+    users: &[u16],
+    files: &[u16],
+    number: u8,
+    mode: u16,
+    p: usize,
+) -> Verdict
+    requires { ⌜ Placed (now boxes) (now rows) (now users) (now files) × (p < pairCount (now boxes) (now rows)) ⌝ }
+    ensures { λ r. ⌜ r ≡ Verdict.Refused (refusal number mode (userAt (now (boxes .entry)) (now (rows .entry)) p) (fileAt (now (boxes .entry)) (now (rows .entry)) p)) ⌝ }
+{
+    let pair = pair_at(boxes, rows, users, files, p);
+    Verdict::refused(number, wide(mode), wide(pair.user), wide(pair.file))
 }
 
 // ---- The table of sets of arrows. Which arrows' tails are around a user, which heads are around a file, and what an arrow
@@ -572,8 +588,7 @@ fn first_unclear(
     for p in 0..users.len() * files.len() {
         let e = answer_at(boxes, rows, arrows, users, files, table, mode, p);
         if is_unclear(e) {
-            let pair = pair_at(boxes, rows, users, files, p);
-            return Verdict::refused_if(true, 12, wide(mode), wide(pair.user), wide(pair.file));
+            return refuse_pair(boxes, rows, users, files, 12, mode, p);
         }
     }
     Verdict::Passed
@@ -612,26 +627,11 @@ fn check_modes(boxes: &[u8], rows: &[u16], scratch: &[u8], arrows: &[u16]) -> Ve
     requires { ⌜ SoundRows (now boxes) (now rows) × SoundArrows (now boxes) (now arrows) × Says (length (now boxes)) (now rows) (now scratch) ⌝ }
     ensures { λ r. ⌜ r ≡ verdictOf (anyUnclear (now (boxes .entry)) (now (rows .entry)) (now (arrows .entry))) ⌝ }
 {
-    let mut users = no_boxes();
-    let mut files = no_boxes();
+    let mut u = no_boxes();
+    let mut f = no_boxes();
     let mut table = no_words();
-    let s = tabulate(
-        boxes,
-        rows,
-        scratch,
-        arrows,
-        &mut users,
-        &mut files,
-        &mut table,
-    );
-    first_mode(
-        boxes,
-        rows,
-        arrows,
-        &users[..s.users],
-        &files[..s.files],
-        &table,
-    )
+    let s = tabulate(boxes, rows, scratch, arrows, &mut u, &mut f, &mut table);
+    first_mode(boxes, rows, arrows, &u[..s.users], &f[..s.files], &table)
 }
 
 // The judge: passed if no pair is unclear in any mode, else the first unclear pair. Checks 1 to 7, 9, 10, 12.
@@ -704,7 +704,8 @@ fn fill_pairs(
     requires { ⌜ Tabled (now boxes) (now rows) (now arrows) (now users) (now files) (now table) × (mode < 8) × (pairCount (now boxes) (now rows) ≤ length (now bytes)) × (pairCount (now boxes) (now rows) ≤ length (now numbers)) ⌝ }
     ensures { λ _. ⌜ (now (bytes .exit) ≡ written (matrixBytes (now (boxes .entry)) (now (rows .entry)) (now (arrows .entry)) mode) (now (bytes .entry))) × (now (numbers .exit) ≡ written (matrixNumbers (now (boxes .entry)) (now (rows .entry)) (now (arrows .entry)) mode) (now (numbers .entry))) ⌝ }
 {
-    for p in 0..users.len() * files.len() {
+    let pairs = users.len() * files.len();
+    for p in 0..pairs {
         let e = answer_at(boxes, rows, arrows, users, files, table, mode, p);
         bytes[p] = byte_of(e);
         numbers[p] = number_of(e);
@@ -724,24 +725,16 @@ fn fill_matrix(
     requires { ⌜ SoundRows (now boxes) (now rows) × SoundArrows (now boxes) (now arrows) × Says (length (now boxes)) (now rows) (now scratch) × (mode < 8) × (pairCount (now boxes) (now rows) ≤ length (now bytes)) × (pairCount (now boxes) (now rows) ≤ length (now numbers)) ⌝ }
     ensures { λ _. ⌜ (now (bytes .exit) ≡ written (matrixBytes (now (boxes .entry)) (now (rows .entry)) (now (arrows .entry)) mode) (now (bytes .entry))) × (now (numbers .exit) ≡ written (matrixNumbers (now (boxes .entry)) (now (rows .entry)) (now (arrows .entry)) mode) (now (numbers .entry))) ⌝ }
 {
-    let mut users = no_boxes();
-    let mut files = no_boxes();
+    let mut u = no_boxes();
+    let mut f = no_boxes();
     let mut table = no_words();
-    let s = tabulate(
-        boxes,
-        rows,
-        scratch,
-        arrows,
-        &mut users,
-        &mut files,
-        &mut table,
-    );
+    let s = tabulate(boxes, rows, scratch, arrows, &mut u, &mut f, &mut table);
     fill_pairs(
         boxes,
         rows,
         arrows,
-        &users[..s.users],
-        &files[..s.files],
+        &u[..s.users],
+        &f[..s.files],
         &table,
         mode,
         bytes,

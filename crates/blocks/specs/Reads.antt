@@ -7,6 +7,7 @@ use lib.ListN.{length}
 use Rattle.tables.specs.Search.{orElse}
 use Rattle.tables.specs.Buffers.{written}
 use Rattle.tables.specs.Rows.{rowCount, arrowCount}
+use Rattle.tables.specs.Refusals.{unlessRefused}
 use Rattle.tables.specs.Faults.{countFault, roomFault}
 use Rattle.tables.specs.declared.Refusal.{Refusal}
 use Rattle.blocks.specs.Files.{blockAt, blockCount, fileFault, boxesIn, containmentsIn, arrowsIn, boxesOf, containmentsOf, arrowsOf}
@@ -44,8 +45,7 @@ answerOf (some r) counts = Refused r
 
 -- a refusal leaves every place untouched; else the places beyond what is read stay
 abbrev pub endOf : Option Refusal → List ℕ → List ℕ → List ℕ
-endOf none new old = written new old
-endOf (some r) new old = old
+endOf fault new old = unlessRefused fault (written new old) old
 
 -- the answer, and what each table holds at the end
 pub record ReadDone (file boxes rows arrows boxesEnd rowsEnd arrowsEnd : List ℕ) (r : Reading) : Type 0 where

@@ -14,6 +14,7 @@ ghost use Rattle.blocks.specs.Reads.{countsOf, tablesFault, answerOf, Re
 ghost use Rattle.blocks.specs.Steps.{noHead, countsWith, noCounts, BlockFits, Fitting};
 use tables::Refusal;
 use tables::Verdict;
+use tables::wide;
 
 // a * b modulo 2^32.
 fn wrapping_mul_u32(a: u32, b: u32) -> u32
@@ -80,12 +81,6 @@ fn wide16(x: u16) -> u32
     ensures { λ r. ⌜ r ≡ x ⌝ }
 {
     x as u32
-}
-
-fn wide(x: u16) -> usize
-    ensures { λ r. ⌜ r ≡ x ⌝ }
-{
-    x as usize
 }
 
 // A byte of a block.

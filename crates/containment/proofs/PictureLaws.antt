@@ -5,10 +5,12 @@ use mathlib.Core.Option.{Option, none}
 use Rattle.tables.specs.declared.Refusal.{Refusal}
 use Prim.Native.Nat.{ℕ}
 use lib.ListN.{length}
-use Rattle.tables.specs.Faults.{tableFault, SoundRows, SoundArrows}
+use Rattle.tables.specs.Faults.{tableFault}
+use Rattle.tables.specs.Steps.{SoundRows, SoundArrows}
 use Rattle.tables.proofs.TableLaws.{both-none, sound-rows, sound-arrows}
 use Rattle.containment.specs.Contains.{loopFault}
-use Rattle.containment.specs.Scratch.{filled, Says, scratchFault, scratchAfter, earlyFault, pictureFault}
+use Rattle.containment.specs.Scratch.{filled, scratchFault, scratchAfter, earlyFault, pictureFault}
+use Rattle.containment.specs.Steps.{Says}
 use Rattle.containment.proofs.ScratchLaws.{filled-says, scratch-room}
 
 pub record Prepared (boxes rows arrows s : List ℕ) : Type 0 where

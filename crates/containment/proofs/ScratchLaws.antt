@@ -16,8 +16,8 @@ use Rattle.tables.specs.declared.Verdict.{Verdict}
 use Rattle.tables.specs.declared.Verdict.the-variants.{Refused}
 use Rattle.tables.specs.Buffers.{build}
 use Rattle.containment.specs.Contains.{contains, loopFault}
-use Rattle.containment.specs.Scratch.{filled, Says, scratchFault, scratchAfter, earlyFault, pictureFault}
-use Rattle.containment.specs.Steps.{Cells, SameFrom}
+use Rattle.containment.specs.Scratch.{filled, scratchFault, scratchAfter, earlyFault, pictureFault}
+use Rattle.containment.specs.Steps.{Says, Cells, SameFrom}
 use Rattle.tables.proofs.Verdicts.{refused}
 use Rattle.tables.proofs.TableLaws.{room-passed}
 use Rattle.tables.proofs.BufferLaws.{written-length, written-at, written-rest, build-length, build-at}

@@ -1,11 +1,11 @@
 -- What the scratch holds (document 01, "What may be asked"), and when it is filled ("Who can cause a refusal"). Assumes nothing.
-use mathlib.Core.Path.{_≡_}
 use mathlib.Core.List.{List}
-use mathlib.Core.Option.{Option, none, some}
-use Prim.Native.Nat.{ℕ, _+_, _*_, _/_, _%_, _<_, _≤_}
-use lib.ListN.{length, getD}
+use mathlib.Core.Option.{Option}
+use Prim.Native.Nat.{ℕ, _+_, _*_, _/_, _%_}
+use lib.ListN.{length}
 use Rattle.tables.specs.Search.{bit, orElse}
 use Rattle.tables.specs.Buffers.{build, written}
+use Rattle.tables.specs.Refusals.{unlessRefused}
 use Rattle.tables.specs.Faults.{tableFault, roomFault}
 use Rattle.tables.specs.declared.Refusal.{Refusal}
 use Rattle.containment.specs.Contains.{contains, loopFault}
@@ -14,19 +14,13 @@ use Rattle.containment.specs.Contains.{contains, loopFault}
 unfoldable pub filled : ℕ → List ℕ → List ℕ → List ℕ
 filled n rows s = written (build (λ p. bit (contains rows (p / n) (p % n))) (n * n)) s
 
--- s is a scratch that was filled from the rows (`filled-says`); `containment::does_contain` reads it
-pub record Says (n : ℕ) (rows s : List ℕ) : Type 0 where
-  pub room : n * n ≤ length s
-  pub cell : (a b : ℕ) → a < n → b < n → getD s (a * n + b) 0 ≡ bit (contains rows a b)
-
 -- 9 for the scratch of n boxes
 unfoldable pub scratchFault : ℕ → List ℕ → Option Refusal
 scratchFault n s = roomFault 0 (length s) (n * n)
 
 -- the scratch is filled whenever checks 1 to 9 pass; else it is as it was
 abbrev pub scratchAfter : Option Refusal → List ℕ → List ℕ → List ℕ → List ℕ
-scratchAfter none boxes rows s = filled (length boxes) rows s
-scratchAfter (some r) boxes rows s = s
+scratchAfter early boxes rows s = unlessRefused early (filled (length boxes) rows s) s
 
 -- checks 1 to 7 of a picture, 9 for the scratch
 unfoldable pub earlyFault : List ℕ → List ℕ → List ℕ → List ℕ → Option Refusal

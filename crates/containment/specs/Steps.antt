@@ -1,4 +1,4 @@
--- How the scratch stands while it is filled: what the functions that fill it promise each other. Assumes nothing.
+-- What the functions ask of and promise each other: a filled scratch, and how it stands while it is filled. Assumes nothing.
 use mathlib.Core.Path.{_≡_}
 use mathlib.Core.Logic.{_⊎_}
 use mathlib.Core.Bool.{Bool, false, _&&_, _||_}
@@ -9,6 +9,12 @@ use lib.Dec.{eqb}
 use lib.ListN.{length, getD}
 use Rattle.tables.specs.Search.{bit}
 use Rattle.tables.specs.Buffers.{build}
+use Rattle.containment.specs.Contains.{contains}
+
+-- s is a scratch that was filled from the rows (`filled-says`); `containment::does_contain` reads it
+pub record Says (n : ℕ) (rows s : List ℕ) : Type 0 where
+  pub room : n * n ≤ length s
+  pub cell : (a b : ℕ) → a < n → b < n → getD s (a * n + b) 0 ≡ bit (contains rows a b)
 
 -- a row of the table has outer box a and inner box b
 unfoldable pub direct : List ℕ → ℕ → ℕ → Bool

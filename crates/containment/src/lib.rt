@@ -7,10 +7,10 @@ ghost use lib.ListN.{length, getD};
 ghost use Rattle.tables.specs.Buffers.{written};
 ghost use Rattle.tables.specs.Refusals.{verdictOf};
 ghost use Rattle.tables.specs.Rows.{rowAt, rowCount};
-ghost use Rattle.tables.specs.Faults.{SoundRows};
+ghost use Rattle.tables.specs.Steps.{SoundRows};
 ghost use Rattle.containment.specs.Contains.{contains, loopFault};
-ghost use Rattle.containment.specs.Scratch.{filled, Says, scratchFault, scratchAfter, earlyFault, pictureFault};
-ghost use Rattle.containment.specs.Steps.{direct, through, rounds, Cells, SameFrom, Joined, rowFrom};
+ghost use Rattle.containment.specs.Scratch.{filled, scratchFault, scratchAfter, earlyFault, pictureFault};
+ghost use Rattle.containment.specs.Steps.{Says, direct, through, rounds, Cells, SameFrom, Joined, rowFrom};
 use tables::Containment;
 use tables::Verdict;
 
@@ -124,7 +124,7 @@ fn check_loops(boxes: &[u8], rows: &[u16], scratch: &[u8]) -> Verdict
 {
     for b in 0..boxes.len() {
         if does_contain(boxes.len(), rows, scratch, b, b) {
-            return Verdict::refused_if(true, 10, b, 0, 0);
+            return Verdict::refused(10, b, 0, 0);
         }
     }
     Verdict::Passed

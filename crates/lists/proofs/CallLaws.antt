@@ -11,8 +11,8 @@ use Rattle.tables.specs.declared.Refusal.{Refusal}
 use Rattle.answers.specs.Meaning.{modeArrows}
 use Rattle.answers.specs.Pairs.{unclearFault}
 use Rattle.lists.specs.Greedy.{orderFault}
-use Rattle.lists.specs.Calls.{blanks, Answered, Listing}
-use Rattle.lists.specs.Steps.{leftIn, workOf, Ordered}
+use Rattle.lists.specs.Calls.{blanks, Answered}
+use Rattle.lists.specs.Steps.{Listing, leftIn, workOf, Ordered}
 use Rattle.lists.specs.declared.Listed.{Listed}
 use Rattle.lists.specs.declared.Listed.the-variants.{Written, Refused}
 use Rattle.tables.proofs.PartLaws.{part-is}
@@ -59,9 +59,11 @@ module _ (boxes rows arrows : List ℕ) (m : ℕ) (out work : List ℕ) (count :
               ∙ ap (λ (l : List ℕ). written (blanks (length l)) out) own-are,
         )
 
-  pub finish-work : pairCount boxes rows ≤ length work → written (zeros (pairCount boxes rows)) work′ ≡ written (zeros (pairCount boxes rows)) work
-  finish-work h =
-      ap (written (zeros (pairCount boxes rows))) (o .shown)
+  pub finish-work : {n : ℕ} → n ≡ pairCount boxes rows → pairCount boxes rows ≤ length work
+      → written (zeros n) work′ ≡ written (zeros (pairCount boxes rows)) work
+  finish-work e h =
+      ap (λ (k : ℕ). written (zeros k) work′) e
+      ∙ ap (written (zeros (pairCount boxes rows))) (o .shown)
       ∙ written-over (zeros (pairCount boxes rows)) (workOf boxes rows arrows m (o .list)) work
       (omega (arith, work-length boxes rows arrows m (o .list), zeros-length (pairCount boxes rows))) (omega (arith, zeros-length (pairCount boxes rows)))
 

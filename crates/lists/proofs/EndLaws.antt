@@ -11,7 +11,8 @@ use Rattle.tables.specs.Faults.{tableFault, modeFault, roomFault}
 use Rattle.tables.specs.declared.Refusal.{Refusal}
 use Rattle.containment.specs.Contains.{loopFault}
 use Rattle.containment.specs.Scratch.{scratchFault, filled}
-use Rattle.lists.specs.Calls.{listRoom, listEarly, listLate, Listing, Outcome}
+use Rattle.lists.specs.Calls.{listRoom, listEarly, listLate, Outcome}
+use Rattle.lists.specs.Steps.{Listing}
 use Rattle.lists.specs.declared.Listed.{Listed}
 use Rattle.lists.specs.declared.Listed.the-variants.{Refused}
 use Rattle.answers.proofs.CallLaws.{chained}

@@ -6,11 +6,12 @@ use mathlib.Core.List.{List, [], _∷_, _++_}
 use mathlib.Core.Option.{Option, none, some}
 use Prim.Native.Nat.{ℕ, zero, suc, _<_, _≤_}
 use native.Mathlib.Omega.{arith}
-use lib.Dec.{T, T-not, not-T, eqb, ltb, ltb→lt}
+use lib.Dec.{T, T-not, not-T, ltb, ltb→lt}
 use lib.ListN.{length}
 use Rattle.tables.specs.Search.{every, lowest, select}
-use Rattle.tables.specs.Rows.{arrowCount, arrowAt}
+use Rattle.tables.specs.Rows.{arrowCount}
 use Rattle.tables.specs.Atoms.{pairCount}
+use Rattle.answers.specs.Meaning.{hasMode}
 use Rattle.lists.specs.Order.{anyOf, allOf, passes, distinct, firstOf, ofMode, meets, reached, right, honest}
 use Rattle.lists.specs.Greedy.{new, fits, addable, grow, greedy}
 use Rattle.tables.proofs.Tests.{T?, and-T, T-and, T-or₁, T-or₂}
@@ -53,7 +54,7 @@ not-nowhere t n p l h = not-T (every (λ p. not (t p)) n) (λ e. T-not (t p) (ev
 
 pub ofMode-there : (arrows : List ℕ) (m k : ℕ) → T (ofMode arrows m k) → k < arrowCount arrows
 unfolding ofMode
-ofMode-there arrows m k t = ltb→lt k (arrowCount arrows) (and-T (ltb k (arrowCount arrows)) (eqb (arrowAt arrows k .mode) m) t .0)
+ofMode-there arrows m k t = ltb→lt k (arrowCount arrows) (and-T (ltb k (arrowCount arrows)) (hasMode arrows m k) t .0)
 
 module _ (boxes rows arrows : List ℕ) (m : ℕ) where
   abbrev R : ℕ → ℕ → Bool

@@ -13,7 +13,7 @@ use Rattle.tables.specs.Search.{every, select, bit}
 use Rattle.tables.specs.Buffers.{build, written, zeros}
 use Rattle.tables.specs.Rows.{arrowCount, arrowAt}
 use Rattle.tables.specs.Atoms.{pairCount}
-use Rattle.answers.specs.Meaning.{positive, negative, isGranted, isUnclear, modeArrows}
+use Rattle.answers.specs.Meaning.{positive, negative, hasMode, isGranted, isUnclear, modeArrows}
 use Rattle.answers.specs.Pairs.{answerAt}
 use Rattle.answers.specs.declared.Entry.{Entry}
 use Rattle.lists.specs.Order.{anyOf, gives, ofMode, meets, reached, granted, right}
@@ -197,21 +197,18 @@ module _ (boxes rows arrows : List ℕ) (m : ℕ) where
   -- ---- the arrows of the mode, by their places
 
   module _ (own : List ℕ) (e : own ≡ modeArrows arrows m) where
-    abbrev hasMode : ℕ → Bool
-    hasMode k = eqb (arrowAt arrows k .mode) m
-
     pub own-mode : (t : ℕ) → t < length own → T (ofMode arrows m (getD own t 0))
     unfolding ofMode
     own-mode t h =
         let i = e ∙ mode-select arrows m in
-        let f = select-found hasMode (arrowCount arrows) t (rw i at h) in
-        rw i (T-and (ltb (getD (select hasMode (arrowCount arrows)) t 0) (arrowCount arrows)) _ (lt→ltb _ (arrowCount arrows) (f .0)) (f .1))
+        let f = select-found (hasMode arrows m) (arrowCount arrows) t (rw i at h) in
+        rw i (T-and (ltb (getD (select (hasMode arrows m) (arrowCount arrows)) t 0) (arrowCount arrows)) _ (lt→ltb _ (arrowCount arrows) (f .0)) (f .1))
 
     own-has : (k : ℕ) → T (ofMode arrows m k) → (t : ℕ) × (t < length own) × (getD own t 0 ≡ k)
     unfolding ofMode
     own-has k o =
         let i = e ∙ mode-select arrows m in
-        rw i (select-has hasMode (arrowCount arrows) k (ofMode-there arrows m k o) (and-T (ltb k (arrowCount arrows)) (hasMode k) o .1))
+        rw i (select-has (hasMode arrows m) (arrowCount arrows) k (ofMode-there arrows m k o) (and-T (ltb k (arrowCount arrows)) (hasMode arrows m k) o .1))
 
     -- a list with no arrow twice is no longer
     pub own-room : (l : List ℕ) → Grown boxes rows arrows m l → length l ≤ length own
@@ -219,7 +216,7 @@ module _ (boxes rows arrows : List ℕ) (m : ℕ) where
     own-room l g =
         let i = e ∙ mode-select arrows m in
         let r = room (ofMode arrows m) (arrowCount arrows) l (ofMode-there arrows m) (honest-own boxes rows arrows m l (g .is-honest)) (g .once) in
-        let s = select-within (ofMode arrows m) hasMode (arrowCount arrows) (λ k h o. and-T (ltb k (arrowCount arrows)) (hasMode k) o .1) in
+        let s = select-within (ofMode arrows m) (hasMode arrows m) (arrowCount arrows) (λ k h o. and-T (ltb k (arrowCount arrows)) (hasMode arrows m k) o .1) in
         omega (arith, ap length i)
 
     -- ---- the turns of the loop that grows the list

@@ -2,7 +2,7 @@
 use mathlib.Core.List.{List}
 use Prim.Native.Nat.{ℕ}
 use native.Mathlib.Omega.{arith}
-use Rattle.tables.specs.Faults.{SoundArrows}
+use Rattle.tables.specs.Steps.{SoundArrows}
 use Rattle.answers.specs.Meaning.{modeArrows}
 use Rattle.answers.proofs.AmongLaws.{mode-most, mode-numbers}
 use Rattle.lists.specs.Steps.{Drawn}

@@ -9,13 +9,13 @@ use lib.ListN.{length, replicate}
 use Rattle.tables.specs.Search.{orElse}
 use Rattle.tables.specs.Buffers.{written, zeros}
 use Rattle.tables.specs.Atoms.{pairCount}
+use Rattle.tables.specs.Refusals.{unlessRefused}
 use Rattle.tables.specs.Faults.{tableFault, modeFault, roomFault}
 use Rattle.tables.specs.declared.Refusal.{Refusal}
 use Rattle.containment.specs.Contains.{loopFault}
 use Rattle.answers.specs.Meaning.{modeArrows}
 use Rattle.answers.specs.Pairs.{unclearFault}
 use Rattle.containment.specs.Scratch.{scratchFault, scratchAfter}
-use Rattle.answers.specs.Calls.{unlessRefused}
 use Rattle.lists.specs.Order.{qualifies}
 use Rattle.lists.specs.Greedy.{orderFault}
 use Rattle.lists.specs.declared.Listed.{Listed}
@@ -47,11 +47,6 @@ module _ (boxes rows arrows : List ℕ) (m : ℕ) where
   Answered (some x) o r out out′ = (r ≡ Refused x) × (out′ ≡ out)
   Answered none (some x) r out out′ = (r ≡ Refused x) × (out′ ≡ written (blanks listRoom) out)
   Answered none none r out out′ = (l : List ℕ) × (r ≡ Written (length l)) × (out′ ≡ written l out) × T (qualifies boxes rows arrows m l)
-
-  -- check 12 and what follows it: the answer r, and the list and the work bytes before and after
-  pub record Listing (out work : List ℕ) (r : Listed) (out′ work′ : List ℕ) : Type 0 where
-    pub answered : Answered (unclearFault boxes rows arrows m) (orderFault boxes rows arrows m) r out out′
-    pub work-after : work′ ≡ unlessRefused (unclearFault boxes rows arrows m) (written (zeros (pairCount boxes rows)) work) work
 
   -- the call: its answer r, and the scratch, the list and the work bytes before and after. Which qualifying list is written is open.
   pub record Outcome (s out work : List ℕ) (r : Listed) (s′ out′ work′ : List ℕ) : Type 0 where

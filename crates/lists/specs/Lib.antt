@@ -1,5 +1,5 @@
 pub mod Order
 pub mod Greedy
-pub mod Steps
 pub mod Calls
+pub mod Steps
 pub mod Cases

@@ -10,7 +10,7 @@ use lib.Dec.{T, eqb, ltb}
 use Rattle.tables.specs.Search.{every}
 use Rattle.tables.specs.Rows.{arrowCount, arrowAt}
 use Rattle.tables.specs.Atoms.{pairCount}
-use Rattle.answers.specs.Meaning.{positive, negative, reaches, isGranted, isUnclear}
+use Rattle.answers.specs.Meaning.{positive, negative, hasMode, reaches, isGranted, isUnclear}
 use Rattle.answers.specs.Pairs.{userAt, fileAt, answerAt}
 use Rattle.answers.specs.declared.Entry.{Entry}
 
@@ -45,7 +45,7 @@ gives s e = cond (isGranted e) (eqb s positive) (eqb s negative && not (isUnclea
 
 -- k is the number of an arrow of mode m
 unfoldable pub ofMode : List ℕ → ℕ → ℕ → Bool
-ofMode arrows m k = ltb k (arrowCount arrows) && eqb (arrowAt arrows k .mode) m
+ofMode arrows m k = ltb k (arrowCount arrows) && hasMode arrows m k
 
 module _ (boxes rows arrows : List ℕ) where
   -- arrow k reaches the pair at place p

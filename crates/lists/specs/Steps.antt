@@ -1,4 +1,4 @@
--- How the list is found: what the functions promise each other. Assumes nothing.
+-- What the functions ask of and promise each other: how the list is found. Assumes nothing.
 use mathlib.Core.Path.{_≡_}
 use mathlib.Core.Bool.{Bool, false, not, cond, _&&_}
 use mathlib.Core.List.{List}
@@ -7,17 +7,19 @@ use Prim.Native.Nat.{ℕ, _+_, _*_, _/_, _%_, _<_, _≤_}
 use lib.Dec.{T, eqb, ltb}
 use lib.ListN.{length, getD}
 use Rattle.tables.specs.Search.{first, given, every, bit}
-use Rattle.tables.specs.Buffers.{build, written}
+use Rattle.tables.specs.Buffers.{build, written, zeros}
 use Rattle.tables.specs.Rows.{user, file, arrowCount, arrowAt}
-use Rattle.tables.specs.Atoms.{atoms, pairCount}
-use Rattle.tables.specs.Refusals.{noOrder}
+use Rattle.tables.specs.Atoms.{pairCount}
+use Rattle.tables.specs.Refusals.{noOrder, unlessRefused}
 use Rattle.tables.specs.declared.Refusal.{Refusal}
 use Rattle.sets.specs.Sets.{has}
 use Rattle.answers.specs.Among.{Numbers}
 use Rattle.answers.specs.Meaning.{isUnclear}
-use Rattle.answers.specs.Pairs.{userAt, fileAt, answerAt}
+use Rattle.answers.specs.Pairs.{userAt, fileAt, answerAt, unclearFault}
 use Rattle.lists.specs.Order.{meets, reached, granted, honest, distinct}
-use Rattle.lists.specs.Greedy.{addable}
+use Rattle.lists.specs.Greedy.{addable, orderFault}
+use Rattle.lists.specs.Calls.{Answered}
+use Rattle.lists.specs.declared.Listed.{Listed}
 use Rattle.lists.specs.declared.Cell.{Cell}
 use Rattle.lists.specs.declared.Grid.{Grid}
 
@@ -48,10 +50,6 @@ touches table g k p = has table (g .arrows + p / g .files) k && has table (g .ar
 pub record Agrees (boxes rows arrows table : List ℕ) (g : Grid) : Type 0 where
   pub pairs-are : g .pairs ≡ pairCount boxes rows
   pub same : (k p : ℕ) → k < arrowCount arrows → p < pairCount boxes rows → touches table g k p ≡ meets boxes rows arrows p k
-
--- the users and the files are those of the picture
-abbrev pub Placed : List ℕ → List ℕ → List ℕ → List ℕ → Type 0
-Placed boxes rows users files = (users ≡ atoms boxes rows user) × (files ≡ atoms boxes rows file)
 
 -- the arrows of a picture, and numbers of some of them
 pub record Drawn (arrows own : List ℕ) : Type 0 where
@@ -127,3 +125,8 @@ module _ (boxes rows arrows : List ℕ) (m : ℕ) where
     pub is-honest : T (honest boxes rows arrows m list)
     pub once : T (distinct list)
     pub full : (k : ℕ) → T (addable boxes rows arrows m list k) → ⊥
+
+  -- check 12 and what follows it: the answer r, and the list and the work bytes before and after
+  pub record Listing (out work : List ℕ) (r : Listed) (out′ work′ : List ℕ) : Type 0 where
+    pub answered : Answered boxes rows arrows m (unclearFault boxes rows arrows m) (orderFault boxes rows arrows m) r out out′
+    pub work-after : work′ ≡ unlessRefused (unclearFault boxes rows arrows m) (written (zeros (pairCount boxes rows)) work) work

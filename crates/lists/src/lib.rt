@@ -9,16 +9,15 @@ ghost use Rattle.tables.specs.Buffers.{build, written, zeros};
 ghost use Rattle.tables.specs.Search.{bit};
 ghost use Rattle.tables.specs.Rows.{arrowCount};
 ghost use Rattle.tables.specs.Atoms.{pairCount};
-ghost use Rattle.tables.specs.Faults.{SoundRows, SoundArrows};
+ghost use Rattle.tables.specs.Steps.{SoundRows, SoundArrows};
 ghost use Rattle.tables.specs.Refusals.{refusal, verdictOf};
-ghost use Rattle.containment.specs.Scratch.{Says};
+ghost use Rattle.containment.specs.Steps.{Says};
 ghost use Rattle.answers.specs.Meaning.{isGranted, modeArrows};
-ghost use Rattle.answers.specs.Pairs.{userAt, fileAt, unclearFault};
+ghost use Rattle.answers.specs.Pairs.{unclearFault};
 ghost use Rattle.answers.specs.Among.{FirstAt};
-ghost use Rattle.answers.specs.Table.{Tabled};
-ghost use Rattle.lists.specs.Greedy.{orderFault};
-ghost use Rattle.lists.specs.Calls.{blanks, Answered, Listing, Outcome};
-ghost use Rattle.lists.specs.Steps.{cellAt, gridOf, Laid, Inside, Agrees, Placed, Drawn, touches, Ahead, stops, NoStop, marked, Behind, followsAt, ownSign, nothing, leftIn, Clear, workOf, Ordered};
+ghost use Rattle.answers.specs.Table.{Placed, Tabled};
+ghost use Rattle.lists.specs.Calls.{blanks, Outcome};
+ghost use Rattle.lists.specs.Steps.{Listing, cellAt, gridOf, Laid, Inside, Agrees, Drawn, touches, Ahead, stops, NoStop, marked, Behind, followsAt, ownSign, nothing, leftIn, Clear, workOf, Ordered};
 use answers::Entry;
 use answers::answer_at;
 use answers::is_unclear;
@@ -26,8 +25,8 @@ use answers::mode_arrows;
 use answers::no_boxes;
 use answers::no_numbers;
 use answers::no_words;
-use answers::pair_at;
 use answers::pair_count;
+use answers::refuse_pair;
 use answers::tabulate;
 use containment::check_scratch;
 use containment::contain;
@@ -35,7 +34,6 @@ use sets::is_in;
 use tables::Arrow;
 use tables::Refusal;
 use tables::Verdict;
-use tables::atoms_of;
 use tables::check_mode;
 use tables::check_room;
 use tables::wide;
@@ -255,23 +253,6 @@ fn mark(table: &[u64], g: Grid, k: usize, work: &mut [u8])
     }
 }
 
-// A refusal that names the mode and the pair at place p.
-fn refuse_pair(
-    boxes: &[u8],
-    rows: &[u16],
-    users: &[u16],
-    files: &[u16],
-    number: u8,
-    mode: u16,
-    p: usize,
-) -> Verdict
-    requires { ⌜ Placed (now boxes) (now rows) (now users) (now files) × (p < pairCount (now boxes) (now rows)) ⌝ }
-    ensures { λ r. ⌜ r ≡ verdictOf (some (refusal number mode (userAt (now (boxes .entry)) (now (rows .entry)) p) (fileAt (now (boxes .entry)) (now (rows .entry)) p))) ⌝ }
-{
-    let pair = pair_at(boxes, rows, users, files, p);
-    Verdict::refused_if(true, number, wide(mode), wide(pair.user), wide(pair.file))
-}
-
 // The first granted pair that is not reached, by the work bytes: refusal 13 names it.
 fn check_left(
     boxes: &[u8],
@@ -442,26 +423,18 @@ fn write_list(
     requires { ⌜ (length (modeArrows (now arrows) mode) ≤ length (now out)) × (pairCount (now boxes) (now rows) ≤ length (now work)) ⌝ }
     ensures { λ r. ⌜ Listing (now (boxes .entry)) (now (rows .entry)) (now (arrows .entry)) mode (now (out .entry)) (now (work .entry)) r (now (out .exit)) (now (work .exit)) ⌝ }
 {
-    let mut users = no_boxes();
-    let mut files = no_boxes();
+    let mut u = no_boxes();
+    let mut f = no_boxes();
     let mut table = no_words();
     let mut own = no_numbers();
-    let s = tabulate(
-        boxes,
-        rows,
-        scratch,
-        arrows,
-        &mut users,
-        &mut files,
-        &mut table,
-    );
+    let s = tabulate(boxes, rows, scratch, arrows, &mut u, &mut f, &mut table);
     let m = mode_arrows(arrows, mode, &mut own);
     list_pairs(
         boxes,
         rows,
         arrows,
-        &users[..s.users],
-        &files[..s.files],
+        &u[..s.users],
+        &f[..s.files],
         &table,
         mode,
         &own[..m],

@@ -3,12 +3,13 @@ use mathlib.Core.Path.{_≡_, sym, _∙_}
 use mathlib.Core.List.{List}
 use Prim.Native.Nat.{ℕ}
 use lib.ListN.{length}
-use Rattle.tables.specs.Faults.{SoundRows, SoundArrows}
+use Rattle.tables.specs.Steps.{SoundRows, SoundArrows}
 use Rattle.tables.specs.Refusals.{verdictOf}
 use Rattle.tables.specs.declared.Verdict.{Verdict}
 use Rattle.tables.specs.declared.Verdict.the-variants.{Passed}
 use Rattle.tables.proofs.Verdicts.{passed}
-use Rattle.containment.specs.Scratch.{Says, scratchAfter, earlyFault, pictureFault}
+use Rattle.containment.specs.Scratch.{scratchAfter, earlyFault, pictureFault}
+use Rattle.containment.specs.Steps.{Says}
 use Rattle.containment.proofs.PictureLaws.{picture-prepared, scratch-filled}
 
 pub ready : (boxes rows arrows s : List ℕ) {end : List ℕ} {v : Verdict}

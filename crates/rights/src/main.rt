@@ -1,9 +1,9 @@
 // Reads one block file from standard input and writes its listing (document 01, "The program's listing").
-ghost use Prim.Native.Nat.{ℕ, _*_, _<_, _≤_};
+ghost use Prim.Native.Nat.{_*_, _<_, _≤_};
 ghost use mathlib.Core.Path.{_≡_};
-ghost use lib.ListN.{length, getD};
-ghost use Rattle.tables.specs.Faults.{SoundRows, SoundArrows};
-ghost use Rattle.containment.specs.Scratch.{Says};
+ghost use lib.ListN.{length};
+ghost use Rattle.tables.specs.Steps.{SoundRows, SoundArrows};
+ghost use Rattle.containment.specs.Steps.{Says};
 ghost use Rattle.answers.specs.Table.{Tabled};
 use answers::Entry;
 use blocks::Counts;

@@ -15,7 +15,7 @@ use lib.Pow.{shr-lt, pow-mono}
 use Rattle.tables.specs.Search.{lowest, bit}
 use Rattle.tables.proofs.SelectLaws.{lowest-is, lowest-nothing}
 use Rattle.tables.proofs.BufferLaws.{build-at, build-length}
-use Rattle.tables.proofs.Tests.{T-same, T-and, and-T, true-T, not-false}
+use Rattle.tables.proofs.Tests.{T-same, T-and, and-T, true-T}
 use Rattle.sets.specs.Sets.{bitAt, wordOf, wordIn, has, shared, NextAt}
 
 -- ---- a digit more below a number

@@ -12,7 +12,8 @@ use lib.ListN.{length, getD, set, drop, length-set}
 use lib.Seq.{drop-cons, drop-length, getD-set-same, getD-set-other}
 use Rattle.tables.specs.Search.{bit}
 use Rattle.tables.specs.Rows.{rowCount, rowAt}
-use Rattle.tables.specs.Atoms.{outer, Marks}
+use Rattle.tables.specs.Atoms.{outer}
+use Rattle.tables.specs.Steps.{Marks}
 
 -- a table of whole rows ends after the last one
 pub rows-end : (rows : List ℕ) → length rows % 2 ≡ 0 → drop (2 * rowCount rows) rows ≡ []

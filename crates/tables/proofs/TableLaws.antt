@@ -10,7 +10,8 @@ use lib.ListN.{length, getD}
 use Rattle.tables.specs.Search.{orElse, given}
 use Rattle.tables.specs.Rows.{user, file, sideOf, onSide, rowCount, rowAt, arrowCount, arrowAt}
 use Rattle.tables.specs.Refusals.{ragged, tooMany, badByte, badRow, tooShort}
-use Rattle.tables.specs.Faults.{raggedFault, countFault, byteFault, namesNoBox, acrossSides, wrongEnds, wrongMode, rowFault, tableFault, roomFault, modeFault, SoundRows, SoundArrows}
+use Rattle.tables.specs.Faults.{raggedFault, countFault, byteFault, namesNoBox, acrossSides, wrongEnds, wrongMode, rowFault, tableFault, roomFault, modeFault}
+use Rattle.tables.specs.Steps.{SoundRows, SoundArrows}
 use Rattle.tables.specs.declared.Refusal.{Refusal}
 use Rattle.tables.proofs.Tests.{and-T, T-or₁, T-or₂}
 use Rattle.tables.proofs.SearchLaws.{first-none, given-none, some-none}

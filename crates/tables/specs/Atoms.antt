@@ -1,11 +1,10 @@
 -- Which boxes are atomic. Assumes nothing.
-use mathlib.Core.Path.{_≡_}
 use mathlib.Core.Bool.{Bool, false, not, _&&_, _||_}
 use mathlib.Core.List.{List, [], _∷_}
-use Prim.Native.Nat.{ℕ, _*_, _<_}
+use Prim.Native.Nat.{ℕ, _*_}
 use lib.Dec.{eqb}
-use lib.ListN.{length, getD}
-use Rattle.tables.specs.Search.{bit, select}
+use lib.ListN.{length}
+use Rattle.tables.specs.Search.{select}
 use Rattle.tables.specs.Rows.{user, file, onSide}
 
 -- box b is the outer one of a row
@@ -13,10 +12,6 @@ unfoldable pub outer : List ℕ → ℕ → Bool
 outer [] b = false
 outer (x ∷ []) b = false
 outer (x ∷ y ∷ rows) b = eqb x b || outer rows b
-
--- how such boxes are marked while they are looked for: byte b is 1 if f b, else 0
-abbrev pub Marks : (ℕ → Bool) → List ℕ → Type 0
-Marks f marks = (b : ℕ) → b < length marks → getD marks b 0 ≡ bit (f b)
 
 -- b is an atomic box of side s: the outer one of no row
 unfoldable pub atom : List ℕ → List ℕ → ℕ → ℕ → Bool

@@ -1,10 +1,9 @@
--- Checks 1 to 7 on the three tables of a picture, and what holds of tables that pass them. Assumes nothing.
-use mathlib.Core.Path.{_≡_}
-use mathlib.Core.Bool.{Bool, not, cond, _&&_, _||_}
+-- Checks 1 to 7 on the three tables of a picture, 8, and 9 for one buffer. Assumes nothing.
+use mathlib.Core.Bool.{Bool, not, _&&_, _||_}
 use mathlib.Core.List.{List}
 use mathlib.Core.Option.{Option}
-use Prim.Native.Nat.{ℕ, _%_, _<_, _≤_}
-use lib.Dec.{T, eqb, ltb, leb}
+use Prim.Native.Nat.{ℕ, _%_}
+use lib.Dec.{eqb, ltb, leb}
 use lib.ListN.{length, getD}
 use Rattle.tables.specs.Search.{orElse, given, first}
 use Rattle.tables.specs.Rows.{user, file, sideOf, onSide, rowCount, rowAt, arrowCount, arrowAt}
@@ -61,17 +60,6 @@ tableFault boxes rows arrows =
     (orElse (rowFault 6 (λ k. wrongEnds boxes (arrowAt arrows k)) (arrowCount arrows))
     (rowFault 7 (λ k. wrongMode (arrowAt arrows k)) (arrowCount arrows)))))))
 
--- the test of a row by the number of the check, 4 to 7, and how many rows it is for
-abbrev pub fails : ℕ → List ℕ → List ℕ → ℕ → Bool
-fails check boxes table k =
-    cond (eqb check 4) (namesNoBox boxes (rowAt table k))
-    (cond (eqb check 5) (acrossSides boxes (rowAt table k))
-    (cond (eqb check 6) (wrongEnds boxes (arrowAt table k))
-    (wrongMode (arrowAt table k))))
-
-abbrev pub rowsFor : ℕ → List ℕ → ℕ
-rowsFor check table = cond (ltb check 6) (rowCount table) (arrowCount table)
-
 -- 8: the asked mode
 unfoldable pub modeFault : ℕ → Option Refusal
 modeFault mode = given (ltb 7 mode) (noMode mode)
@@ -79,22 +67,3 @@ modeFault mode = given (ltb 7 mode) (noMode mode)
 -- 9: a buffer that is too short
 unfoldable pub roomFault : ℕ → ℕ → ℕ → Option Refusal
 roomFault buffer have need = given (ltb have need) (tooShort buffer need)
-
--- what holds of boxes and containments that pass checks 1 to 7 (`table-sound`)
-pub record SoundRows (boxes rows : List ℕ) : Type 0 where
-  pub few-boxes : length boxes ≤ 256
-  pub whole : length rows % 2 ≡ 0
-  pub few-rows : rowCount rows ≤ 1024
-  pub sides : (b : ℕ) → b < length boxes → getD boxes b 0 ≤ 1
-  pub outer-there : (k : ℕ) → k < rowCount rows → rowAt rows k .outer < length boxes
-  pub inner-there : (k : ℕ) → k < rowCount rows → rowAt rows k .inner < length boxes
-  pub one-side : (k : ℕ) → k < rowCount rows → sideOf boxes (rowAt rows k .outer) ≡ sideOf boxes (rowAt rows k .inner)
-
--- and of arrows
-pub record SoundArrows (boxes arrows : List ℕ) : Type 0 where
-  pub whole : length arrows % 4 ≡ 0
-  pub few-arrows : arrowCount arrows ≤ 512
-  pub tail-user : (k : ℕ) → k < arrowCount arrows → T (onSide boxes user (arrowAt arrows k .tail))
-  pub head-file : (k : ℕ) → k < arrowCount arrows → T (onSide boxes file (arrowAt arrows k .head))
-  pub mode-most : (k : ℕ) → k < arrowCount arrows → arrowAt arrows k .mode ≤ 7
-  pub sign-most : (k : ℕ) → k < arrowCount arrows → arrowAt arrows k .sign ≤ 1

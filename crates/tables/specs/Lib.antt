@@ -4,3 +4,4 @@ pub mod Rows
 pub mod Refusals
 pub mod Faults
 pub mod Atoms
+pub mod Steps

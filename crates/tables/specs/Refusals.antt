@@ -1,5 +1,6 @@
 -- Document 01, "Who can cause a refusal": each refusal's number and its three numbers, 0 where nothing is named.
 -- Assumes nothing.
+use mathlib.Core.List.{List}
 use mathlib.Core.Option.{Option, none, some}
 use Prim.Native.Nat.{ℕ}
 use Rattle.tables.specs.declared.Refusal.{Refusal}
@@ -62,6 +63,11 @@ badBlock number block = refusal number block 0 0
 abbrev pub verdictOf : Option Refusal → Verdict
 verdictOf none = Passed
 verdictOf (some r) = Refused r
+
+-- what lent places hold at the end: a refusal leaves them as they were
+abbrev pub unlessRefused : Option Refusal → List ℕ → List ℕ → List ℕ
+unlessRefused none new old = new
+unlessRefused (some r) new old = old
 
 -- the first of two verdicts that refuses
 abbrev pub either : Verdict → Verdict → Verdict

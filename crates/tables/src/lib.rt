@@ -1,14 +1,15 @@
 // The three lent tables of a picture: their rows, the checks on them, and which boxes are atomic.
 ghost use mathlib.Core.Path.{_≡_};
-ghost use mathlib.Core.List.{List, []};
+ghost use mathlib.Core.List.{[]};
 ghost use Prim.Native.Nat.{ℕ, _+_, _*_, _/_, _%_, _<_, _≤_};
 ghost use lib.ListN.{length};
 ghost use Rattle.tables.specs.Search.{given};
 ghost use Rattle.tables.specs.Buffers.{written, zeros};
-ghost use Rattle.tables.specs.Atoms.{outer, atom, atoms, Marks};
+ghost use Rattle.tables.specs.Atoms.{outer, atom, atoms};
+ghost use Rattle.tables.specs.Steps.{Marks, fails, rowsFor, SoundRows};
 ghost use Rattle.tables.specs.Rows.{sideOf, onSide, rowAt, rowCount, arrowAt, arrowCount};
 ghost use Rattle.tables.specs.Refusals.{refusal, verdictOf, either};
-ghost use Rattle.tables.specs.Faults.{raggedFault, countFault, byteFault, namesNoBox, acrossSides, wrongEnds, wrongMode, fails, rowsFor, rowFault, tableFault, modeFault, roomFault, SoundRows};
+ghost use Rattle.tables.specs.Faults.{raggedFault, countFault, byteFault, namesNoBox, acrossSides, wrongEnds, wrongMode, rowFault, tableFault, modeFault, roomFault};
 
 // A row of the boxes: its side.
 pub struct BoxRow {
@@ -86,17 +87,24 @@ pub enum Verdict {
 }
 
 impl Verdict {
+    // The refusal with this number and these three numbers.
+    pub fn refused(number: u8, first: usize, second: usize, third: usize) -> Verdict
+        ensures { λ r. ⌜ r ≡ Verdict.Refused (refusal number first second third) ⌝ }
+    {
+        Verdict::Refused(Refusal {
+            number,
+            first,
+            second,
+            third,
+        })
+    }
+
     // Refuses where there is a fault.
     pub fn refused_if(fault: bool, number: u8, first: usize, second: usize, third: usize) -> Verdict
         ensures { λ r. ⌜ r ≡ verdictOf (given fault (refusal number first second third)) ⌝ }
     {
         if fault {
-            return Verdict::Refused(Refusal {
-                number,
-                first,
-                second,
-                third,
-            });
+            return Verdict::refused(number, first, second, third);
         }
         Verdict::Passed
     }
@@ -171,7 +179,7 @@ fn check_bytes(boxes: &[u8]) -> Verdict
 {
     for b in 0..boxes.len() {
         if 1 < boxes[b] {
-            return Verdict::refused_if(true, 3, b, 0, 0);
+            return Verdict::refused(3, b, 0, 0);
         }
     }
     Verdict::Passed
@@ -234,7 +242,7 @@ fn check_rows(check: u8, boxes: &[u8], table: &[u16], count: usize) -> Verdict
 {
     for k in 0..count {
         if row_fails(check, boxes, table, k) {
-            return Verdict::refused_if(true, check, k, 0, 0);
+            return Verdict::refused(check, k, 0, 0);
         }
     }
     Verdict::Passed

@@ -4,14 +4,14 @@ use Rattle.answers.proofs.TableLaws.{users-within, files-within, users-
 use Rattle.answers.proofs.check_modes.Statement.{statement}
 use Rattle.answers.proofs.check_modes.Tie as tie
 
-array-share-prefix-users : tie.Need-array-share-prefix-users
-array-share-prefix-users c = users-within (c .before .before .before .before .before .before .before .before .before .before .before .before .before .before .pre .0) (c .before .before .before .tabulate .ensures) (c .before .before .before .before .before .before .before .before .before .no-boxes .ensures)
+array-share-prefix-u : tie.Need-array-share-prefix-u
+array-share-prefix-u c = users-within (c .before .before .before .before .before .before .before .before .before .before .before .before .before .before .pre .0) (c .before .before .before .tabulate .ensures) (c .before .before .before .before .before .before .before .before .before .no-boxes .ensures)
 
 slice-aggregate-first-mode : tie.Need-slice-aggregate-first-mode
 slice-aggregate-first-mode c = users-length (c .before .before .before .before .before .before .before .before .before .before .before .before .before .before .before .pre .0) (c .before .before .before .before .tabulate .ensures)
 
-array-share-prefix-files : tie.Need-array-share-prefix-files
-array-share-prefix-files c = files-within (c .before .before .before .before .before .before .before .before .before .before .before .before .before .before .before .pre .0) (c .before .before .before .before .tabulate .ensures) (c .before .before .before .before .before .before .before .before .before .no-boxes2 .ensures)
+array-share-prefix-f : tie.Need-array-share-prefix-f
+array-share-prefix-f c = files-within (c .before .before .before .before .before .before .before .before .before .before .before .before .before .before .before .pre .0) (c .before .before .before .before .tabulate .ensures) (c .before .before .before .before .before .before .before .before .before .no-boxes2 .ensures)
 
 slice-aggregate-first-mode-2 : tie.Need-slice-aggregate-first-mode-2
 slice-aggregate-first-mode-2 c = files-length (c .before .before .before .before .before .before .before .before .before .before .before .before .before .before .before .before .pre .0) (c .before .before .before .before .before .tabulate .ensures)
@@ -22,5 +22,5 @@ first-mode-requires c κs = let p = c .before .before .before .before .before .b
 pub check-modes-spec : {M : Type 1} → statement M
 check-modes-spec =
     tie.close (tie.spec (λ c κs. search needs) (λ c κs. search needs) (λ c κs. search needs) (search needs) (search needs) (search needs)
-    (λ c κs. search needs) array-share-prefix-users slice-aggregate-first-mode array-share-prefix-files slice-aggregate-first-mode-2
+    (λ c κs. search needs) array-share-prefix-u slice-aggregate-first-mode array-share-prefix-f slice-aggregate-first-mode-2
     (search needs) first-mode-requires (λ c. search needs))

@@ -4,14 +4,14 @@ use Rattle.answers.proofs.TableLaws.{users-within, files-within, users-
 use Rattle.answers.proofs.fill_matrix.Statement.{statement}
 use Rattle.answers.proofs.fill_matrix.Tie as tie
 
-array-share-prefix-users : tie.Need-array-share-prefix-users
-array-share-prefix-users c = users-within (c .before .before .before .before .before .before .before .before .before .before .before .before .before .before .before .before .pre .0) (c .before .before .before .tabulate .ensures) (c .before .before .before .before .before .before .before .before .before .no-boxes .ensures)
+array-share-prefix-u : tie.Need-array-share-prefix-u
+array-share-prefix-u c = users-within (c .before .before .before .before .before .before .before .before .before .before .before .before .before .before .before .before .pre .0) (c .before .before .before .tabulate .ensures) (c .before .before .before .before .before .before .before .before .before .no-boxes .ensures)
 
 slice-aggregate-fill-pairs : tie.Need-slice-aggregate-fill-pairs
 slice-aggregate-fill-pairs c = users-length (c .before .before .before .before .before .before .before .before .before .before .before .before .before .before .before .before .before .pre .0) (c .before .before .before .before .tabulate .ensures)
 
-array-share-prefix-files : tie.Need-array-share-prefix-files
-array-share-prefix-files c = files-within (c .before .before .before .before .before .before .before .before .before .before .before .before .before .before .before .before .before .pre .0) (c .before .before .before .before .tabulate .ensures) (c .before .before .before .before .before .before .before .before .before .no-boxes2 .ensures)
+array-share-prefix-f : tie.Need-array-share-prefix-f
+array-share-prefix-f c = files-within (c .before .before .before .before .before .before .before .before .before .before .before .before .before .before .before .before .before .pre .0) (c .before .before .before .before .tabulate .ensures) (c .before .before .before .before .before .before .before .before .before .no-boxes2 .ensures)
 
 slice-aggregate-fill-pairs-2 : tie.Need-slice-aggregate-fill-pairs-2
 slice-aggregate-fill-pairs-2 c = files-length (c .before .before .before .before .before .before .before .before .before .before .before .before .before .before .before .before .before .before .pre .0) (c .before .before .before .before .before .tabulate .ensures)
@@ -22,5 +22,5 @@ fill-pairs-requires c κs = let p = c .before .before .before .before .before .b
 pub fill-matrix-spec : {M : Type 1} → statement M
 fill-matrix-spec =
     tie.close (tie.spec (λ c κs. search needs) (λ c κs. search needs) (λ c κs. search needs) (search needs) (search needs) (search needs)
-    (λ c κs. search needs) array-share-prefix-users slice-aggregate-fill-pairs array-share-prefix-files slice-aggregate-fill-pairs-2
+    (λ c κs. search needs) array-share-prefix-u slice-aggregate-fill-pairs array-share-prefix-f slice-aggregate-fill-pairs-2
     (search needs) fill-pairs-requires (search needs) (search needs) (λ c. search needs))

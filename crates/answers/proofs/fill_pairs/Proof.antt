@@ -15,7 +15,7 @@ use Rattle.answers.proofs.fill_pairs.Tie as tie
 
 abbrev Inv-loop : tie.InvT-loop
 Inv-loop boxes rows arrows users files table mode bytes₀ numbers₀ p₀ p-end bytes numbers p =
-    (p ≤ pairCount boxes rows) × (bytes ≡ written (build (byteAt boxes rows arrows mode) p) bytes₀) × (numbers ≡ written (build (numberAt boxes rows arrows mode) p) numbers₀)
+    (bytes ≡ written (build (byteAt boxes rows arrows mode) p) bytes₀) × (numbers ≡ written (build (numberAt boxes rows arrows mode) p) numbers₀) × (p ≤ pairCount boxes rows)
 
 abbrev μ-loop : tie.MeasureT-loop
 μ-loop boxes rows arrows users files table mode bytes₀ numbers₀ p₀ p-end bytes numbers p = pairCount boxes rows - p
@@ -24,12 +24,12 @@ counted : (c : tie.Start Inv-loop μ-loop) → let a = c .args in
     (length (a .users .now) * length (a .files .now) ≡ pairCount (a .boxes .now) (a .rows .now)) × (length (a .users .now) * length (a .files .now) ≤ 65536)
 counted c = tabled-pairs (c .pre .0)
 
-mul-p-end : tie.Need-mul-p-end Inv-loop μ-loop
-mul-p-end c = omega (arith, counted (c .before .before .before .before .before .before .before .before))
+mul-pairs : tie.Need-mul-pairs Inv-loop μ-loop
+mul-pairs c = omega (arith, counted (c .before .before .before .before .before .before .before .before))
 
 loop-holds : tie.Need-loop-holds Inv-loop μ-loop
 unfolding build
-loop-holds c = let a = c .before .before .before .before .before .before .before .before .args in (search needs, sym (written-none (a .bytes .now)), sym (written-none (a .numbers .now)))
+loop-holds c = let a = c .before .before .before .before .before .before .before .before .args in (sym (written-none (a .bytes .now)), sym (written-none (a .numbers .now)), search needs)
 
 answer-at-requires : tie.Need-answer-at-requires Inv-loop μ-loop
 answer-at-requires c κs = let start = c .before .before .before .before .before .before .before .before .before .before in (start .pre .0, start .pre .1, omega (arith, counted start, c .loop-test .taken))
@@ -37,11 +37,11 @@ answer-at-requires c κs = let start = c .before .before .before .before .before
 -- the buffers keep their lengths
 bytes-long : (c : tie.At-loop Inv-loop μ-loop) → length (c .loop .bytes) ≡ length (c .before .before .before .before .before .before .before .before .before .args .bytes .now)
 bytes-long c = let a = c .before .before .before .before .before .before .before .before .before .args in
-    built-length (byteAt (a .boxes .now) (a .rows .now) (a .arrows .now) (a .mode)) (a .bytes .now) (c .loop .p) (c .loop .bytes) (c .loop .inv .1) (omega (arith, c .loop .inv .0, c .before .before .before .before .before .before .before .before .before .pre .2))
+    built-length (byteAt (a .boxes .now) (a .rows .now) (a .arrows .now) (a .mode)) (a .bytes .now) (c .loop .p) (c .loop .bytes) (c .loop .inv .0) (omega (arith, c .loop .inv .2, c .before .before .before .before .before .before .before .before .before .pre .2))
 
 numbers-long : (c : tie.At-loop Inv-loop μ-loop) → length (c .loop .numbers) ≡ length (c .before .before .before .before .before .before .before .before .before .args .numbers .now)
 numbers-long c = let a = c .before .before .before .before .before .before .before .before .before .args in
-    built-length (numberAt (a .boxes .now) (a .rows .now) (a .arrows .now) (a .mode)) (a .numbers .now) (c .loop .p) (c .loop .numbers) (c .loop .inv .2) (omega (arith, c .loop .inv .0, c .before .before .before .before .before .before .before .before .before .pre .3))
+    built-length (numberAt (a .boxes .now) (a .rows .now) (a .arrows .now) (a .mode)) (a .numbers .now) (c .loop .p) (c .loop .numbers) (c .loop .inv .1) (omega (arith, c .loop .inv .2, c .before .before .before .before .before .before .before .before .before .pre .3))
 
 slice-write-bytes : tie.Need-slice-write-bytes Inv-loop μ-loop
 slice-write-bytes c = omega (arith, bytes-long (c .before .before .before), counted (c .before .before .before .before .before .before .before .before .before .before .before .before), c .before .before .before .before .before .before .before .before .before .before .before .before .pre .2, c .before .before .loop-test .taken)
@@ -64,9 +64,9 @@ loop-again c = let start = c .before .before .before .before .before .before .be
     let a = start .args in
     let l = c .before .before .before .before .loop in
     let in-pairs : l .p < pairCount (a .boxes .now) (a .rows .now) = omega (arith, counted start, c .before .before .before .loop-test .taken) in (
+      built-more (byteAt (a .boxes .now) (a .rows .now) (a .arrows .now) (a .mode)) (a .bytes .now) (l .p) (l .bytes) (l .inv .0) _ (omega (arith, start .pre .2)) (rw (c .before .byte-of .ensures, c .before .before .answer-at .ensures)),
+      built-more (numberAt (a .boxes .now) (a .rows .now) (a .arrows .now) (a .mode)) (a .numbers .now) (l .p) (l .numbers) (l .inv .1) _ (omega (arith, start .pre .3)) (rw (c .number-of .ensures, c .before .before .answer-at .ensures)),
       omega arith,
-      built-more (byteAt (a .boxes .now) (a .rows .now) (a .arrows .now) (a .mode)) (a .bytes .now) (l .p) (l .bytes) (l .inv .1) _ (omega (arith, start .pre .2)) (rw (c .before .byte-of .ensures, c .before .before .answer-at .ensures)),
-      built-more (numberAt (a .boxes .now) (a .rows .now) (a .arrows .now) (a .mode)) (a .numbers .now) (l .p) (l .numbers) (l .inv .2) _ (omega (arith, start .pre .3)) (rw (c .number-of .ensures, c .before .before .answer-at .ensures)),
     )
 
 same-length : tie.Need-same-length Inv-loop μ-loop
@@ -80,9 +80,9 @@ unfolding matrixBytes matrixNumbers
 returns c = let a = c .before .before .before .before .before .before .before .before .before .before .args in
     let l = c .before .loop in
     let e : l .p ≡ pairCount (a .boxes .now) (a .rows .now) = omega (arith, counted (c .before .before .before .before .before .before .before .before .before .before), c .loop-test .left) in
-    rw (← e) (l .inv .1, l .inv .2)
+    rw (← e) (l .inv .0, l .inv .1)
 
 pub fill-pairs-spec : {M : Type 1} → statement M
 fill-pairs-spec =
-    tie.close (tie.spec Inv-loop μ-loop mul-p-end loop-holds answer-at-requires (λ c κs. search needs) slice-write-bytes
+    tie.close (tie.spec Inv-loop μ-loop mul-pairs loop-holds answer-at-requires (λ c κs. search needs) slice-write-bytes
     (λ c κs. search needs) mul-numbers slice-write-numbers add-p loop-less loop-again same-length same-length-2 returns)

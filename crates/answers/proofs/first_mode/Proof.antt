@@ -25,7 +25,7 @@ returns : tie.Need-returns Inv-loop μ-loop
 unfolding anyUnclear
 returns c = let a = c .before .before .before .before .before .before .before .before .before .before .before .before .args in
     let l = c .before .before .before .before .before .loop in
-    sym (ap verdictOf (first-here (unclearFault (a .boxes .now) (a .rows .now) (a .arrows .now)) 8 (l .m) _ (l .inv .1) (refused _ _ (sym (c .before .before .before .first-unclear .ensures) ∙ c .before .v .given .1)) (c .before .before .before .before .loop-test .taken)))
+    sym (ap verdictOf (first-here (unclearFault (a .boxes .now) (a .rows .now) (a .arrows .now)) 8 (l .m) _ (l .inv .1) (refused _ _ (sym (c .before .before .before .first-unclear .ensures) ∙ c .before .v .given .1)) (omega (arith, c .before .before .before .before .loop-test .taken))))
 
 loop-again : tie.Need-loop-again Inv-loop μ-loop
 loop-again c = let a = c .before .before .before .before .before .before .before .before .before .before .before .args in

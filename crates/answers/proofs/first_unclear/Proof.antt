@@ -5,7 +5,7 @@ use Prim.Native.Nat.{_*_, _-_, _≤_}
 use native.Mathlib.Omega.{arith}
 use borrow.Author.Needs.{needs}
 use lib.ListN.{length}
-use Rattle.tables.specs.Search.{given, first}
+use Rattle.tables.specs.Search.{first}
 use Rattle.tables.specs.Atoms.{pairCount}
 use Rattle.tables.proofs.SearchLaws.{first-zero, first-more, first-here}
 use Rattle.answers.specs.Pairs.{answerAt}
@@ -38,23 +38,17 @@ seen : (c : tie.After-is-unclear Inv-loop μ-loop) → let a = c .before .before
     isUnclear (answerAt (a .boxes .now) (a .rows .now) (a .arrows .now) (a .mode) (c .before .before .before .loop .p)) ≡ c .is-unclear .result
 seen c = rw (← c .before .answer-at .ensures) (sym (c .is-unclear .ensures))
 
-pair-at-requires : tie.Need-pair-at-requires Inv-loop μ-loop
-pair-at-requires c κs = let start = c .before .before .before .before .before .before .before .before .before .before .before in (start .pre .0 .users-are, start .pre .0 .files-are, omega (arith, counted start, c .before .before .before .loop-test .taken))
+refuse-pair-requires : tie.Need-refuse-pair-requires Inv-loop μ-loop
+refuse-pair-requires c κs = let start = c .before .before .before .before .before .before .before .before .before .before .before in ((start .pre .0 .users-are, start .pre .0 .files-are), omega (arith, counted start, c .before .before .before .loop-test .taken))
 
 returns : tie.Need-returns Inv-loop μ-loop
-unfolding given
-returns c = let start = c .before .before .before .before .before .before .before .before .before .before .before .before .before .before .before .before in
+returns c = let start = c .before .before .before .before .before .before .before .before .before .before .before .before in
     let a = start .args in
-    let l = c .before .before .before .before .before .before .before .before .before .loop in
+    let l = c .before .before .before .before .before .loop in
     rw (
-      c .refused-if .ensures,
-      c .before .before .before .wide .ensures,
-      c .before .before .wide2 .ensures,
-      c .before .wide3 .ensures,
-      c .before .before .before .before .pair-at .ensures .0,
-      c .before .before .before .before .pair-at .ensures .1,
+      c .refuse-pair .ensures,
       unclear-is (a .boxes .now) (a .rows .now) (a .arrows .now) (a .mode),
-      first-here (unclearAt (a .boxes .now) (a .rows .now) (a .arrows .now) (a .mode)) (pairCount (a .boxes .now) (a .rows .now)) (l .p) _ (l .inv .1) (unclear-some (a .boxes .now) (a .rows .now) (a .arrows .now) (a .mode) (l .p) (seen (c .before .before .before .before .before .before) ∙ c .before .before .before .before .before .if1 .taken)) (omega (arith, counted start, c .before .before .before .before .before .before .before .before .loop-test .taken)),
+      first-here (unclearAt (a .boxes .now) (a .rows .now) (a .arrows .now) (a .mode)) (pairCount (a .boxes .now) (a .rows .now)) (l .p) _ (l .inv .1) (unclear-some (a .boxes .now) (a .rows .now) (a .arrows .now) (a .mode) (l .p) (seen (c .before .before) ∙ c .before .if1 .taken)) (omega (arith, counted start, c .before .before .before .before .loop-test .taken)),
     )
 
 add-p : tie.Need-add-p Inv-loop μ-loop
@@ -78,6 +72,5 @@ returns-2 c = let a = c .before .before .before .before .before .before .before 
 
 pub first-unclear-spec : {M : Type 1} → statement M
 first-unclear-spec =
-    tie.close (tie.spec Inv-loop μ-loop mul-p-end loop-holds answer-at-requires (λ c κs. search needs) pair-at-requires
-    (λ c κs. search needs) (λ c κs. search needs) (λ c κs. search needs) (λ c κs. search needs) returns add-p loop-less loop-again
-    returns-2)
+    tie.close (tie.spec Inv-loop μ-loop mul-p-end loop-holds answer-at-requires (λ c κs. search needs) refuse-pair-requires
+    returns add-p loop-less loop-again returns-2)

@@ -8,7 +8,7 @@ use borrow.Author.Needs.{needs}
 use lib.ListN.{length}
 use Rattle.tables.specs.Rows.{arrowCount}
 use Rattle.tables.proofs.BufferLaws.{Selected, selected-none, selected-length, selected-most, selected-yes, selected-no}
-use Rattle.answers.specs.Meaning.{hits}
+use Rattle.answers.specs.Meaning.{hasMode, hits}
 use Rattle.answers.specs.Among.{reaching}
 use Rattle.answers.proofs.gather.Statement.{statement}
 use Rattle.answers.proofs.gather.Tie as tie
@@ -49,7 +49,7 @@ add-count c = omega (arith, room c)
 
 tested : (c : tie.After-does-hit Inv-loop μ-loop) → let a = c .before .before .before .before .before .before .before .before .args in
     hits (a .rows .now) (a .arrows .now) (a .mode) (a .sign) (a .u) (a .f) (c .before .before .before .loop .k) ≡ c .does-hit .result
-unfolding hits
+unfolding hits hasMode
 tested c = rw (c .does-hit .ensures, c .before .at .ensures)
 
 loop-again : tie.Need-loop-again Inv-loop μ-loop

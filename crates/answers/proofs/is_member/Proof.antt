@@ -1,7 +1,8 @@
 -- `answers::is_member` meets its contract: the kind of the set decides the test. Assumes nothing.
-use mathlib.Core.Path.{sym, _∙_}
+use mathlib.Core.Path.{sym}
 use native.Mathlib.Omega.{arith}
 use borrow.Author.Needs.{needs}
+use Rattle.answers.specs.Meaning.{hasMode}
 use Rattle.answers.specs.Table.{beats, signed}
 use Rattle.answers.proofs.TableLaws.{member-none, member-arrow, member-user, member-file, member-mode}
 use Rattle.answers.proofs.is_member.Statement.{statement}
@@ -51,7 +52,7 @@ returns-4 c = let a = c .before .before .before .before .before .before .before 
     rw (member-file (a .rows .now) (a .arrows .now) (a .users .now) (a .files .now) (a .k) (c .before .before .before .before .before .before .if1 .left) (a .r) (omega arith) (omega arith), c .is-around2 .ensures, c .before .before .before .before .before .at .ensures)
 
 returns-5 : tie.Need-returns-5
-unfolding signed
+unfolding signed hasMode
 returns-5 c = let a = c .before .before .before .before .before .before .before .before .before .before .before .args in
     rw (member-mode (a .rows .now) (a .arrows .now) (a .users .now) (a .files .now) (a .k) (c .before .before .before .before .before .if1 .left) (a .r) (omega arith), c .has-sign .ensures, c .before .before .before .before .at .ensures)
 

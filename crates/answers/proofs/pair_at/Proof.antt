@@ -8,7 +8,7 @@ use Rattle.answers.proofs.pair_at.Tie as tie
 
 -- the row and the column of the place
 there : (c : tie.Start) → let a = c .args in (a .p / length (a .files .now) < length (a .users .now)) × (a .p % length (a .files .now) < length (a .files .now))
-there c = let a = c .args in place-there (a .boxes .now) (a .rows .now) (a .users .now) (a .files .now) (c .pre .0) (c .pre .1) (a .p) (c .pre .2)
+there c = let a = c .args in place-there (a .boxes .now) (a .rows .now) (a .users .now) (a .files .now) (c .pre .0 .0) (c .pre .0 .1) (a .p) (c .pre .1)
 
 div-t7 : tie.Need-div-t7
 div-t7 c = omega (arith, there c .1)
@@ -31,8 +31,8 @@ shared-slice-read-t14 c = there (c .before .before) .1
 returns : tie.Need-returns
 returns c = let start = c .before .before in
     let a = start .args in (
-      user-read (a .boxes .now) (a .rows .now) (a .users .now) (a .files .now) (start .pre .0) (start .pre .1) (a .p),
-      file-read (a .boxes .now) (a .rows .now) (a .users .now) (a .files .now) (start .pre .0) (start .pre .1) (a .p),
+      user-read (a .boxes .now) (a .rows .now) (a .users .now) (a .files .now) (start .pre .0 .0) (start .pre .0 .1) (a .p),
+      file-read (a .boxes .now) (a .rows .now) (a .users .now) (a .files .now) (start .pre .0 .0) (start .pre .0 .1) (a .p),
     )
 
 pub pair-at-spec : {M : Type 1} → statement M

@@ -12,6 +12,9 @@ use Rattle.containment.proofs.StepLaws.{cleared, cleared-rest, same-tra
 use Rattle.containment.proofs.fill.Statement.{statement}
 use Rattle.containment.proofs.fill.Tie as tie
 
+clear-requires : tie.Need-clear-requires
+clear-requires c κs = search needs
+
 mark-requires : tie.Need-mark-requires
 mark-requires c κs = let cl = c .before .before .before in
     let start = c .before .before .before .before .before .before .before .before in
@@ -39,4 +42,4 @@ returns c = let cd = c .before .before .before in
     (same-trans (same-trans (rw (cl .clear .ensures) (cleared-rest n s room)) (mk .mark .ensures .1)) (cd .close .ensures .1))
 
 pub fill-spec : {M : Type 1} → statement M
-fill-spec = tie.close (tie.spec (search needs) (search needs) mark-requires (search needs) (search needs) close-requires (search needs) returns)
+fill-spec = tie.close (tie.spec (search needs) clear-requires mark-requires (search needs) (search needs) close-requires (search needs) returns)

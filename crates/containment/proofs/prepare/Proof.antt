@@ -4,7 +4,8 @@ use mathlib.Core.Option.{none}
 use borrow.Author.Needs.{needs}
 use lib.ListN.{length}
 use Rattle.containment.specs.Scratch.{scratchFault}
-use Rattle.tables.specs.Faults.{tableFault, SoundRows}
+use Rattle.tables.specs.Faults.{tableFault}
+use Rattle.tables.specs.Steps.{SoundRows}
 use Rattle.tables.proofs.Verdicts.{passed}
 use Rattle.tables.proofs.TableLaws.{sound-rows}
 use Rattle.containment.proofs.ScratchLaws.{ends-tables, ends-room, ends-filled, scratch-room}

@@ -41,7 +41,7 @@ work-is c = let a = c .before .before .before .before .before .before .before .b
 work-cleared : (c : tie.After-clear) → let a = c .before .before .before .before .before .before .before .before .before .before .before .before .before .before .before .before .before .before .before .before .before .before .before .before .before .before .before .before .before .before .before .before .args in c .clear .last .0 ≡ written (zeros (pairCount (a .boxes .now) (a .rows .now))) (c .before .before .before .before .before .before .before .before .before .before .before .before .before .copy .last .1 .0)
 work-cleared c = let a = c .before .before .before .before .before .before .before .before .before .before .before .before .before .before .before .before .before .before .before .before .before .before .before .before .before .before .before .before .before .before .before .before .args in
     c .clear .ensures
-    ∙ rw (pairs (c .before .before .before .before .before .before .before .before .before .before .before .before .before .before .before .before)) (finish-work (a .boxes .now) (a .rows .now) (a .arrows .now) (a .mode) _ _ _ _ _ (c .before .before .before .before .before .before .before .before .order .ensures) (omega (arith, c .before .before .before .before .before .before .before .before .before .before .before .before .before .before .before .before .before .before .before .before .before .before .before .before .before .before .before .before .before .before .before .before .pre .1 .1, c .before .before .before .before .before .before .before .before .before .before .before .before .before .copy .kept .1 .0)))
+    ∙ finish-work (a .boxes .now) (a .rows .now) (a .arrows .now) (a .mode) _ _ _ _ _ (c .before .before .before .before .before .before .before .before .order .ensures) (pairs (c .before .before .before .before .before .before .before .before .before .before .before .before .before .before .before .before)) (omega (arith, c .before .before .before .before .before .before .before .before .before .before .before .before .before .before .before .before .before .before .before .before .before .before .before .before .before .before .before .before .before .before .before .before .pre .1 .1, c .before .before .before .before .before .before .before .before .before .before .before .before .before .copy .kept .1 .0))
 
 fill-granted-requires : tie.Need-fill-granted-requires
 fill-granted-requires c κs = (c .before .before .before .before .before .before .before .before .before .before .before .pre .0 .0, c .before .before .before .before .before .before .before .before .before .before .before .pre .0 .1, bytes-room (c .before))

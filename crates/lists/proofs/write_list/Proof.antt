@@ -7,14 +7,14 @@ use Rattle.lists.proofs.ReadyLaws.{drawn-is}
 use Rattle.lists.proofs.write_list.Statement.{statement}
 use Rattle.lists.proofs.write_list.Tie as tie
 
-array-share-prefix-users : tie.Need-array-share-prefix-users
-array-share-prefix-users c = users-within (c .before .before .before .before .before .before .before .before .before .before .before .before .before .before .before .before .before .before .before .before .pre .0 .0) (c .before .before .before .before .before .before .tabulate .ensures) (c .before .before .before .before .before .before .before .before .before .before .before .before .before .no-boxes .ensures)
+array-share-prefix-u : tie.Need-array-share-prefix-u
+array-share-prefix-u c = users-within (c .before .before .before .before .before .before .before .before .before .before .before .before .before .before .before .before .before .before .before .before .pre .0 .0) (c .before .before .before .before .before .before .tabulate .ensures) (c .before .before .before .before .before .before .before .before .before .before .before .before .before .no-boxes .ensures)
 
 slice-aggregate-list-pairs : tie.Need-slice-aggregate-list-pairs
 slice-aggregate-list-pairs c = users-length (c .before .before .before .before .before .before .before .before .before .before .before .before .before .before .before .before .before .before .before .before .before .pre .0 .0) (c .before .before .before .before .before .before .before .tabulate .ensures)
 
-array-share-prefix-files : tie.Need-array-share-prefix-files
-array-share-prefix-files c = files-within (c .before .before .before .before .before .before .before .before .before .before .before .before .before .before .before .before .before .before .before .before .before .pre .0 .0) (c .before .before .before .before .before .before .before .tabulate .ensures) (c .before .before .before .before .before .before .before .before .before .before .before .before .before .no-boxes2 .ensures)
+array-share-prefix-f : tie.Need-array-share-prefix-f
+array-share-prefix-f c = files-within (c .before .before .before .before .before .before .before .before .before .before .before .before .before .before .before .before .before .before .before .before .before .pre .0 .0) (c .before .before .before .before .before .before .before .tabulate .ensures) (c .before .before .before .before .before .before .before .before .before .before .before .before .before .no-boxes2 .ensures)
 
 slice-aggregate-list-pairs-2 : tie.Need-slice-aggregate-list-pairs-2
 slice-aggregate-list-pairs-2 c = files-length (c .before .before .before .before .before .before .before .before .before .before .before .before .before .before .before .before .before .before .before .before .before .before .pre .0 .0) (c .before .before .before .before .before .before .before .before .tabulate .ensures)
@@ -35,6 +35,6 @@ list-pairs-requires c κs = let p = c .before .before .before .before .before .b
 pub write-list-spec : {M : Type 1} → statement M
 write-list-spec =
     tie.close (tie.spec (λ c κs. search needs) (λ c κs. search needs) (λ c κs. search needs) (λ c κs. search needs) (search needs)
-    (search needs) (search needs) (λ c κs. search needs) (search needs) (λ c κs. search needs) array-share-prefix-users
-    slice-aggregate-list-pairs array-share-prefix-files slice-aggregate-list-pairs-2 (search needs) array-share-prefix-own
+    (search needs) (search needs) (λ c κs. search needs) (search needs) (λ c κs. search needs) array-share-prefix-u
+    slice-aggregate-list-pairs array-share-prefix-f slice-aggregate-list-pairs-2 (search needs) array-share-prefix-own
     slice-aggregate-list-pairs-4 list-pairs-requires (search needs) (search needs) (λ c. search needs))

@@ -20,7 +20,7 @@ answer-at-requires : tie.Need-answer-at-requires Inv-loop μ-loop
 answer-at-requires c κs = let p = c .before .before .before .before .before .before .before .before .before .before .before .pre in (p .0, p .1, omega (arith, tabled-pairs (p .0), c .loop-test .taken))
 
 pair-at-requires : tie.Need-pair-at-requires Inv-loop μ-loop
-pair-at-requires c κs = let d = c .before .before .before .before .before .before .before .before .before .before .before .before .pre .0 in (d .users-are, d .files-are, omega (arith, tabled-pairs d, c .before .loop-test .taken))
+pair-at-requires c κs = let d = c .before .before .before .before .before .before .before .before .before .before .before .before .pre .0 in ((d .users-are, d .files-are), omega (arith, tabled-pairs d, c .before .loop-test .taken))
 
 add-p : tie.Need-add-p Inv-loop μ-loop
 add-p c = omega (arith, tabled-pairs (c .before .before .before .before .before .before .before .before .before .before .before .before .before .before .before .before .before .pre .0), c .before .before .before .before .before .before .loop-test .taken)

@@ -5,7 +5,8 @@ use mathlib.Core.Path.{_≡_, sym, ap, _∙_}
 use Prim.Native.Nat.{ℕ}
 use borrow.Author.Needs.{needs}
 use lib.ListN.{length}
-use Rattle.tables.specs.Faults.{raggedFault, countFault, byteFault, rowFault, fails, tableFault}
+use Rattle.tables.specs.Faults.{raggedFault, countFault, byteFault, rowFault, tableFault}
+use Rattle.tables.specs.Steps.{fails}
 use Rattle.tables.specs.Refusals.{verdictOf}
 use Rattle.tables.specs.Rows.{rowCount, arrowCount}
 use Rattle.tables.specs.Search.{orElse}

@@ -8,7 +8,6 @@ use borrow.Author.Needs.{needs}
 use borrow.Author.Tests.{lt-ltb, le-ltb}
 use lib.Dec.{ltb}
 use lib.ListN.{length, getD}
-use Rattle.tables.specs.Search.{given}
 use Rattle.tables.specs.Faults.{byteFault}
 use Rattle.tables.specs.Refusals.{badByte, verdictOf}
 use Rattle.tables.proofs.SearchLaws.{Searched, search-none, search-more, search-here}
@@ -28,10 +27,10 @@ loop-holds : tie.Need-loop-holds Inv-loop μ-loop
 loop-holds c = (search needs, search-none (bad (c .before .args .boxes .now)) badByte)
 
 returns : tie.Need-returns Inv-loop μ-loop
-unfolding byteFault given
+unfolding byteFault
 returns c = let at = c .before .before .before .before in
     let boxes = at .before .before .args .boxes .now in
-    c .refused-if .ensures
+    c .refused .ensures
     ∙ sym (ap verdictOf (search-here (bad boxes) badByte (length boxes) (at .loop .b) (at .loop .inv .1) (lt-ltb 1 _ (c .before .if1 .taken)) (omega arith)))
 
 loop-again : tie.Need-loop-again Inv-loop μ-loop

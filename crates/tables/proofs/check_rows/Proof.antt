@@ -4,8 +4,8 @@ use Prim.Native.Nat.{_-_, _≤_}
 use native.Mathlib.Nat.{lt-of-lt-of-le}
 use native.Mathlib.Omega.{arith}
 use borrow.Author.Needs.{needs}
-use Rattle.tables.specs.Search.{given}
-use Rattle.tables.specs.Faults.{fails, rowFault}
+use Rattle.tables.specs.Faults.{rowFault}
+use Rattle.tables.specs.Steps.{fails}
 use Rattle.tables.specs.Refusals.{badRow, verdictOf}
 use Rattle.tables.proofs.SearchLaws.{Searched, search-none, search-more, search-here}
 use Rattle.tables.proofs.check_rows.Statement.{statement}
@@ -26,11 +26,11 @@ row-fails-requires : tie.Need-row-fails-requires Inv-loop μ-loop
 row-fails-requires c κs = (search needs, lt-of-lt-of-le (c .loop-test .taken) (c .before .before .before .before .pre .1))
 
 returns : tie.Need-returns Inv-loop μ-loop
-unfolding rowFault given
+unfolding rowFault
 returns c =
     let at = c .before .before .before .before in
     let a = at .before .before .before .args in
-    c .refused-if .ensures
+    c .refused .ensures
     ∙ sym (ap verdictOf (search-here (fails (a .check) (a .boxes .now) (a .table .now)) (badRow (a .check)) (a .count) (at .loop .k) (at .loop .inv .1)
     (sym (c .before .before .row-fails .ensures) ∙ c .before .if1 .taken) (omega arith)))
 

@@ -5,7 +5,8 @@ use native.Mathlib.Omega.{arith}
 use borrow.Author.Needs.{needs}
 use lib.ListN.{length, drop, length-set}
 use Rattle.tables.specs.Rows.{rowCount, rowAt}
-use Rattle.tables.specs.Atoms.{outer, Marks}
+use Rattle.tables.specs.Atoms.{outer}
+use Rattle.tables.specs.Steps.{Marks}
 use Rattle.tables.proofs.RowLaws.{rows-end, marked}
 use Rattle.tables.proofs.mark_outer.Statement.{statement}
 use Rattle.tables.proofs.mark_outer.Tie as tie

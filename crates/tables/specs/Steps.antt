@@ -1,0 +1,44 @@
+-- What the functions ask of and promise each other. Assumes nothing.
+use mathlib.Core.Path.{_≡_}
+use mathlib.Core.Bool.{Bool, cond}
+use mathlib.Core.List.{List}
+use Prim.Native.Nat.{ℕ, _%_, _<_, _≤_}
+use lib.Dec.{T, eqb, ltb}
+use lib.ListN.{length, getD}
+use Rattle.tables.specs.Search.{bit}
+use Rattle.tables.specs.Rows.{user, file, sideOf, onSide, rowCount, rowAt, arrowCount, arrowAt}
+use Rattle.tables.specs.Faults.{namesNoBox, acrossSides, wrongEnds, wrongMode}
+
+-- what holds of boxes and containments that pass checks 1 to 7 (`table-sound`)
+pub record SoundRows (boxes rows : List ℕ) : Type 0 where
+  pub few-boxes : length boxes ≤ 256
+  pub whole : length rows % 2 ≡ 0
+  pub few-rows : rowCount rows ≤ 1024
+  pub sides : (b : ℕ) → b < length boxes → getD boxes b 0 ≤ 1
+  pub outer-there : (k : ℕ) → k < rowCount rows → rowAt rows k .outer < length boxes
+  pub inner-there : (k : ℕ) → k < rowCount rows → rowAt rows k .inner < length boxes
+  pub one-side : (k : ℕ) → k < rowCount rows → sideOf boxes (rowAt rows k .outer) ≡ sideOf boxes (rowAt rows k .inner)
+
+-- and of arrows
+pub record SoundArrows (boxes arrows : List ℕ) : Type 0 where
+  pub whole : length arrows % 4 ≡ 0
+  pub few-arrows : arrowCount arrows ≤ 512
+  pub tail-user : (k : ℕ) → k < arrowCount arrows → T (onSide boxes user (arrowAt arrows k .tail))
+  pub head-file : (k : ℕ) → k < arrowCount arrows → T (onSide boxes file (arrowAt arrows k .head))
+  pub mode-most : (k : ℕ) → k < arrowCount arrows → arrowAt arrows k .mode ≤ 7
+  pub sign-most : (k : ℕ) → k < arrowCount arrows → arrowAt arrows k .sign ≤ 1
+
+-- the test of a row by the number of the check, 4 to 7, and how many rows it is for
+abbrev pub fails : ℕ → List ℕ → List ℕ → ℕ → Bool
+fails check boxes table k =
+    cond (eqb check 4) (namesNoBox boxes (rowAt table k))
+    (cond (eqb check 5) (acrossSides boxes (rowAt table k))
+    (cond (eqb check 6) (wrongEnds boxes (arrowAt table k))
+    (wrongMode (arrowAt table k))))
+
+abbrev pub rowsFor : ℕ → List ℕ → ℕ
+rowsFor check table = cond (ltb check 6) (rowCount table) (arrowCount table)
+
+-- byte b is 1 if f b, else 0: how outer boxes are marked while atomic ones are looked for
+abbrev pub Marks : (ℕ → Bool) → List ℕ → Type 0
+Marks f marks = (b : ℕ) → b < length marks → getD marks b 0 ≡ bit (f b)
