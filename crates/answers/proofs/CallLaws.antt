@@ -116,9 +116,9 @@ module _ (boxes rows arrows s : List ℕ) (m : ℕ) where
     abbrev pub MatrixEnds : Verdict → List ℕ → List ℕ → List ℕ → Type 0
     MatrixEnds v t b n =
         (v ≡ verdictOf (matrixFault boxes rows arrows s m bytes numbers))
-        × (t ≡ scratchAfter (matrixEarly boxes rows arrows s m bytes numbers) boxes rows s)
-        × (b ≡ bytesAfter boxes rows arrows s m bytes numbers)
-        × (n ≡ numbersAfter boxes rows arrows s m bytes numbers)
+        × ((t ≡ scratchAfter (matrixEarly boxes rows arrows s m bytes numbers) boxes rows s)
+        × ((b ≡ bytesAfter boxes rows arrows s m bytes numbers)
+        × (n ≡ numbersAfter boxes rows arrows s m bytes numbers)))
 
     -- the fault decides what the buffers hold
     ends : (o e : Option Refusal) → matrixFault boxes rows arrows s m bytes numbers ≡ o → matrixEarly boxes rows arrows s m bytes numbers ≡ e
@@ -126,7 +126,7 @@ module _ (boxes rows arrows s : List ℕ) (m : ℕ) where
         (unlessRefused o (written (matrixBytes boxes rows arrows m) bytes) bytes)
         (unlessRefused o (written (matrixNumbers boxes rows arrows m) numbers) numbers)
     unfolding bytesAfter numbersAfter
-    ends o e p q = (rw p, rw q, rw p, rw p)
+    ends o e p q = (rw p, (rw q, (rw p, rw p)))
 
     pub matrix-tables : (r : Refusal) → Tables (Stopped r) → MatrixEnds (Stopped r) s bytes numbers
     unfolding orElse matrixEarly matrixFault

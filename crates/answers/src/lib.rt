@@ -172,7 +172,8 @@ fn arrow_at(arrows: &[u16], k: u16) -> Arrow
 // Writes the numbers of the mode's arrows, rising, and answers how many.
 pub fn mode_arrows(arrows: &[u16], mode: u16, out: &mut [u16]) -> usize
     requires { ⌜ (arrowCount (now arrows) ≤ 512) × (512 ≤ length (now out)) ⌝ }
-    ensures { λ r. ⌜ (r ≡ length (modeArrows (now (arrows .entry)) mode)) × (now (out .exit) ≡ written (modeArrows (now (arrows .entry)) mode) (now (out .entry))) ⌝ }
+    ensures { λ r. ⌜ r ≡ length (modeArrows (now (arrows .entry)) mode) ⌝ }
+    ensures { λ _. ⌜ now (out .exit) ≡ written (modeArrows (now (arrows .entry)) mode) (now (out .entry)) ⌝ }
 {
     let mut count = 0;
     for k in 0..arrows.len() / 4 {
@@ -198,7 +199,8 @@ fn gather(
     out: &mut [u16],
 ) -> usize
     requires { ⌜ Says n (now rows) (now scratch) × Within n (now arrows) × (u < n) × (f < n) × (arrowCount (now arrows) ≤ 512) × (512 ≤ length (now out)) ⌝ }
-    ensures { λ r. ⌜ (r ≡ length (reaching (now (rows .entry)) (now (arrows .entry)) mode sign u f)) × (now (out .exit) ≡ written (reaching (now (rows .entry)) (now (arrows .entry)) mode sign u f) (now (out .entry))) ⌝ }
+    ensures { λ r. ⌜ r ≡ length (reaching (now (rows .entry)) (now (arrows .entry)) mode sign u f) ⌝ }
+    ensures { λ _. ⌜ now (out .exit) ≡ written (reaching (now (rows .entry)) (now (arrows .entry)) mode sign u f) (now (out .entry)) ⌝ }
 {
     let mut count = 0;
     for k in 0..arrows.len() / 4 {
@@ -636,7 +638,8 @@ fn check_modes(boxes: &[u8], rows: &[u16], scratch: &[u8], arrows: &[u16]) -> Ve
 
 // The judge: passed if no pair is unclear in any mode, else the first unclear pair. Checks 1 to 7, 9, 10, 12.
 pub fn judge(boxes: &[u8], rows: &[u16], arrows: &[u16], scratch: &mut [u8]) -> Verdict
-    ensures { λ r. ⌜ (r ≡ verdictOf (judgeFault (now (boxes .entry)) (now (rows .entry)) (now (arrows .entry)) (now (scratch .entry)))) × (now (scratch .exit) ≡ scratchAfter (earlyFault (now (boxes .entry)) (now (rows .entry)) (now (arrows .entry)) (now (scratch .entry))) (now (boxes .entry)) (now (rows .entry)) (now (scratch .entry))) ⌝ }
+    ensures { λ r. ⌜ r ≡ verdictOf (judgeFault (now (boxes .entry)) (now (rows .entry)) (now (arrows .entry)) (now (scratch .entry))) ⌝ }
+    ensures { λ _. ⌜ now (scratch .exit) ≡ scratchAfter (earlyFault (now (boxes .entry)) (now (rows .entry)) (now (arrows .entry)) (now (scratch .entry))) (now (boxes .entry)) (now (rows .entry)) (now (scratch .entry)) ⌝ }
 {
     let picture = prepare(boxes, rows, arrows, scratch);
     if let Verdict::Refused(r) = picture {
@@ -672,7 +675,8 @@ pub fn one_entry(
     f: u16,
     mode: u16,
 ) -> Reply
-    ensures { λ r. ⌜ (r ≡ replyOf (entryFault (now (boxes .entry)) (now (rows .entry)) (now (arrows .entry)) (now (scratch .entry)) mode u f) (answer (now (rows .entry)) (now (arrows .entry)) mode u f)) × (now (scratch .exit) ≡ scratchAfter (entryEarly (now (boxes .entry)) (now (rows .entry)) (now (arrows .entry)) (now (scratch .entry)) mode) (now (boxes .entry)) (now (rows .entry)) (now (scratch .entry))) ⌝ }
+    ensures { λ r. ⌜ r ≡ replyOf (entryFault (now (boxes .entry)) (now (rows .entry)) (now (arrows .entry)) (now (scratch .entry)) mode u f) (answer (now (rows .entry)) (now (arrows .entry)) mode u f) ⌝ }
+    ensures { λ _. ⌜ now (scratch .exit) ≡ scratchAfter (entryEarly (now (boxes .entry)) (now (rows .entry)) (now (arrows .entry)) (now (scratch .entry)) mode) (now (boxes .entry)) (now (rows .entry)) (now (scratch .entry)) ⌝ }
 {
     let tables = tables::check(boxes, rows, arrows);
     if let Verdict::Refused(r) = tables {
@@ -702,7 +706,8 @@ fn fill_pairs(
     numbers: &mut [u16],
 )
     requires { ⌜ Tabled (now boxes) (now rows) (now arrows) (now users) (now files) (now table) × (mode < 8) × (pairCount (now boxes) (now rows) ≤ length (now bytes)) × (pairCount (now boxes) (now rows) ≤ length (now numbers)) ⌝ }
-    ensures { λ _. ⌜ (now (bytes .exit) ≡ written (matrixBytes (now (boxes .entry)) (now (rows .entry)) (now (arrows .entry)) mode) (now (bytes .entry))) × (now (numbers .exit) ≡ written (matrixNumbers (now (boxes .entry)) (now (rows .entry)) (now (arrows .entry)) mode) (now (numbers .entry))) ⌝ }
+    ensures { λ _. ⌜ now (bytes .exit) ≡ written (matrixBytes (now (boxes .entry)) (now (rows .entry)) (now (arrows .entry)) mode) (now (bytes .entry)) ⌝ }
+    ensures { λ _. ⌜ now (numbers .exit) ≡ written (matrixNumbers (now (boxes .entry)) (now (rows .entry)) (now (arrows .entry)) mode) (now (numbers .entry)) ⌝ }
 {
     let pairs = users.len() * files.len();
     for p in 0..pairs {
@@ -723,7 +728,8 @@ fn fill_matrix(
     numbers: &mut [u16],
 )
     requires { ⌜ SoundRows (now boxes) (now rows) × SoundArrows (now boxes) (now arrows) × Says (length (now boxes)) (now rows) (now scratch) × (mode < 8) × (pairCount (now boxes) (now rows) ≤ length (now bytes)) × (pairCount (now boxes) (now rows) ≤ length (now numbers)) ⌝ }
-    ensures { λ _. ⌜ (now (bytes .exit) ≡ written (matrixBytes (now (boxes .entry)) (now (rows .entry)) (now (arrows .entry)) mode) (now (bytes .entry))) × (now (numbers .exit) ≡ written (matrixNumbers (now (boxes .entry)) (now (rows .entry)) (now (arrows .entry)) mode) (now (numbers .entry))) ⌝ }
+    ensures { λ _. ⌜ now (bytes .exit) ≡ written (matrixBytes (now (boxes .entry)) (now (rows .entry)) (now (arrows .entry)) mode) (now (bytes .entry)) ⌝ }
+    ensures { λ _. ⌜ now (numbers .exit) ≡ written (matrixNumbers (now (boxes .entry)) (now (rows .entry)) (now (arrows .entry)) mode) (now (numbers .entry)) ⌝ }
 {
     let mut u = no_boxes();
     let mut f = no_boxes();
@@ -752,7 +758,10 @@ pub fn matrix(
     bytes: &mut [u8],
     numbers: &mut [u16],
 ) -> Verdict
-    ensures { λ r. ⌜ (r ≡ verdictOf (matrixFault (now (boxes .entry)) (now (rows .entry)) (now (arrows .entry)) (now (scratch .entry)) mode (now (bytes .entry)) (now (numbers .entry)))) × (now (scratch .exit) ≡ scratchAfter (matrixEarly (now (boxes .entry)) (now (rows .entry)) (now (arrows .entry)) (now (scratch .entry)) mode (now (bytes .entry)) (now (numbers .entry))) (now (boxes .entry)) (now (rows .entry)) (now (scratch .entry))) × (now (bytes .exit) ≡ bytesAfter (now (boxes .entry)) (now (rows .entry)) (now (arrows .entry)) (now (scratch .entry)) mode (now (bytes .entry)) (now (numbers .entry))) × (now (numbers .exit) ≡ numbersAfter (now (boxes .entry)) (now (rows .entry)) (now (arrows .entry)) (now (scratch .entry)) mode (now (bytes .entry)) (now (numbers .entry))) ⌝ }
+    ensures { λ r. ⌜ r ≡ verdictOf (matrixFault (now (boxes .entry)) (now (rows .entry)) (now (arrows .entry)) (now (scratch .entry)) mode (now (bytes .entry)) (now (numbers .entry))) ⌝ }
+    ensures { λ _. ⌜ now (scratch .exit) ≡ scratchAfter (matrixEarly (now (boxes .entry)) (now (rows .entry)) (now (arrows .entry)) (now (scratch .entry)) mode (now (bytes .entry)) (now (numbers .entry))) (now (boxes .entry)) (now (rows .entry)) (now (scratch .entry)) ⌝ }
+    ensures { λ _. ⌜ now (bytes .exit) ≡ bytesAfter (now (boxes .entry)) (now (rows .entry)) (now (arrows .entry)) (now (scratch .entry)) mode (now (bytes .entry)) (now (numbers .entry)) ⌝ }
+    ensures { λ _. ⌜ now (numbers .exit) ≡ numbersAfter (now (boxes .entry)) (now (rows .entry)) (now (arrows .entry)) (now (scratch .entry)) mode (now (bytes .entry)) (now (numbers .entry)) ⌝ }
 {
     let tables = tables::check(boxes, rows, arrows);
     if let Verdict::Refused(r) = tables {

@@ -134,7 +134,8 @@ fn check_loops(boxes: &[u8], rows: &[u16], scratch: &[u8]) -> Verdict
 pub fn contain(boxes: &[u8], rows: &[u16], scratch: &mut [u8]) -> Verdict
     requires { ⌜ SoundRows (now boxes) (now rows) ⌝ }
     requires { ⌜ length (now boxes) * length (now boxes) ≤ length (now scratch) ⌝ }
-    ensures { λ r. ⌜ (r ≡ verdictOf (loopFault (now (boxes .entry)) (now (rows .entry)))) × (now (scratch .exit) ≡ filled (length (now (boxes .entry))) (now (rows .entry)) (now (scratch .entry))) ⌝ }
+    ensures { λ r. ⌜ r ≡ verdictOf (loopFault (now (boxes .entry)) (now (rows .entry))) ⌝ }
+    ensures { λ _. ⌜ now (scratch .exit) ≡ filled (length (now (boxes .entry))) (now (rows .entry)) (now (scratch .entry)) ⌝ }
 {
     fill(boxes, rows, scratch);
     check_loops(boxes, rows, scratch)
@@ -151,7 +152,8 @@ pub fn check_scratch(boxes: &[u8], scratch: &[u8]) -> Verdict
 
 // Checks 1 to 7, 9 for the scratch, and 10, for a call that asks nothing else before 10.
 pub fn prepare(boxes: &[u8], rows: &[u16], arrows: &[u16], scratch: &mut [u8]) -> Verdict
-    ensures { λ r. ⌜ (r ≡ verdictOf (pictureFault (now (boxes .entry)) (now (rows .entry)) (now (arrows .entry)) (now (scratch .entry)))) × (now (scratch .exit) ≡ scratchAfter (earlyFault (now (boxes .entry)) (now (rows .entry)) (now (arrows .entry)) (now (scratch .entry))) (now (boxes .entry)) (now (rows .entry)) (now (scratch .entry))) ⌝ }
+    ensures { λ r. ⌜ r ≡ verdictOf (pictureFault (now (boxes .entry)) (now (rows .entry)) (now (arrows .entry)) (now (scratch .entry))) ⌝ }
+    ensures { λ _. ⌜ now (scratch .exit) ≡ scratchAfter (earlyFault (now (boxes .entry)) (now (rows .entry)) (now (arrows .entry)) (now (scratch .entry))) (now (boxes .entry)) (now (rows .entry)) (now (scratch .entry)) ⌝ }
 {
     let tables = tables::check(boxes, rows, arrows);
     if let Verdict::Refused(r) = tables {

@@ -352,7 +352,8 @@ fn is_unmarked(boxes: &[u8], rows: &[u16], side: u8, marks: &[u8], b: usize) -> 
 // Writes the atomic boxes of the side, by the marks of the outer boxes, and answers how many.
 fn gather(boxes: &[u8], rows: &[u16], side: u8, marks: &[u8], out: &mut [u16]) -> usize
     requires { ⌜ Marks (outer (now rows)) (now marks) × (length (now boxes) ≤ 256) × (256 ≤ length (now marks)) × (256 ≤ length (now out)) ⌝ }
-    ensures { λ r. ⌜ (r ≡ length (atoms (now (boxes .entry)) (now (rows .entry)) side)) × (now (out .exit) ≡ written (atoms (now (boxes .entry)) (now (rows .entry)) side) (now (out .entry))) ⌝ }
+    ensures { λ r. ⌜ r ≡ length (atoms (now (boxes .entry)) (now (rows .entry)) side) ⌝ }
+    ensures { λ _. ⌜ now (out .exit) ≡ written (atoms (now (boxes .entry)) (now (rows .entry)) side) (now (out .entry)) ⌝ }
 {
     let mut count = 0;
     for b in 0..boxes.len() {
@@ -367,7 +368,8 @@ fn gather(boxes: &[u8], rows: &[u16], side: u8, marks: &[u8], out: &mut [u16]) -
 // Writes the atomic boxes of a side, by rising number, and answers how many. Costs a step a row and a step a box.
 pub fn atoms_of(boxes: &[u8], rows: &[u16], side: u8, out: &mut [u16]) -> usize
     requires { ⌜ SoundRows (now boxes) (now rows) × (256 ≤ length (now out)) ⌝ }
-    ensures { λ r. ⌜ (r ≡ length (atoms (now (boxes .entry)) (now (rows .entry)) side)) × (now (out .exit) ≡ written (atoms (now (boxes .entry)) (now (rows .entry)) side) (now (out .entry))) ⌝ }
+    ensures { λ r. ⌜ r ≡ length (atoms (now (boxes .entry)) (now (rows .entry)) side) ⌝ }
+    ensures { λ _. ⌜ now (out .exit) ≡ written (atoms (now (boxes .entry)) (now (rows .entry)) side) (now (out .entry)) ⌝ }
 {
     let mut marks = zero_bytes();
     mark_outer(rows, &mut marks);

@@ -48,13 +48,17 @@ settle-sets-requires c κs = (c .before .before .before .before .before .before 
 
 returns : tie.Need-returns
 unfolding answerAt
-returns c = let start = c .before .before .before .before .before .before .before .before .before .before .before .before in
+returns c =
+    let at-share2 = c .before .before .before in
+    let at-share = at-share2 .before in
+    let at-wide = at-share .before in
+    let start = at-wide .before .before .before .before .before .before .before in
     let a = start .args in
     rw (
       c .settle-sets .ensures,
-      c .before .before .before .before .share .ensures,
-      c .before .before .before .share2 .ensures,
-      answer-is (start .pre .0) (a .mode) _ _ (placed start .0) (placed start .1) _ _ (of-positive (start .pre .0) _ _ (c .before .before .before .before .before .wide .ensures) (start .pre .1)) (of-negative (start .pre .0) _ _ (c .before .before .before .before .before .wide .ensures) (start .pre .1)),
+      at-share .share .ensures,
+      at-share2 .share2 .ensures,
+      answer-is (start .pre .0) (a .mode) _ _ (placed start .0) (placed start .1) _ _ (of-positive (start .pre .0) _ _ (at-wide .wide .ensures) (start .pre .1)) (of-negative (start .pre .0) _ _ (at-wide .wide .ensures) (start .pre .1)),
       user-read (a .boxes .now) (a .rows .now) (a .users .now) (a .files .now) (start .pre .0 .users-are) (start .pre .0 .files-are) (a .p),
       file-read (a .boxes .now) (a .rows .now) (a .users .now) (a .files .now) (start .pre .0 .users-are) (start .pre .0 .files-are) (a .p),
     )

@@ -17,7 +17,12 @@ slice-aggregate-first-mode-2 : tie.Need-slice-aggregate-first-mode-2
 slice-aggregate-first-mode-2 c = files-length (c .before .before .before .before .before .before .before .before .before .before .before .before .before .before .before .before .pre .0) (c .before .before .before .before .before .tabulate .ensures)
 
 first-mode-requires : tie.Need-first-mode-requires
-first-mode-requires c κs = let p = c .before .before .before .before .before .before .before .before .before .before .before .before .before .before .before .before .before .pre in made (p .0) (c .before .before .before .before .before .before .tabulate .ensures) (p .1) (c .before .before .before .before .before .before .before .before .before .before .no-words .ensures)
+first-mode-requires c κs =
+    let at-tabulate = c .before .before .before .before .before .before in
+    let at-no-words = at-tabulate .before .before .before .before in
+    let start = at-no-words .before .before .before .before .before .before .before in
+    let p = start .pre in
+    made (p .0) (at-tabulate .tabulate .ensures) (p .1) (at-no-words .no-words .ensures)
 
 pub check-modes-spec : {M : Type 1} → statement M
 check-modes-spec =

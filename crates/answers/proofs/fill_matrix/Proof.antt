@@ -17,7 +17,12 @@ slice-aggregate-fill-pairs-2 : tie.Need-slice-aggregate-fill-pairs-2
 slice-aggregate-fill-pairs-2 c = files-length (c .before .before .before .before .before .before .before .before .before .before .before .before .before .before .before .before .before .before .pre .0) (c .before .before .before .before .before .tabulate .ensures)
 
 fill-pairs-requires : tie.Need-fill-pairs-requires
-fill-pairs-requires c κs = let p = c .before .before .before .before .before .before .before .before .before .before .before .before .before .before .before .before .before .before .before .before .before .pre in (made (p .0) (c .before .before .before .before .before .before .before .before .tabulate .ensures) (p .1) (c .before .before .before .before .before .before .before .before .before .before .before .before .no-words .ensures), p .3, p .4, p .5)
+fill-pairs-requires c κs =
+    let at-tabulate = c .before .before .before .before .before .before .before .before in
+    let at-no-words = at-tabulate .before .before .before .before in
+    let start = at-no-words .before .before .before .before .before .before .before .before .before in
+    let p = start .pre in
+    (made (p .0) (at-tabulate .tabulate .ensures) (p .1) (at-no-words .no-words .ensures), p .3, p .4, p .5)
 
 pub fill-matrix-spec : {M : Type 1} → statement M
 fill-matrix-spec =

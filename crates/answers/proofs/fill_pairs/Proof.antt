@@ -50,7 +50,11 @@ mul-numbers : tie.Need-mul-numbers Inv-loop μ-loop
 mul-numbers c = omega (arith, counted (c .before .before .before .before .before .before .before .before .before .before .before .before .before), c .before .before .before .loop-test .taken)
 
 slice-write-numbers : tie.Need-slice-write-numbers Inv-loop μ-loop
-slice-write-numbers c = omega (arith, numbers-long (c .before .before .before .before), counted (c .before .before .before .before .before .before .before .before .before .before .before .before .before), c .before .before .before .before .before .before .before .before .before .before .before .before .before .pre .3, c .before .before .before .loop-test .taken)
+slice-write-numbers c =
+    let in-loop = c .before .before .before in
+    let at-loop = in-loop .before in
+    let start = at-loop .before .before .before .before .before .before .before .before .before in
+    omega (arith, numbers-long at-loop, counted start, start .pre .3, in-loop .loop-test .taken)
 
 add-p : tie.Need-add-p Inv-loop μ-loop
 add-p c = omega (arith, counted (c .before .before .before .before .before .before .before .before .before .before .before .before .before), c .before .before .before .loop-test .taken)

@@ -58,9 +58,13 @@ loop-less : tie.Need-loop-less Inv-loop μ-loop
 loop-less c = omega (arith, counted (c .before .before .before .before .before .before .before .before .before .before .before), c .before .before .before .loop-test .taken)
 
 loop-again : tie.Need-loop-again Inv-loop μ-loop
-loop-again c = let a = c .before .before .before .before .before .before .before .before .before .before .before .args in
-    let l = c .before .before .before .before .loop in (
-      omega (arith, counted (c .before .before .before .before .before .before .before .before .before .before .before), c .before .before .before .loop-test .taken),
+loop-again c =
+    let in-loop = c .before .before .before in
+    let at-loop = in-loop .before in
+    let start = at-loop .before .before .before .before .before .before .before in
+    let a = start .args in
+    let l = at-loop .loop in (
+      omega (arith, counted start, in-loop .loop-test .taken),
       first-more (unclearAt (a .boxes .now) (a .rows .now) (a .arrows .now) (a .mode)) (l .p) (l .inv .1) (unclear-none (a .boxes .now) (a .rows .now) (a .arrows .now) (a .mode) (l .p) (seen (c .before) ∙ c .if1 .left)),
     )
 

@@ -20,16 +20,23 @@ tabled : (c : tie.After-enum-told) → let a = c .before .before .before .before
 tabled c = sym (c .before .before .check .ensures) ∙ c .enum-told .given .1
 
 rest-is : (c : tie.After-or-else3) → let a = c .before .before .before .before .before .before .before .before .before .before .before .before .before .before .before .before .before .before .args in verdictOf (rest (a .boxes .now) (a .rows .now) (a .arrows .now) (a .scratch .now) (a .mode) (a .bytes .now) (a .numbers .now)) ≡ c .or-else3 .result
-rest-is c = let a = c .before .before .before .before .before .before .before .before .before .before .before .before .before .before .before .before .before .before .args in
+rest-is c =
+    let at-check-room = c .before .before .before in
+    let at-or-else = at-check-room .before in
+    let at-check-scratch = at-or-else .before in
+    let at-check-mode = at-check-scratch .before .before in
+    let at-pair-count = at-check-mode .before in
+    let start = at-pair-count .before .before .before .before .before .before .before .before .before .before in
+    let a = start .args in
     sym (rw (
       c .or-else3 .ensures,
       c .before .check-room2 .ensures,
       c .before .before .or-else2 .ensures,
-      c .before .before .before .check-room .ensures,
-      c .before .before .before .before .or-else .ensures,
-      c .before .before .before .before .before .check-scratch .ensures,
-      c .before .before .before .before .before .before .before .check-mode .ensures,
-      c .before .before .before .before .before .before .before .before .pair-count .ensures,
+      at-check-room .check-room .ensures,
+      at-or-else .or-else .ensures,
+      at-check-scratch .check-scratch .ensures,
+      at-check-mode .check-mode .ensures,
+      at-pair-count .pair-count .ensures,
     ) (chained (modeFault (a .mode)) (scratchFault (length (a .boxes .now)) (a .scratch .now)) (roomFault 1 (length (a .bytes .now)) (pairCount (a .boxes .now) (a .rows .now))) (roomFault 2 (length (a .numbers .now)) (pairCount (a .boxes .now) (a .rows .now)))))
 
 rest-passed : (c : tie.After-enum-told2) → let a = c .before .before .before .before .before .before .before .before .before .before .before .before .before .before .before .before .before .before .before .before .args in verdictOf (rest (a .boxes .now) (a .rows .now) (a .arrows .now) (a .scratch .now) (a .mode) (a .bytes .now) (a .numbers .now)) ≡ Passed
@@ -56,20 +63,36 @@ contain-requires c κs = let a = c .before .before .before .before .before .befo
     (ready (c .before) .rows-sound, scratch-room (length (a .boxes .now)) (a .scratch .now) (rest-rooms (a .boxes .now) (a .rows .now) (a .arrows .now) (a .scratch .now) (a .mode) (a .bytes .now) (a .numbers .now) (passed _ (rest-passed (c .before))) .0))
 
 returns-3 : tie.Need-returns-3
-returns-3 c = let a = c .before .before .before .before .before .before .before .before .before .before .before .before .before .before .before .before .before .before .before .before .before .before .before .before .before .before .before .args in
-    let z = matrix-loops (a .boxes .now) (a .rows .now) (a .arrows .now) (a .scratch .now) (a .mode) (a .bytes .now) (a .numbers .now) (tabled (c .before .before .before .before .before .before .before .before .before .before .before .before .before .before .before .before .before .before)) (rest-passed (c .before .before .before .before .before .before .before)) _ (sym (c .before .before .before .before .before .contain .ensures .0) ∙ c .before .loops .given .1) in
-    (z .0, c .before .before .before .before .before .contain .ensures .1 ∙ z .1, z .2, z .3)
+returns-3 c =
+    let at-contain = c .before .before .before .before .before in
+    let at-enum-told2 = at-contain .before .before in
+    let at-enum-told = at-enum-told2 .before .before .before .before .before .before .before .before .before .before .before in
+    let start = at-enum-told .before .before .before .before .before .before .before .before .before in
+    let a = start .args in
+    let z = matrix-loops (a .boxes .now) (a .rows .now) (a .arrows .now) (a .scratch .now) (a .mode) (a .bytes .now) (a .numbers .now) (tabled at-enum-told) (rest-passed at-enum-told2) _ (sym (at-contain .contain .ensures .0) ∙ c .before .loops .given .1) in
+    (z .0, (at-contain .contain .ensures .1 ∙ z .1 .0, z .1 .1))
 
 fill-matrix-requires : tie.Need-fill-matrix-requires
-fill-matrix-requires c κs = let a = c .before .before .before .before .before .before .before .before .before .before .before .before .before .before .before .before .before .before .before .before .before .before .before .before .before .before .before .before .before .args in
-    let r = ready (c .before .before .before .before .before .before .before .before .before) in
-    let rooms = rest-rooms (a .boxes .now) (a .rows .now) (a .arrows .now) (a .scratch .now) (a .mode) (a .bytes .now) (a .numbers .now) (passed _ (rest-passed (c .before .before .before .before .before .before .before .before .before))) in
-    (r .rows-sound, r .arrows-sound, rw (c .before .before .before .before .before .before .before .contain .ensures .1) (r .says), rooms .3, rooms .1, rooms .2)
+fill-matrix-requires c κs =
+    let at-contain = c .before .before .before .before .before .before .before in
+    let at-enum-told2 = at-contain .before .before in
+    let start = at-enum-told2 .before .before .before .before .before .before .before .before .before .before .before .before .before .before .before .before .before .before .before .before in
+    let a = start .args in
+    let r = ready at-enum-told2 in
+    let rooms = rest-rooms (a .boxes .now) (a .rows .now) (a .arrows .now) (a .scratch .now) (a .mode) (a .bytes .now) (a .numbers .now) (passed _ (rest-passed at-enum-told2)) in
+    (r .rows-sound, r .arrows-sound, rw (at-contain .contain .ensures .1) (r .says), rooms .3, rooms .1, rooms .2)
 
 returns-4 : tie.Need-returns-4
-returns-4 c = let a = c .before .before .before .before .before .before .before .before .before .before .before .before .before .before .before .before .before .before .before .before .before .before .before .before .before .before .before .before .before .before .before .before .before .before .args in
-    let z = matrix-filled (a .boxes .now) (a .rows .now) (a .arrows .now) (a .scratch .now) (a .mode) (a .bytes .now) (a .numbers .now) (tabled (c .before .before .before .before .before .before .before .before .before .before .before .before .before .before .before .before .before .before .before .before .before .before .before .before .before)) (rest-passed (c .before .before .before .before .before .before .before .before .before .before .before .before .before .before)) (sym (c .before .before .before .before .before .before .before .before .before .before .before .before .contain .ensures .0) ∙ c .before .before .before .before .before .before .before .before .enum-told3 .given .1) in
-    (z .0, c .before .before .before .before .before .before .before .before .before .before .before .before .contain .ensures .1 ∙ z .1, c .before .before .before .before .fill-matrix .ensures .0 ∙ z .2, c .before .before .before .before .fill-matrix .ensures .1 ∙ z .3)
+returns-4 c =
+    let at-fill-matrix = c .before .before .before .before in
+    let at-enum-told3 = at-fill-matrix .before .before .before .before in
+    let at-contain = at-enum-told3 .before .before .before .before in
+    let at-enum-told2 = at-contain .before .before in
+    let at-enum-told = at-enum-told2 .before .before .before .before .before .before .before .before .before .before .before in
+    let start = at-enum-told .before .before .before .before .before .before .before .before .before in
+    let a = start .args in
+    let z = matrix-filled (a .boxes .now) (a .rows .now) (a .arrows .now) (a .scratch .now) (a .mode) (a .bytes .now) (a .numbers .now) (tabled at-enum-told) (rest-passed at-enum-told2) (sym (at-contain .contain .ensures .0) ∙ at-enum-told3 .enum-told3 .given .1) in
+    (z .0, (at-contain .contain .ensures .1 ∙ z .1 .0, (at-fill-matrix .fill-matrix .ensures .0 ∙ z .1 .1 .0, at-fill-matrix .fill-matrix .ensures .1 ∙ z .1 .1 .1)))
 
 pub matrix-spec : {M : Type 1} → statement M
 matrix-spec =

@@ -57,23 +57,38 @@ check-asked-requires : tie.Need-check-asked-requires
 check-asked-requires c κs = ready (c .before .before .before .before) .rows-sound .whole
 
 returns-3 : tie.Need-returns-3
-returns-3 c = let a = c .before .before .before .before .before .before .before .before .before .before .before .before .before .before .before .before .before .before .before .before .before .before .args in
-    let z = entry-late (a .boxes .now) (a .rows .now) (a .arrows .now) (a .scratch .now) (a .mode) (a .u) (a .f) (tabled (c .before .before .before .before .before .before .before .before .before .before .before .before .before .before .before)) (early-passed (c .before .before .before .before .before .before .before .before .before)) _ (late-is (c .before .before .before) ∙ c .before .late .given .1) in
-    (z .0, c .before .before .before .before .before .before .before .contain .ensures .1 ∙ z .1)
+returns-3 c =
+    let at-or-else2 = c .before .before .before in
+    let at-contain = at-or-else2 .before .before .before .before in
+    let at-enum-told2 = at-contain .before .before in
+    let at-enum-told = at-enum-told2 .before .before .before .before .before .before in
+    let start = at-enum-told .before .before .before .before .before .before .before in
+    let a = start .args in
+    let z = entry-late (a .boxes .now) (a .rows .now) (a .arrows .now) (a .scratch .now) (a .mode) (a .u) (a .f) (tabled at-enum-told) (early-passed at-enum-told2) _ (late-is at-or-else2 ∙ c .before .late .given .1) in
+    (z .0, at-contain .contain .ensures .1 ∙ z .1)
 
 late-passed : (c : tie.After-enum-told3) → let a = c .before .before .before .before .before .before .before .before .before .before .before .before .before .before .before .before .before .before .before .before .before .args in verdictOf (late (a .boxes .now) (a .rows .now) (a .arrows .now) (a .scratch .now) (a .mode) (a .u) (a .f)) ≡ Passed
 late-passed c = late-is (c .before .before) ∙ c .enum-told3 .given .1
 
 answer-pair-requires : tie.Need-answer-pair-requires
-answer-pair-requires c κs = let a = c .before .before .before .before .before .before .before .before .before .before .before .before .before .before .before .before .before .before .before .before .before .before .args in
-    let r = ready (c .before .before .before .before .before .before .before .before .before) in
+answer-pair-requires c κs =
+    let at-contain = c .before .before .before .before .before .before .before in
+    let at-enum-told2 = at-contain .before .before in
+    let start = at-enum-told2 .before .before .before .before .before .before .before .before .before .before .before .before .before in
+    let a = start .args in
+    let r = ready at-enum-told2 in
     let there = asked-there (a .boxes .now) (a .rows .now) (a .u) (a .f) (both-none (loopFault (a .boxes .now) (a .rows .now)) (askedFault (a .boxes .now) (a .rows .now) (a .u) (a .f)) (passed _ (late-passed (c .before))) .1) in
-    (rw (c .before .before .before .before .before .before .before .contain .ensures .1) (r .says), sound-within (a .boxes .now) (a .arrows .now) (r .arrows-sound), r .arrows-sound .few-arrows, there .0, there .1)
+    (rw (at-contain .contain .ensures .1) (r .says), sound-within (a .boxes .now) (a .arrows .now) (r .arrows-sound), r .arrows-sound .few-arrows, there .0, there .1)
 
 returns-4 : tie.Need-returns-4
-returns-4 c = let a = c .before .before .before .before .before .before .before .before .before .before .before .before .before .before .before .before .before .before .before .before .before .before .before .args in
-    let z = entry-answered (a .boxes .now) (a .rows .now) (a .arrows .now) (a .scratch .now) (a .mode) (a .u) (a .f) (tabled (c .before .before .before .before .before .before .before .before .before .before .before .before .before .before .before .before)) (early-passed (c .before .before .before .before .before .before .before .before .before .before)) (late-passed (c .before .before)) in
-    (ap Answered (c .answer-pair .ensures) ∙ z .0, c .before .before .before .before .before .before .before .before .contain .ensures .1 ∙ z .1)
+returns-4 c =
+    let at-contain = c .before .before .before .before .before .before .before .before in
+    let at-enum-told2 = at-contain .before .before in
+    let at-enum-told = at-enum-told2 .before .before .before .before .before .before in
+    let start = at-enum-told .before .before .before .before .before .before .before in
+    let a = start .args in
+    let z = entry-answered (a .boxes .now) (a .rows .now) (a .arrows .now) (a .scratch .now) (a .mode) (a .u) (a .f) (tabled at-enum-told) (early-passed at-enum-told2) (late-passed (c .before .before)) in
+    (ap Answered (c .answer-pair .ensures) ∙ z .0, at-contain .contain .ensures .1 ∙ z .1)
 
 pub one-entry-spec : {M : Type 1} → statement M
 one-entry-spec =

@@ -45,9 +45,14 @@ loop-less : tie.Need-loop-less Inv-loop μ-loop
 loop-less c = omega (arith, ltb-true)
 
 loop-again : tie.Need-loop-again Inv-loop μ-loop
-loop-again c = let a = c .before .before .before .before .before .before .before .before .before .before .before .before .before .before .args in
-    let l = c .before .before .before .before .before .before .before .before .loop in
-    let new = struck-second (a .rows .now) (a .arrows .now) (a .ps .now) (a .ns .now) (l .i) (l .j) (c .before .before .before .before .before .before .before .loop-test .taken) (ltb-true _ _ (c .before .before .before .before .before .before .if1 .taken))
+loop-again c =
+    let at-if1 = c .before .before .before .before .before .before in
+    let in-loop = at-if1 .before in
+    let at-loop = in-loop .before in
+    let start = at-loop .before .before .before .before .before .before in
+    let a = start .args in
+    let l = at-loop .loop in
+    let new = struck-second (a .rows .now) (a .arrows .now) (a .ps .now) (a .ns .now) (l .i) (l .j) (in-loop .loop-test .taken) (ltb-true _ _ (at-if1 .if1 .taken))
     (sym (compared (c .before)) ∙ c .if2 .taken) (l .inv .3) in
     (l .inv .0, omega (arith, ltb-true), l .inv .2, new)
 
@@ -55,9 +60,14 @@ loop-less-2 : tie.Need-loop-less-2 Inv-loop μ-loop
 loop-less-2 c = omega (arith, ltb-true)
 
 loop-again-2 : tie.Need-loop-again-2 Inv-loop μ-loop
-loop-again-2 c = let a = c .before .before .before .before .before .before .before .before .before .before .before .before .before .before .args in
-    let l = c .before .before .before .before .before .before .before .before .loop in
-    let new = struck-first (a .rows .now) (a .arrows .now) (a .ps .now) (a .ns .now) (l .i) (l .j) (c .before .before .before .before .before .before .before .loop-test .taken) (ltb-true _ _ (c .before .before .before .before .before .before .if1 .taken))
+loop-again-2 c =
+    let at-if1 = c .before .before .before .before .before .before in
+    let in-loop = at-if1 .before in
+    let at-loop = in-loop .before in
+    let start = at-loop .before .before .before .before .before .before in
+    let a = start .args in
+    let l = at-loop .loop in
+    let new = struck-first (a .rows .now) (a .arrows .now) (a .ps .now) (a .ns .now) (l .i) (l .j) (in-loop .loop-test .taken) (ltb-true _ _ (at-if1 .if1 .taken))
     (sym (compared (c .before)) ∙ c .if2 .left) (l .inv .2) in
     (omega arith, l .inv .1, new, l .inv .3)
 

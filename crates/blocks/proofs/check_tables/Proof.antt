@@ -20,7 +20,13 @@ mul-check-room-2 c = omega (arith, counts-passed _ _ _ (passed _ (sym (c .before
 
 returns-2 : tie.Need-returns-2
 unfolding tablesFault
-returns-2 c = rw (past _ _ (passed _ (sym (c .before .before .before .before .before .before .before .before .before .check-counts .ensures) ∙ c .before .before .before .before .before .before .before .enum-told .given .1)), c .or-else2 .ensures, c .before .check-room3 .ensures, c .before .before .before .or-else .ensures, c .before .before .before .before .check-room2 .ensures, c .before .before .before .before .before .before .check-room .ensures)
+returns-2 c =
+    let at-or-else = c .before .before .before in
+    let at-check-room2 = at-or-else .before in
+    let at-check-room = at-check-room2 .before .before in
+    let at-enum-told = at-check-room .before in
+    let at-check-counts = at-enum-told .before .before in
+    rw (past _ _ (passed _ (sym (at-check-counts .check-counts .ensures) ∙ at-enum-told .enum-told .given .1)), c .or-else2 .ensures, c .before .check-room3 .ensures, at-or-else .or-else .ensures, at-check-room2 .check-room2 .ensures, at-check-room .check-room .ensures)
     (either-three _ _ _)
 
 pub check-tables-spec : {M : Type 1} → statement M

@@ -25,16 +25,24 @@ with-requires c κs = omega (arith, c .before .before .before .before .before .b
 
 returns : tie.Need-returns
 unfolding boxesSaid containmentsSaid arrowsSaid
-returns c = let head = c .before .before .before .before .before .before .before .before .before .before .before .before .before .before .before .before .of .ensures in (
-  rw (c .with .ensures, head),
-  (
-    rw (c .before .before .before .before .before .before .before .before .before .before .before .before .before .put-boxes .ensures, c .before .before .before .before .before .before .before .before .before .before .before .before .before .before .before .count-of .ensures, head),
-    (
-      rw (c .before .before .before .before .before .before .before .before .put-containments .ensures, c .before .before .before .before .before .before .before .before .before .before .count-of2 .ensures, head),
-      rw (c .before .before .before .put-arrows .ensures, c .before .before .before .before .before .count-of3 .ensures, head),
-    ),
-  ),
-)
+returns c =
+    let at-put-arrows = c .before .before .before in
+    let at-count-of3 = at-put-arrows .before .before in
+    let at-put-containments = at-count-of3 .before .before .before in
+    let at-count-of2 = at-put-containments .before .before in
+    let at-put-boxes = at-count-of2 .before .before .before in
+    let at-count-of = at-put-boxes .before .before in
+    let at-of = at-count-of .before in
+    let head = at-of .of .ensures in (
+      rw (c .with .ensures, head),
+      (
+        rw (at-put-boxes .put-boxes .ensures, at-count-of .count-of .ensures, head),
+        (
+          rw (at-put-containments .put-containments .ensures, at-count-of2 .count-of2 .ensures, head),
+          rw (at-put-arrows .put-arrows .ensures, at-count-of3 .count-of3 .ensures, head),
+        ),
+      ),
+    )
 
 pub put-block-spec : {M : Type 1} → statement M
 put-block-spec =

@@ -13,7 +13,9 @@ use Rattle.blocks.proofs.read.Tie as tie
 whole : (c : tie.After-enum-told) → lengthFault (length (c .before .before .before .before .before .before .before .args .file .now)) ≡ none
 whole c = passed _ (sym (c .before .before .check-length .ensures) ∙ c .enum-told .given .1)
 
-scanned : (c : tie.After-blocks2) → (blocksFault (blockAt (c .before .before .before .before .before .before .before .before .before .before .args .file .now)) (blockCount (c .before .before .before .before .before .before .before .before .before .before .args .file .now)) ≡ none) × (countsOf (c .before .before .before .before .before .before .before .before .before .before .args .file .now) ≡ c .blocks2 .given .0 .0)
+scanned : (c : tie.After-blocks2) →
+    let start = c .before .before .before .before .before .before .before .before .before .before in
+    (blocksFault (blockAt (start .args .file .now)) (blockCount (start .args .file .now)) ≡ none) × (countsOf (start .args .file .now) ≡ c .blocks2 .given .0 .0)
 scanned c =
     let file = c .before .before .before .before .before .before .before .before .before .before .args .file .now in
     answer-tables (blocksFault (blockAt file) (blockCount file)) (countsOf file) (c .blocks2 .given .0 .0) (sym (c .before .before .check-blocks .ensures) ∙ c .blocks2 .given .1)
@@ -33,21 +35,38 @@ returns-2 c = let a = c .before .before .before .before .before .before .before 
     (by-blocks _ _ _ _ (whole (c .before .before .before)) (answer-refused _ _ _ (sym (c .before .before .check-blocks .ensures) ∙ c .enum-told2 .given .1))))
 
 returns-3 : tie.Need-returns-3
-returns-3 c = let a = c .before .before .before .before .before .before .before .before .before .before .before .before .before .before .before .args in
+returns-3 c =
+    let at-check-tables = c .before .before .before in
+    let at-blocks2 = at-check-tables .before .before in
+    let at-enum-told = at-blocks2 .before .before .before in
+    let start = at-enum-told .before .before .before .before .before .before .before in
+    let a = start .args in
     read-refused (a .file .now) (a .boxes .now) (a .rows .now) (a .arrows .now)
-    (by-tables _ _ _ _ (whole (c .before .before .before .before .before .before .before .before)) (scanned (c .before .before .before .before .before) .0)
-    ∙ rw (scanned (c .before .before .before .before .before) .1) (refused _ _ (sym (c .before .before .before .check-tables .ensures) ∙ c .before .room .given .1)))
+    (by-tables _ _ _ _ (whole at-enum-told) (scanned at-blocks2 .0)
+    ∙ rw (scanned at-blocks2 .1) (refused _ _ (sym (at-check-tables .check-tables .ensures) ∙ c .before .room .given .1)))
 
 write-blocks-requires : tie.Need-write-blocks-requires
-write-blocks-requires c κs = fitting _ _ _ _ (whole (c .before .before .before .before .before .before .before .before .before .before)) (scanned (c .before .before .before .before .before .before .before) .0)
-    (rw (scanned (c .before .before .before .before .before .before .before) .1) (passed _ (sym (c .before .before .before .before .before .check-tables .ensures) ∙ c .before .before .before .enum-told3 .given .1)))
+write-blocks-requires c κs =
+    let at-enum-told3 = c .before .before .before in
+    let at-check-tables = at-enum-told3 .before .before in
+    let at-blocks2 = at-check-tables .before .before in
+    let at-enum-told = at-blocks2 .before .before .before in
+    fitting _ _ _ _ (whole at-enum-told) (scanned at-blocks2 .0)
+    (rw (scanned at-blocks2 .1) (passed _ (sym (at-check-tables .check-tables .ensures) ∙ at-enum-told3 .enum-told3 .given .1)))
 
 returns-4 : tie.Need-returns-4
-returns-4 c = let a = c .before .before .before .before .before .before .before .before .before .before .before .before .before .before .before .before .before .before .before .before .before .before .before .before .args in
-    let w = c .before .before .before .before .before .before .write-blocks .ensures in
-    let s = scanned (c .before .before .before .before .before .before .before .before .before .before .before .before .before .before) in
+returns-4 c =
+    let at-write-blocks = c .before .before .before .before .before .before in
+    let at-enum-told3 = at-write-blocks .before .before .before .before in
+    let at-check-tables = at-enum-told3 .before .before in
+    let at-blocks2 = at-check-tables .before .before in
+    let at-enum-told = at-blocks2 .before .before .before in
+    let start = at-enum-told .before .before .before .before .before .before .before in
+    let a = start .args in
+    let w = at-write-blocks .write-blocks .ensures in
+    let s = scanned at-blocks2 in
     read-done (a .file .now) (a .boxes .now) (a .rows .now) (a .arrows .now) _ _ _ _
-    (by-tables _ _ _ _ (whole (c .before .before .before .before .before .before .before .before .before .before .before .before .before .before .before .before .before)) (s .0) ∙ rw (s .1) (passed _ (sym (c .before .before .before .before .before .before .before .before .before .before .before .before .check-tables .ensures) ∙ c .before .before .before .before .before .before .before .before .before .before .enum-told3 .given .1)))
+    (by-tables _ _ _ _ (whole at-enum-told) (s .0) ∙ rw (s .1) (passed _ (sym (at-check-tables .check-tables .ensures) ∙ at-enum-told3 .enum-told3 .given .1)))
     (s .1) (w .0) (w .1 .0) (w .1 .1)
 
 pub read-spec : {M : Type 1} → statement M

@@ -37,9 +37,12 @@ put-block-requires c κs = let l = c .before .before .before .before .loop in
 
 loop-again : tie.Need-loop-again Inv-loop μ-loop
 unfolding countsIn boxesIn containmentsIn arrowsIn
-loop-again c = let l = c .before .before .before .before .before .before .before .before .before .before .before .loop in
-    let p = c .before .before .before .before .before .before .put-block in
-    let s = c .before .before .before .before .before .before .before .before .before .before .before .before .before .before .before .before .before in
+loop-again c =
+    let at-put-block = c .before .before .before .before .before .before in
+    let at-loop = at-put-block .before .before .before .before .before in
+    let s = at-loop .before .before .before .before .before .before in
+    let l = at-loop .loop in
+    let p = at-put-block .put-block in
     let file = s .args .file .now in
     let n = blockCount file in
     let h : l .block < n = omega arith in (

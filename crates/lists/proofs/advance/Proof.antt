@@ -25,20 +25,29 @@ loop-holds : tie.Need-loop-holds Inv-loop μ-loop
 loop-holds c = rw (c .at .ensures) (omega (arith, c .before .if1 .left), refl, c .before .before .before .before .before .pre .3)
 
 stops-at-requires : tie.Need-stops-at-requires Inv-loop μ-loop
-stops-at-requires c κs = (c .before .before .before .before .before .before .before .before .before .pre .0, c .before .before .before .before .before .before .before .before .before .pre .1, (c .if2 .taken, c .before .before .before .loop .inv .1), c .before .before .before .before .before .before .before .before .before .pre .2)
+stops-at-requires c κs =
+    let at-loop = c .before .before .before in
+    let start = at-loop .before .before .before .before .before .before in
+    (start .pre .0, start .pre .1, (c .if2 .taken, at-loop .loop .inv .1), start .pre .2)
 
 returns-2 : tie.Need-returns-2 Inv-loop μ-loop
 returns-2 c = record { none-before = c .before .before .before .before .before .loop .inv .2; holds = λ l. true-T _ (sym (c .before .stops-at .ensures) ∙ c .if3 .taken) }
 
 ahead-requires : tie.Need-ahead-requires Inv-loop μ-loop
-ahead-requires c κs = (c .before .before .before .before .before .before .before .before .before .before .before .pre .0, c .before .before .before .before .before .before .before .before .before .before .before .pre .1, (c .before .before .if2 .taken, c .before .before .before .before .before .loop .inv .1))
+ahead-requires c κs =
+    let at-loop = c .before .before .before .before .before in
+    let start = at-loop .before .before .before .before .before .before in
+    (start .pre .0, start .pre .1, (c .before .before .if2 .taken, at-loop .loop .inv .1))
 
 loop-less : tie.Need-loop-less Inv-loop μ-loop
 loop-less c = omega (arith, c .ahead .ensures .later, c .ahead .ensures .within)
 
 loop-again : tie.Need-loop-again Inv-loop μ-loop
-loop-again c = let h = c .ahead .ensures in
-    (h .within, h .cell, no-stop-ahead _ (c .before .before .before .before .before .before .before .before .before .before .before .before .args .work .now) (c .before .before .before .before .before .before .before .before .before .before .before .before .args .skip) (c .before .before .before .before .before .before .loop .at .place) (c .ahead .result .place) (c .before .before .before .before .before .before .loop .inv .2) (false-not _ (sym (c .before .before .stops-at .ensures) ∙ c .before .if3 .left)) (h .untouched))
+loop-again c =
+    let at-loop = c .before .before .before .before .before .before in
+    let start = at-loop .before .before .before .before .before .before in
+    let h = c .ahead .ensures in
+    (h .within, h .cell, no-stop-ahead _ (start .args .work .now) (start .args .skip) (at-loop .loop .at .place) (c .ahead .result .place) (at-loop .loop .inv .2) (false-not _ (sym (c .before .before .stops-at .ensures) ∙ c .before .if3 .left)) (h .untouched))
 
 returns-3 : tie.Need-returns-3 Inv-loop μ-loop
 returns-3 c = record { none-before = c .before .before .before .loop .inv .2; holds = λ l. absurd (omega (arith, c .if2 .left)) }

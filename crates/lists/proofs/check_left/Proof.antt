@@ -44,8 +44,11 @@ refuse-pair-requires c κs = (c .before .before .before .before .before .before 
 returns : tie.Need-returns Inv-loop μ-loop
 unfolding leftIn
 returns c =
+    let in-loop = c .before .before .before in
+    let at-loop = in-loop .before in
+    let start = at-loop .before .before .before .before .before .before in
     c .refuse-pair .ensures
-    ∙ sym (ap verdictOf (search-here _ _ (pairCount (c .before .before .before .before .before .before .before .before .before .before .args .boxes .now) (c .before .before .before .before .before .before .before .before .before .before .args .rows .now)) (c .before .before .before .before .loop .p) (c .before .before .before .before .loop .inv .1) (eq-eqb _ 1 (c .before .if1 .taken)) (omega (arith, counted (c .before .before .before .before .before .before .before .before .before .before), c .before .before .before .loop-test .taken))))
+    ∙ sym (ap verdictOf (search-here _ _ (pairCount (start .args .boxes .now) (start .args .rows .now)) (at-loop .loop .p) (at-loop .loop .inv .1) (eq-eqb _ 1 (c .before .if1 .taken)) (omega (arith, counted start, in-loop .loop-test .taken))))
 
 add-p : tie.Need-add-p Inv-loop μ-loop
 add-p c = omega (arith, counted (c .before .before .before .before .before .before .before .before .before), c .before .before .loop-test .taken)

@@ -36,22 +36,36 @@ loop-holds : tie.Need-loop-holds Inv-loop μ-loop
 loop-holds c = let a = c .before .before .before .before .before .before .before .args in (filling-none (a .boxes .now) (a .rows .now) (a .arrows .now) (a .mode) (a .bytes .now), omega arith)
 
 answer-at-requires : tie.Need-answer-at-requires Inv-loop μ-loop
-answer-at-requires c κs = (c .before .before .before .before .before .before .before .before .before .pre .0, c .before .before .before .before .before .before .before .before .before .pre .1, omega (arith, counted (c .before .before .before .before .before .before .before .before .before), c .loop-test .taken))
+answer-at-requires c κs =
+    let start = c .before .before .before .before .before .before .before .before .before in
+    (start .pre .0, start .pre .1, omega (arith, counted start, c .loop-test .taken))
 
 refuse-pair-requires : tie.Need-refuse-pair-requires Inv-loop μ-loop
-refuse-pair-requires c κs = ((c .before .before .before .before .before .before .before .before .before .before .before .before .pre .0 .users-are, c .before .before .before .before .before .before .before .before .before .before .before .before .pre .0 .files-are), omega (arith, counted (c .before .before .before .before .before .before .before .before .before .before .before .before), c .before .before .before .loop-test .taken))
+refuse-pair-requires c κs =
+    let in-loop = c .before .before .before in
+    let start = in-loop .before .before .before .before .before .before .before .before .before in
+    ((start .pre .0 .users-are, start .pre .0 .files-are), omega (arith, counted start, in-loop .loop-test .taken))
 
 same-length : tie.Need-same-length Inv-loop μ-loop
 same-length c = kept (c .before .before .before .before .before)
 
 returns : tie.Need-returns Inv-loop μ-loop
-returns c = let a = c .before .before .before .before .before .before .before .before .before .before .before .before .before .args in
-    let i = c .before .before .before .before .before .loop in
-    let named = filling-unclear (a .boxes .now) (a .rows .now) (a .arrows .now) (a .mode) (a .bytes .now) (i .bytes) (i .p) (c .before .before .before .answer-at .result) (omega (arith, counted (c .before .before .before .before .before .before .before .before .before .before .before .before .before), c .before .before .before .before .loop-test .taken)) (c .before .before .before .answer-at .ensures) (sym (c .before .before .is-unclear .ensures) ∙ c .before .if1 .taken) (i .inv .0) in
+returns c =
+    let at-answer-at = c .before .before .before in
+    let in-loop = at-answer-at .before in
+    let at-loop = in-loop .before in
+    let start = at-loop .before .before .before .before .before .before .before .before in
+    let a = start .args in
+    let i = at-loop .loop in
+    let named = filling-unclear (a .boxes .now) (a .rows .now) (a .arrows .now) (a .mode) (a .bytes .now) (i .bytes) (i .p) (at-answer-at .answer-at .result) (omega (arith, counted start, in-loop .loop-test .taken)) (at-answer-at .answer-at .ensures) (sym (c .before .before .is-unclear .ensures) ∙ c .before .if1 .taken) (i .inv .0) in
     (c .refuse-pair .ensures ∙ sym (ap verdictOf named), λ e. absurd (some-none (passed (some _) (sym (c .refuse-pair .ensures) ∙ e))))
 
 slice-write-bytes : tie.Need-slice-write-bytes Inv-loop μ-loop
-slice-write-bytes c = omega (arith, counted (c .before .before .before .before .before .before .before .before .before .before .before .before .before), c .before .before .before .before .loop-test .taken, c .before .before .before .before .before .before .before .before .before .before .before .before .before .pre .2, kept (c .before .before .before .before .before))
+slice-write-bytes c =
+    let in-loop = c .before .before .before .before in
+    let at-loop = in-loop .before in
+    let start = at-loop .before .before .before .before .before .before .before .before in
+    omega (arith, counted start, in-loop .loop-test .taken, start .pre .2, kept at-loop)
 
 add-p : tie.Need-add-p Inv-loop μ-loop
 add-p c = omega (arith, counted (c .before .before .before .before .before .before .before .before .before .before .before .before .before), c .before .before .before .before .loop-test .taken)
@@ -60,10 +74,15 @@ loop-less : tie.Need-loop-less Inv-loop μ-loop
 loop-less c = omega (arith, counted (c .before .before .before .before .before .before .before .before .before .before .before .before .before), c .before .before .before .before .loop-test .taken)
 
 loop-again : tie.Need-loop-again Inv-loop μ-loop
-loop-again c = let a = c .before .before .before .before .before .before .before .before .before .before .before .before .before .args in
-    let i = c .before .before .before .before .before .loop in (
-      filling-next (a .boxes .now) (a .rows .now) (a .arrows .now) (a .mode) (a .bytes .now) (i .bytes) (i .p) (c .before .before .before .answer-at .result) (c .granted-byte .result) (omega (arith, counted (c .before .before .before .before .before .before .before .before .before .before .before .before .before), c .before .before .before .before .loop-test .taken, c .before .before .before .before .before .before .before .before .before .before .before .before .before .pre .2)) (c .before .before .before .answer-at .ensures) (sym (c .before .before .is-unclear .ensures) ∙ c .before .if1 .left) (c .granted-byte .ensures) (i .inv .0),
-      omega (arith, counted (c .before .before .before .before .before .before .before .before .before .before .before .before .before), c .before .before .before .before .loop-test .taken),
+loop-again c =
+    let at-answer-at = c .before .before .before in
+    let in-loop = at-answer-at .before in
+    let at-loop = in-loop .before in
+    let start = at-loop .before .before .before .before .before .before .before .before in
+    let a = start .args in
+    let i = at-loop .loop in (
+      filling-next (a .boxes .now) (a .rows .now) (a .arrows .now) (a .mode) (a .bytes .now) (i .bytes) (i .p) (at-answer-at .answer-at .result) (c .granted-byte .result) (omega (arith, counted start, in-loop .loop-test .taken, start .pre .2)) (at-answer-at .answer-at .ensures) (sym (c .before .before .is-unclear .ensures) ∙ c .before .if1 .left) (c .granted-byte .ensures) (i .inv .0),
+      omega (arith, counted start, in-loop .loop-test .taken),
     )
 
 same-length-2 : tie.Need-same-length-2 Inv-loop μ-loop

@@ -19,9 +19,17 @@ sound c = let a = c .before .before .before .before .before .before .before .bef
 
 -- the verdict of checks 8 and 9
 asked : (c : tie.After-or-else3) → let a = c .before .before .before .before .before .before .before .before .before .before .before .before .before .before .before .before .before .before .before .args in c .or-else3 .result ≡ verdictOf (rest (a .boxes .now) (a .rows .now) (a .arrows .now) (a .mode) (a .scratch .now) (a .out .now) (a .work .now))
-asked c = let a = c .before .before .before .before .before .before .before .before .before .before .before .before .before .before .before .before .before .before .before .args in
+asked c =
+    let at-check-room = c .before .before .before in
+    let at-or-else = at-check-room .before in
+    let at-check-scratch = at-or-else .before in
+    let at-check-mode = at-check-scratch .before .before in
+    let at-mode-count = at-check-mode .before in
+    let at-pair-count = at-mode-count .before in
+    let start = at-pair-count .before .before .before .before .before .before .before .before .before .before in
+    let a = start .args in
     c .or-else3 .ensures
-    ∙ rw (c .before .before .or-else2 .ensures, c .before .before .before .before .or-else .ensures, c .before .before .before .before .before .before .before .check-mode .ensures, c .before .before .before .before .before .check-scratch .ensures, c .before .before .before .check-room .ensures, c .before .before .before .before .before .before .before .before .mode-count .ensures, c .before .check-room2 .ensures, c .before .before .before .before .before .before .before .before .before .pair-count .ensures)
+    ∙ rw (c .before .before .or-else2 .ensures, at-or-else .or-else .ensures, at-check-mode .check-mode .ensures, at-check-scratch .check-scratch .ensures, at-check-room .check-room .ensures, at-mode-count .mode-count .ensures, c .before .check-room2 .ensures, at-pair-count .pair-count .ensures)
     (rest-is (a .boxes .now) (a .rows .now) (a .arrows .now) (a .mode) (a .scratch .now) (a .out .now) (a .work .now))
 
 -- checks 1 to 9 passed
@@ -45,25 +53,46 @@ check-scratch-requires c κs = let a = c .before .before .before .before .before
     sound-rows (a .boxes .now) (a .rows .now) (a .arrows .now) (sound (c .before .before .before .before)) .few-boxes
 
 returns-2 : tie.Need-returns-2
-returns-2 c = let a = c .before .before .before .before .before .before .before .before .before .before .before .before .before .before .before .before .before .before .before .before .before .before .args in
-    end-early (a .boxes .now) (a .rows .now) (a .arrows .now) (a .mode) (a .scratch .now) (a .out .now) (a .work .now) _ (early-rest (a .boxes .now) (a .rows .now) (a .arrows .now) (a .mode) (a .scratch .now) (a .out .now) (a .work .now) (sound (c .before .before .before .before .before .before .before .before .before .before .before .before .before)) ∙ refused (rest (a .boxes .now) (a .rows .now) (a .arrows .now) (a .mode) (a .scratch .now) (a .out .now) (a .work .now)) _ (sym (asked (c .before .before .before)) ∙ c .before .early .given .1))
+returns-2 c =
+    let at-or-else3 = c .before .before .before in
+    let at-enum-told = at-or-else3 .before .before .before .before .before .before .before .before .before .before in
+    let start = at-enum-told .before .before .before .before .before .before .before .before .before in
+    let a = start .args in
+    end-early (a .boxes .now) (a .rows .now) (a .arrows .now) (a .mode) (a .scratch .now) (a .out .now) (a .work .now) _ (early-rest (a .boxes .now) (a .rows .now) (a .arrows .now) (a .mode) (a .scratch .now) (a .out .now) (a .work .now) (sound at-enum-told) ∙ refused (rest (a .boxes .now) (a .rows .now) (a .arrows .now) (a .mode) (a .scratch .now) (a .out .now) (a .work .now)) _ (sym (asked at-or-else3) ∙ c .before .early .given .1))
 
 contain-requires : tie.Need-contain-requires
 contain-requires c κs = let a = c .before .before .before .before .before .before .before .before .before .before .before .before .before .before .before .before .before .before .before .before .before .before .args in
     (sound-rows (a .boxes .now) (a .rows .now) (a .arrows .now) (sound (c .before .before .before .before .before .before .before .before .before .before .before .before .before)), rooms (a .boxes .now) (a .rows .now) (a .arrows .now) (a .mode) (a .scratch .now) (a .out .now) (a .work .now) (early (c .before)) .scratch-room)
 
 returns-3 : tie.Need-returns-3
-returns-3 c = let a = c .before .before .before .before .before .before .before .before .before .before .before .before .before .before .before .before .before .before .before .before .before .before .before .before .before .before .before .before .args in
-    rw (c .before .before .before .before .before .contain .ensures .1) (end-loops (a .boxes .now) (a .rows .now) (a .arrows .now) (a .mode) (a .scratch .now) (a .out .now) (a .work .now) (early-rest (a .boxes .now) (a .rows .now) (a .arrows .now) (a .mode) (a .scratch .now) (a .out .now) (a .work .now) (sound (c .before .before .before .before .before .before .before .before .before .before .before .before .before .before .before .before .before .before .before)) ∙ early (c .before .before .before .before .before .before .before)) _ (refused (loopFault (a .boxes .now) (a .rows .now)) _ (sym (c .before .before .before .before .before .contain .ensures .0) ∙ c .before .loops .given .1)))
+returns-3 c =
+    let at-contain = c .before .before .before .before .before in
+    let at-enum-told2 = at-contain .before .before in
+    let at-enum-told = at-enum-told2 .before .before .before .before .before .before .before .before .before .before .before .before in
+    let start = at-enum-told .before .before .before .before .before .before .before .before .before in
+    let a = start .args in
+    rw (at-contain .contain .ensures .1) (end-loops (a .boxes .now) (a .rows .now) (a .arrows .now) (a .mode) (a .scratch .now) (a .out .now) (a .work .now) (early-rest (a .boxes .now) (a .rows .now) (a .arrows .now) (a .mode) (a .scratch .now) (a .out .now) (a .work .now) (sound at-enum-told) ∙ early at-enum-told2) _ (refused (loopFault (a .boxes .now) (a .rows .now)) _ (sym (at-contain .contain .ensures .0) ∙ c .before .loops .given .1)))
 
 write-list-requires : tie.Need-write-list-requires
-write-list-requires c κs = let a = c .before .before .before .before .before .before .before .before .before .before .before .before .before .before .before .before .before .before .before .before .before .before .before .before .before .before .before .before .before .before .args in
-    let room = rooms (a .boxes .now) (a .rows .now) (a .arrows .now) (a .mode) (a .scratch .now) (a .out .now) (a .work .now) (early (c .before .before .before .before .before .before .before .before .before)) in
-    ((sound-rows (a .boxes .now) (a .rows .now) (a .arrows .now) (sound (c .before .before .before .before .before .before .before .before .before .before .before .before .before .before .before .before .before .before .before .before .before)), sound-arrows (a .boxes .now) (a .rows .now) (a .arrows .now) (sound (c .before .before .before .before .before .before .before .before .before .before .before .before .before .before .before .before .before .before .before .before .before)), rw (c .before .before .before .before .before .before .before .contain .ensures .1) (filled-says (length (a .boxes .now)) (a .rows .now) (a .scratch .now) (room .scratch-room)), room .mode-few), (room .out-room, room .work-room))
+write-list-requires c κs =
+    let at-contain = c .before .before .before .before .before .before .before in
+    let at-enum-told2 = at-contain .before .before in
+    let at-enum-told = at-enum-told2 .before .before .before .before .before .before .before .before .before .before .before .before in
+    let start = at-enum-told .before .before .before .before .before .before .before .before .before in
+    let a = start .args in
+    let room = rooms (a .boxes .now) (a .rows .now) (a .arrows .now) (a .mode) (a .scratch .now) (a .out .now) (a .work .now) (early at-enum-told2) in
+    ((sound-rows (a .boxes .now) (a .rows .now) (a .arrows .now) (sound at-enum-told), sound-arrows (a .boxes .now) (a .rows .now) (a .arrows .now) (sound at-enum-told), rw (at-contain .contain .ensures .1) (filled-says (length (a .boxes .now)) (a .rows .now) (a .scratch .now) (room .scratch-room)), room .mode-few), (room .out-room, room .work-room))
 
 returns-4 : tie.Need-returns-4
-returns-4 c = let a = c .before .before .before .before .before .before .before .before .before .before .before .before .before .before .before .before .before .before .before .before .before .before .before .before .before .before .before .before .before .before .before .before .before .before .before .args in
-    rw (c .before .before .before .before .before .before .before .before .before .before .before .before .contain .ensures .1) (end-listing (a .boxes .now) (a .rows .now) (a .arrows .now) (a .mode) (a .scratch .now) (a .out .now) (a .work .now) (early-rest (a .boxes .now) (a .rows .now) (a .arrows .now) (a .mode) (a .scratch .now) (a .out .now) (a .work .now) (sound (c .before .before .before .before .before .before .before .before .before .before .before .before .before .before .before .before .before .before .before .before .before .before .before .before .before .before)) ∙ early (c .before .before .before .before .before .before .before .before .before .before .before .before .before .before)) (passed (loopFault (a .boxes .now) (a .rows .now)) (sym (c .before .before .before .before .before .before .before .before .before .before .before .before .contain .ensures .0) ∙ c .before .before .before .before .before .before .before .before .enum-told3 .given .1)) _ _ _ (c .before .before .before .before .write-list .ensures))
+returns-4 c =
+    let at-write-list = c .before .before .before .before in
+    let at-enum-told3 = at-write-list .before .before .before .before in
+    let at-contain = at-enum-told3 .before .before .before .before in
+    let at-enum-told2 = at-contain .before .before in
+    let at-enum-told = at-enum-told2 .before .before .before .before .before .before .before .before .before .before .before .before in
+    let start = at-enum-told .before .before .before .before .before .before .before .before .before in
+    let a = start .args in
+    rw (at-contain .contain .ensures .1) (end-listing (a .boxes .now) (a .rows .now) (a .arrows .now) (a .mode) (a .scratch .now) (a .out .now) (a .work .now) (early-rest (a .boxes .now) (a .rows .now) (a .arrows .now) (a .mode) (a .scratch .now) (a .out .now) (a .work .now) (sound at-enum-told) ∙ early at-enum-told2) (passed (loopFault (a .boxes .now) (a .rows .now)) (sym (at-contain .contain .ensures .0) ∙ at-enum-told3 .enum-told3 .given .1)) _ _ _ (at-write-list .write-list .ensures))
 
 pub list-spec : {M : Type 1} → statement M
 list-spec =

@@ -39,9 +39,14 @@ work-is c = let a = c .before .before .before .before .before .before .before .b
 
 -- and 0 afterwards
 work-cleared : (c : tie.After-clear) → let a = c .before .before .before .before .before .before .before .before .before .before .before .before .before .before .before .before .before .before .before .before .before .before .before .before .before .before .before .before .before .before .before .before .args in c .clear .last .0 ≡ written (zeros (pairCount (a .boxes .now) (a .rows .now))) (c .before .before .before .before .before .before .before .before .before .before .before .before .before .copy .last .1 .0)
-work-cleared c = let a = c .before .before .before .before .before .before .before .before .before .before .before .before .before .before .before .before .before .before .before .before .before .before .before .before .before .before .before .before .before .before .before .before .args in
+work-cleared c =
+    let at-order = c .before .before .before .before .before .before .before .before in
+    let at-copy = at-order .before .before .before .before .before in
+    let at-grid-of = at-copy .before .before .before in
+    let start = at-grid-of .before .before .before .before .before .before .before .before .before .before .before .before .before .before .before .before in
+    let a = start .args in
     c .clear .ensures
-    ∙ finish-work (a .boxes .now) (a .rows .now) (a .arrows .now) (a .mode) _ _ _ _ _ (c .before .before .before .before .before .before .before .before .order .ensures) (pairs (c .before .before .before .before .before .before .before .before .before .before .before .before .before .before .before .before)) (omega (arith, c .before .before .before .before .before .before .before .before .before .before .before .before .before .before .before .before .before .before .before .before .before .before .before .before .before .before .before .before .before .before .before .before .pre .1 .1, c .before .before .before .before .before .before .before .before .before .before .before .before .before .copy .kept .1 .0))
+    ∙ finish-work (a .boxes .now) (a .rows .now) (a .arrows .now) (a .mode) _ _ _ _ _ (at-order .order .ensures) (pairs at-grid-of) (omega (arith, start .pre .1 .1, at-copy .copy .kept .1 .0))
 
 fill-granted-requires : tie.Need-fill-granted-requires
 fill-granted-requires c κs = (c .before .before .before .before .before .before .before .before .before .before .before .pre .0 .0, c .before .before .before .before .before .before .before .before .before .before .before .pre .0 .1, bytes-room (c .before))
@@ -58,37 +63,66 @@ copy-requires c κs = let e = pairs (c .before .before) in
     (omega (arith, e, bytes-room (c .before .before .before .before .before .before .before .before), c .before .before .before .before .before .before .fill-granted .kept .1 .1 .1 .1 .1 .1 .1 .0), omega (arith, e, c .before .before .before .before .before .before .before .before .before .before .before .before .before .before .before .before .before .before .pre .1 .1))
 
 order-requires : tie.Need-order-requires
-order-requires c κs = let a = c .before .before .before .before .before .before .before .before .before .before .before .before .before .before .before .before .before .before .before .before .before .before .before .args in
-    let d = c .before .before .before .before .before .before .before .before .before .before .before .before .before .before .before .before .before .before .before .before .before .before .before .pre .0 .0 in (
-      (rw (c .before .before .before .before .before .before .before .grid-of .ensures) (laid d), rw (c .before .before .before .before .before .before .before .grid-of .ensures) (agrees d), c .before .before .before .before .before .before .before .before .before .before .before .before .before .before .before .before .before .before .before .before .before .before .before .pre .0 .2, c .before .before .before .before .before .before .before .before .before .before .before .before .before .before .before .before .before .before .before .before .before .before .before .pre .0 .3),
+order-requires c κs =
+    let at-copy = c .before .before .before .before in
+    let at-grid-of = at-copy .before .before .before in
+    let at-enum-told = at-grid-of .before in
+    let start = at-enum-told .before .before .before .before .before .before .before .before .before .before .before .before .before .before .before in
+    let a = start .args in
+    let d = start .pre .0 .0 in (
+      (rw (at-grid-of .grid-of .ensures) (laid d), rw (at-grid-of .grid-of .ensures) (agrees d), start .pre .0 .2, start .pre .0 .3),
       (
-        all-clear (a .boxes .now) (a .rows .now) (a .arrows .now) (a .mode) (clear (c .before .before .before .before .before .before .before .before)),
-        c .before .before .before .before .before .before .before .before .before .before .before .before .before .before .before .before .before .before .before .before .before .before .before .pre .1 .0,
-        omega (arith, c .before .before .before .before .before .before .before .before .before .before .before .before .before .before .before .before .before .before .before .before .before .before .before .pre .1 .1, c .before .before .before .before .copy .kept .1 .0),
-        copied-again (a .boxes .now) (a .rows .now) (a .arrows .now) (a .mode) (a .out .now) (a .work .now) (c .before .before .before .before .before .before .before .before .before .before .before .before .before .before .before .before .before .before .before .before .before .before .before .pre .1 .1) _ (work-is (c .before .before .before .before)),
+        all-clear (a .boxes .now) (a .rows .now) (a .arrows .now) (a .mode) (clear at-enum-told),
+        start .pre .1 .0,
+        omega (arith, start .pre .1 .1, at-copy .copy .kept .1 .0),
+        copied-again (a .boxes .now) (a .rows .now) (a .arrows .now) (a .mode) (a .out .now) (a .work .now) (start .pre .1 .1) _ (work-is at-copy),
       ),
     )
 
 check-left-requires : tie.Need-check-left-requires
-check-left-requires c κs = let d = c .before .before .before .before .before .before .before .before .before .before .before .before .before .before .before .before .before .before .before .before .before .before .before .before .before .before .before .before .before .pre .0 .0 in
-    ((d .users-are, d .files-are), d .few-boxes, omega (arith, c .before .before .before .before .before .before .before .before .before .before .before .before .before .before .before .before .before .before .before .before .before .before .before .before .before .before .before .before .before .pre .1 .1, c .before .before .before .before .before .before .before .before .before .before .copy .kept .1 .0, c .before .before .before .before .before .order .kept .1 .1 .1 .1 .1 .1 .1 .1 .0))
+check-left-requires c κs =
+    let at-order = c .before .before .before .before .before in
+    let at-copy = at-order .before .before .before .before .before in
+    let start = at-copy .before .before .before .before .before .before .before .before .before .before .before .before .before .before .before .before .before .before .before in
+    let d = start .pre .0 .0 in
+    ((d .users-are, d .files-are), d .few-boxes, omega (arith, start .pre .1 .1, at-copy .copy .kept .1 .0, at-order .order .kept .1 .1 .1 .1 .1 .1 .1 .1 .0))
 
 clear-requires : tie.Need-clear-requires
-clear-requires c κs = omega (arith, pairs (c .before .before .before .before .before .before .before .before .before .before .before .before .before .before .before), c .before .before .before .before .before .before .before .before .before .before .before .before .before .before .before .before .before .before .before .before .before .before .before .before .before .before .before .before .before .before .before .pre .1 .1, c .before .before .before .before .before .before .before .before .before .before .before .before .copy .kept .1 .0, c .before .before .before .before .before .before .before .order .kept .1 .1 .1 .1 .1 .1 .1 .1 .0)
+clear-requires c κs =
+    let at-order = c .before .before .before .before .before .before .before in
+    let at-copy = at-order .before .before .before .before .before in
+    let at-grid-of = at-copy .before .before .before in
+    let start = at-grid-of .before .before .before .before .before .before .before .before .before .before .before .before .before .before .before .before in
+    omega (arith, pairs at-grid-of, start .pre .1 .1, at-copy .copy .kept .1 .0, at-order .order .kept .1 .1 .1 .1 .1 .1 .1 .1 .0)
 
 blank-requires : tie.Need-blank-requires
 blank-requires c κs = omega (arith, c .before .before .before .before .before .before .before .before .before .before .before .before .before .before .before .before .before .before .before .before .before .before .before .before .before .before .before .before .before .before .before .before .before .before .before .before .before .before .pre .1 .0, c .before .before .before .before .before .before .before .before .before .before .before .before .before .before .order .kept .1 .1 .1 .1 .1 .1 .1 .0)
 
 returns-2 : tie.Need-returns-2
-returns-2 c = let a = c .before .before .before .before .before .before .before .before .before .before .before .before .before .before .before .before .before .before .before .before .before .before .before .before .before .before .before .before .before .before .before .before .before .before .before .before .before .before .before .before .before .args in
-    let left = refused (leftIn (a .boxes .now) (a .rows .now) (a .mode) _) _ (sym (c .before .before .before .before .before .before .before .before .before .before .before .check-left .ensures) ∙ c .before .before .before .before .before .left .given .1) in
-    let answered = finish-refused (a .boxes .now) (a .rows .now) (a .arrows .now) (a .mode) _ _ _ _ _ (c .before .before .before .before .before .before .before .before .before .before .before .before .before .before .before .before .before .order .ensures) (a .own .now) (c .before .before .before .before .before .before .before .before .before .before .before .before .before .before .before .before .before .before .before .before .before .before .before .before .before .before .before .before .before .before .before .before .before .before .before .before .before .before .before .before .before .pre .0 .3) (c .before .before .before .before .before .before .before .before .before .before .before .before .before .before .before .before .before .before .before .before .before .before .before .before .before .before .before .before .before .before .before .before .before .before .before .before .before .before .before .before .before .pre .1 .0) _ left in
-    listing-done (a .boxes .now) (a .rows .now) (a .arrows .now) (a .mode) (a .out .now) (a .work .now) (c .before .before .before .before .before .before .before .before .before .before .before .before .before .before .before .before .before .before .before .before .before .before .before .before .before .before .before .before .before .before .before .before .before .before .before .before .before .before .before .before .before .pre .1 .1) _ (work-is (c .before .before .before .before .before .before .before .before .before .before .before .before .before .before .before .before .before .before .before .before .before .before)) (clear (c .before .before .before .before .before .before .before .before .before .before .before .before .before .before .before .before .before .before .before .before .before .before .before .before .before .before)) _ _ _ (rw (c .before .before .blank .ensures) answered) (work-cleared (c .before .before .before .before .before .before .before .before .before))
+returns-2 c =
+    let at-left = c .before .before .before .before .before in
+    let at-clear = at-left .before .before .before .before in
+    let at-check-left = at-clear .before .before in
+    let at-order = at-check-left .before .before .before .before .before .before in
+    let at-copy = at-order .before .before .before .before .before in
+    let at-enum-told = at-copy .before .before .before .before in
+    let start = at-enum-told .before .before .before .before .before .before .before .before .before .before .before .before .before .before .before in
+    let a = start .args in
+    let left = refused (leftIn (a .boxes .now) (a .rows .now) (a .mode) _) _ (sym (at-check-left .check-left .ensures) ∙ at-left .left .given .1) in
+    let answered = finish-refused (a .boxes .now) (a .rows .now) (a .arrows .now) (a .mode) _ _ _ _ _ (at-order .order .ensures) (a .own .now) (start .pre .0 .3) (start .pre .1 .0) _ left in
+    listing-done (a .boxes .now) (a .rows .now) (a .arrows .now) (a .mode) (a .out .now) (a .work .now) (start .pre .1 .1) _ (work-is at-copy) (clear at-enum-told) _ _ _ (rw (c .before .before .blank .ensures) answered) (work-cleared at-clear)
 
 returns-3 : tie.Need-returns-3
-returns-3 c = let a = c .before .before .before .before .before .before .before .before .before .before .before .before .before .before .before .before .before .before .before .before .before .before .before .before .before .before .before .before .before .before .before .before .before .before .before .before .args in
-    let left = passed (leftIn (a .boxes .now) (a .rows .now) (a .mode) _) (sym (c .before .before .before .before .before .before .check-left .ensures) ∙ c .enum-told2 .given .1) in
-    listing-done (a .boxes .now) (a .rows .now) (a .arrows .now) (a .mode) (a .out .now) (a .work .now) (c .before .before .before .before .before .before .before .before .before .before .before .before .before .before .before .before .before .before .before .before .before .before .before .before .before .before .before .before .before .before .before .before .before .before .before .before .pre .1 .1) _ (work-is (c .before .before .before .before .before .before .before .before .before .before .before .before .before .before .before .before .before)) (clear (c .before .before .before .before .before .before .before .before .before .before .before .before .before .before .before .before .before .before .before .before .before)) _ _ _ (finish-written (a .boxes .now) (a .rows .now) (a .arrows .now) (a .mode) _ _ _ _ _ (c .before .before .before .before .before .before .before .before .before .before .before .before .order .ensures) left) (work-cleared (c .before .before .before .before))
+returns-3 c =
+    let at-clear = c .before .before .before .before in
+    let at-check-left = at-clear .before .before in
+    let at-order = at-check-left .before .before .before .before .before .before in
+    let at-copy = at-order .before .before .before .before .before in
+    let at-enum-told = at-copy .before .before .before .before in
+    let start = at-enum-told .before .before .before .before .before .before .before .before .before .before .before .before .before .before .before in
+    let a = start .args in
+    let left = passed (leftIn (a .boxes .now) (a .rows .now) (a .mode) _) (sym (at-check-left .check-left .ensures) ∙ c .enum-told2 .given .1) in
+    listing-done (a .boxes .now) (a .rows .now) (a .arrows .now) (a .mode) (a .out .now) (a .work .now) (start .pre .1 .1) _ (work-is at-copy) (clear at-enum-told) _ _ _ (finish-written (a .boxes .now) (a .rows .now) (a .arrows .now) (a .mode) _ _ _ _ _ (at-order .order .ensures) left) (work-cleared at-clear)
 
 pub list-pairs-spec : {M : Type 1} → statement M
 list-pairs-spec =

@@ -32,7 +32,10 @@ unfolding build
 loop-holds c = rw (c .at .ensures) (omega arith, refl, sym (written-none (c .before .before .before .before .before .args .work .now)), refl)
 
 stops-at-requires : tie.Need-stops-at-requires Inv-loop μ-loop
-stops-at-requires c κs = (c .before .before .before .before .before .before .before .before .before .before .pre .0, c .before .before .before .before .before .before .before .before .before .before .pre .1, (c .before .if2 .taken, c .before .before .before .before .loop .inv .1), omega (arith, c .before .before .before .before .before .before .before .before .before .before .pre .2, c .before .before .before .before .loop .inv .3))
+stops-at-requires c κs =
+    let at-loop = c .before .before .before .before in
+    let start = at-loop .before .before .before .before .before .before in
+    (start .pre .0, start .pre .1, (c .before .if2 .taken, at-loop .loop .inv .1), omega (arith, start .pre .2, at-loop .loop .inv .3))
 
 slice-read-marked-byte : tie.Need-slice-read-marked-byte Inv-loop μ-loop
 slice-read-marked-byte c = omega (arith, c .before .before .before .before .before .before .before .before .before .before .before .before .pre .2, c .before .before .before .before .before .before .loop .inv .3, c .before .before .before .if2 .taken)
@@ -44,19 +47,28 @@ slice-write-work : tie.Need-slice-write-work Inv-loop μ-loop
 slice-write-work c = omega (arith, c .before .before .before .before .before .before .before .before .before .before .before .before .before .pre .2, c .before .before .before .before .before .before .before .loop .inv .3, c .before .before .before .before .if2 .taken)
 
 ahead-requires : tie.Need-ahead-requires Inv-loop μ-loop
-ahead-requires c κs = (c .before .before .before .before .before .before .before .before .before .before .before .before .before .pre .0, c .before .before .before .before .before .before .before .before .before .before .before .before .before .pre .1, (c .before .before .before .before .if2 .taken, c .before .before .before .before .before .before .before .loop .inv .1))
+ahead-requires c κs =
+    let at-if2 = c .before .before .before .before in
+    let at-loop = at-if2 .before .before .before in
+    let start = at-loop .before .before .before .before .before .before in
+    (start .pre .0, start .pre .1, (at-if2 .if2 .taken, at-loop .loop .inv .1))
 
 loop-less : tie.Need-loop-less Inv-loop μ-loop
 loop-less c = omega (arith, c .ahead .ensures .later, c .ahead .ensures .within)
 
 loop-again : tie.Need-loop-again Inv-loop μ-loop
-loop-again c = let h = c .ahead .ensures in
-    let p = c .before .before .before .before .before .before .before .before .loop .at .place in (
+loop-again c =
+    let at-stops-at = c .before .before .before in
+    let at-if2 = at-stops-at .before .before in
+    let at-loop = at-if2 .before .before .before in
+    let start = at-loop .before .before .before .before .before .before in
+    let h = c .ahead .ensures in
+    let p = at-loop .loop .at .place in (
       h .within,
       h .cell,
-      mark-turn _ (c .before .before .before .before .before .before .before .before .before .before .before .before .before .before .args .work .now) p (c .before .before .before .before .before .before .before .before .loop .work) (c .before .before .before .stops-at .result) (c .before .marked-byte .result) (omega (arith, c .before .before .before .before .before .before .before .before .before .before .before .before .before .before .pre .2, c .before .before .before .before .before .if2 .taken)) (c .before .before .before .before .before .before .before .before .loop .inv .2) (c .before .before .before .stops-at .ensures) (c .before .marked-byte .ensures)
-          ∙ mark-ahead _ (c .before .before .before .before .before .before .before .before .before .before .before .before .before .before .args .work .now) p (c .ahead .result .place) (h .later) (omega (arith, h .within, c .before .before .before .before .before .before .before .before .before .before .before .before .before .before .pre .2)) (h .untouched),
-      simp length-set (c .before .before .before .before .before .before .before .before .loop .inv .3),
+      mark-turn _ (start .args .work .now) p (at-loop .loop .work) (at-stops-at .stops-at .result) (c .before .marked-byte .result) (omega (arith, start .pre .2, at-if2 .if2 .taken)) (at-loop .loop .inv .2) (at-stops-at .stops-at .ensures) (c .before .marked-byte .ensures)
+          ∙ mark-ahead _ (start .args .work .now) p (c .ahead .result .place) (h .later) (omega (arith, h .within, start .pre .2)) (h .untouched),
+      simp length-set (at-loop .loop .inv .3),
     )
 
 returns-2 : tie.Need-returns-2 Inv-loop μ-loop

@@ -36,23 +36,41 @@ work-length c = let a = c .before .before .before .before .before .before .befor
 -- the first arrow that may follow, by the picture's pairs
 picked : (c : tie.After-pick Inv-loop μ-loop) → let a = c .before .before .before .before .before .before .before .before .before .before .before .before .before .before .args in
     FirstAt (followsAt (touches (a .table .now) (a .g)) (a .own .now) (a .arrows .now) (pairCount (a .boxes .now) (a .rows .now)) (c .before .before .before .before .loop .work)) (length (a .own .now)) (c .pick .result)
-picked c = let a = c .before .before .before .before .before .before .before .before .before .before .before .before .before .before .args in
-    subst (λ (n : ℕ). FirstAt (followsAt (touches (a .table .now) (a .g)) (a .own .now) (a .arrows .now) n (c .before .before .before .before .loop .work)) (length (a .own .now)) (c .pick .result)) (c .before .before .before .before .before .before .before .before .before .before .before .before .before .before .pre .0 .1 .pairs-are) (c .pick .ensures .0)
+picked c =
+    let at-loop = c .before .before .before .before in
+    let start = at-loop .before .before .before .before .before .before .before .before .before .before in
+    let a = start .args in
+    subst (λ (n : ℕ). FirstAt (followsAt (touches (a .table .now) (a .g)) (a .own .now) (a .arrows .now) n (at-loop .loop .work)) (length (a .own .now)) (c .pick .result)) (start .pre .0 .1 .pairs-are) (c .pick .ensures .0)
 
-room : (c : tie.After-pick Inv-loop μ-loop) → c .pick .result < length (c .before .before .before .before .before .before .before .before .before .before .before .before .before .before .args .own .now) → c .before .before .before .before .loop .count < length (c .before .before .before .before .before .before .before .before .before .before .before .before .before .before .args .own .now)
-room c l = let a = c .before .before .before .before .before .before .before .before .before .before .before .before .before .before .args in
-    growing-room (a .boxes .now) (a .rows .now) (a .arrows .now) (a .mode) (touches (a .table .now) (a .g)) (a .own .now) (a .out .now) (a .work .now) (given (c .before .before .before .before .before .before .before .before .before .before .before .before .before .before)) (c .before .before .before .before .loop .inv .0) (c .pick .result) l (picked c .holds l)
+room : (c : tie.After-pick Inv-loop μ-loop) →
+    let at-loop = c .before .before .before .before in
+    let start = at-loop .before .before .before .before .before .before .before .before .before .before in
+    c .pick .result < length (start .args .own .now) → at-loop .loop .count < length (start .args .own .now)
+room c l =
+    let at-loop = c .before .before .before .before in
+    let start = at-loop .before .before .before .before .before .before .before .before .before .before in
+    let a = start .args in
+    growing-room (a .boxes .now) (a .rows .now) (a .arrows .now) (a .mode) (touches (a .table .now) (a .g)) (a .own .now) (a .out .now) (a .work .now) (given start) (at-loop .loop .inv .0) (c .pick .result) l (picked c .holds l)
 
-marks : (c : tie.After-mark Inv-loop μ-loop) → let a = c .before .before .before .before .before .before .before .before .before .before .before .before .before .before .before .before .before .before .before .before .before .args in
-    c .mark .last .1 .1 .1 .0 ≡ written (build (marked (touches (a .table .now) (a .g) (getD (a .own .now) (c .before .before .before .before .before .before .before .pick .result) 0)) (c .before .before .before .before .before .before .before .before .before .before .before .loop .work)) (pairCount (a .boxes .now) (a .rows .now))) (c .before .before .before .before .before .before .before .before .before .before .before .loop .work)
-marks c = let a = c .before .before .before .before .before .before .before .before .before .before .before .before .before .before .before .before .before .before .before .before .before .args in
-    c .mark .ensures ∙ ap₂ (λ (k n : ℕ). written (build (marked (touches (a .table .now) (a .g) k) (c .before .before .before .before .before .before .before .before .before .before .before .loop .work)) n) (c .before .before .before .before .before .before .before .before .before .before .before .loop .work)) (c .before .before .wide .ensures) (c .before .before .before .before .before .before .before .before .before .before .before .before .before .before .before .before .before .before .before .before .before .pre .0 .1 .pairs-are)
+marks : (c : tie.After-mark Inv-loop μ-loop) →
+    let at-pick = c .before .before .before .before .before .before .before in
+    let at-loop = at-pick .before .before .before .before in
+    let start = at-loop .before .before .before .before .before .before .before .before .before .before in
+    let a = start .args in
+    c .mark .last .1 .1 .1 .0 ≡ written (build (marked (touches (a .table .now) (a .g) (getD (a .own .now) (at-pick .pick .result) 0)) (at-loop .loop .work)) (pairCount (a .boxes .now) (a .rows .now))) (at-loop .loop .work)
+marks c =
+    let at-loop = c .before .before .before .before .before .before .before .before .before .before .before in
+    let start = at-loop .before .before .before .before .before .before .before .before .before .before in
+    let a = start .args in
+    c .mark .ensures ∙ ap₂ (λ (k n : ℕ). written (build (marked (touches (a .table .now) (a .g) k) (at-loop .loop .work)) n) (at-loop .loop .work)) (c .before .before .wide .ensures) (start .pre .0 .1 .pairs-are)
 
 loop-holds : tie.Need-loop-holds Inv-loop μ-loop
-loop-holds c = let a = c .before .before .before .before .before .before .before .before .before .args in
+loop-holds c =
+    let start = c .before .before .before .before .before .before .before .before .before in
+    let a = start .args in
     let b = c .before .no-places .ensures in
     let f = c .no-places2 .ensures in (
-      rw (b, f) (growing-none (a .boxes .now) (a .rows .now) (a .arrows .now) (a .mode) (touches (a .table .now) (a .g)) (a .own .now) (a .out .now) (a .work .now) (c .before .before .before .before .before .before .before .before .before .pre .1 .3) 512 (c .before .before .before .before .before .before .before .before .before .pre .0 .2 .few)),
+      rw (b, f) (growing-none (a .boxes .now) (a .rows .now) (a .arrows .now) (a .mode) (touches (a .table .now) (a .g)) (a .own .now) (a .out .now) (a .work .now) (start .pre .1 .3) 512 (start .pre .0 .2 .few)),
       ap length b ∙ zeros-length 512,
       ap length f ∙ zeros-length 512,
     )
@@ -64,7 +82,10 @@ slice-aggregate-pick-2 : tie.Need-slice-aggregate-pick-2 Inv-loop μ-loop
 slice-aggregate-pick-2 c = sym (c .before .before .before .loop .inv .2)
 
 pick-requires : tie.Need-pick-requires Inv-loop μ-loop
-pick-requires c κs = ((c .before .before .before .before .before .before .before .before .before .before .before .before .before .pre .0 .0, c .before .before .before .before .before .before .before .before .before .before .before .before .before .pre .0 .2, omega (arith, c .before .before .before .before .before .before .before .before .before .before .before .before .before .pre .0 .1 .pairs-are, c .before .before .before .before .before .before .before .before .before .before .before .before .before .pre .1 .2, work-length (c .before .before .before))), (c .before .before .before .loop .inv .0 .blocked-behind, c .before .before .before .loop .inv .0 .fresh-behind))
+pick-requires c κs =
+    let at-loop = c .before .before .before in
+    let start = at-loop .before .before .before .before .before .before .before .before .before .before in
+    ((start .pre .0 .0, start .pre .0 .2, omega (arith, start .pre .0 .1 .pairs-are, start .pre .1 .2, work-length at-loop)), (at-loop .loop .inv .0 .blocked-behind, at-loop .loop .inv .0 .fresh-behind))
 
 same-length : tie.Need-same-length Inv-loop μ-loop
 same-length c = out-length (c .before .before .before .before .before .before .before)
@@ -73,8 +94,12 @@ same-length-2 : tie.Need-same-length-2 Inv-loop μ-loop
 same-length-2 c = work-length (c .before .before .before .before .before .before .before)
 
 returns : tie.Need-returns Inv-loop μ-loop
-returns c = let a = c .before .before .before .before .before .before .before .before .before .before .before .before .before .before .before .before .before .args in
-    growing-done (a .boxes .now) (a .rows .now) (a .arrows .now) (a .mode) (touches (a .table .now) (a .g)) (a .own .now) (a .out .now) (a .work .now) (given (c .before .before .before .before .before .before .before .before .before .before .before .before .before .before .before .before .before)) (c .before .before .before .before .before .before .before .loop .inv .0) (c .before .before .before .pick .result) (c .if1 .taken) (picked (c .before .before .before) .none-before)
+returns c =
+    let at-pick = c .before .before .before in
+    let at-loop = at-pick .before .before .before .before in
+    let start = at-loop .before .before .before .before .before .before .before .before .before .before in
+    let a = start .args in
+    growing-done (a .boxes .now) (a .rows .now) (a .arrows .now) (a .mode) (touches (a .table .now) (a .g)) (a .own .now) (a .out .now) (a .work .now) (given start) (at-loop .loop .inv .0) (at-pick .pick .result) (c .if1 .taken) (picked at-pick .none-before)
 
 mul-k : tie.Need-mul-k Inv-loop μ-loop
 mul-k c = omega (arith, c .before .before .before .before .before .before .before .before .before .before .before .before .before .before .before .before .before .pre .0 .2 .few, c .if1 .left)
@@ -92,17 +117,27 @@ add-count : tie.Need-add-count Inv-loop μ-loop
 add-count c = omega (arith, c .before .before .before .before .before .before .before .before .before .before .before .before .before .before .before .before .before .before .pre .0 .2 .few, room (c .before .before .before .before) (c .before .if1 .left))
 
 mark-requires : tie.Need-mark-requires Inv-loop μ-loop
-mark-requires c κs = let d = c .before .before .before .before .before .before .before .before .before .before .before .before .before .before .before .before .before .before .before .before .pre .0 .2 in
-    (c .before .before .before .before .before .before .before .before .before .before .before .before .before .before .before .before .before .before .before .before .pre .0 .0, omega (arith, c .before .wide .ensures, d .numbers (c .before .before .before .before .before .before .pick .result) (c .before .before .before .if1 .left), d .few-arrows), omega (arith, c .before .before .before .before .before .before .before .before .before .before .before .before .before .before .before .before .before .before .before .before .pre .0 .1 .pairs-are, c .before .before .before .before .before .before .before .before .before .before .before .before .before .before .before .before .before .before .before .before .pre .1 .2, work-length (c .before .before .before .before .before .before .before .before .before .before)))
+mark-requires c κs =
+    let at-if1 = c .before .before .before in
+    let at-pick = at-if1 .before .before .before in
+    let at-loop = at-pick .before .before .before .before in
+    let start = at-loop .before .before .before .before .before .before .before .before .before .before in
+    let d = start .pre .0 .2 in
+    (start .pre .0 .0, omega (arith, c .before .wide .ensures, d .numbers (at-pick .pick .result) (at-if1 .if1 .left), d .few-arrows), omega (arith, start .pre .0 .1 .pairs-are, start .pre .1 .2, work-length at-loop))
 
 loop-less : tie.Need-loop-less Inv-loop μ-loop
 loop-less c = omega (arith, room (c .before .before .before .before .before .before .before .before .before) (c .before .before .before .before .before .before .if1 .left))
 
 loop-again : tie.Need-loop-again Inv-loop μ-loop
-loop-again c = let a = c .before .before .before .before .before .before .before .before .before .before .before .before .before .before .before .before .before .before .before .before .before .before .before .args in
-    let k = c .before .before .before .before .before .before .before .before .before .pick in
-    let n = growing-next (a .boxes .now) (a .rows .now) (a .arrows .now) (a .mode) (touches (a .table .now) (a .g)) (a .own .now) (a .out .now) (a .work .now) (given (c .before .before .before .before .before .before .before .before .before .before .before .before .before .before .before .before .before .before .before .before .before .before .before)) (c .before .before .before .before .before .before .before .before .before .before .before .before .before .loop .inv .0) (k .result) (c .before .before .before .before .before .before .if1 .left) (picked (c .before .before .before .before .before .before .before .before .before) .holds (c .before .before .before .before .before .before .if1 .left)) _ _ (k .ensures .1 .0) (k .ensures .1 .1) in
-    (rw (marks (c .before .before)) n, k .kept .1 .1 .1 .1 .1 .0 ∙ c .before .before .before .before .before .before .before .before .before .before .before .before .before .loop .inv .1, k .kept .1 .1 .1 .1 .1 .1 .0 ∙ c .before .before .before .before .before .before .before .before .before .before .before .before .before .loop .inv .2)
+loop-again c =
+    let at-if1 = c .before .before .before .before .before .before in
+    let at-pick = at-if1 .before .before .before in
+    let at-loop = at-pick .before .before .before .before in
+    let start = at-loop .before .before .before .before .before .before .before .before .before .before in
+    let a = start .args in
+    let k = at-pick .pick in
+    let n = growing-next (a .boxes .now) (a .rows .now) (a .arrows .now) (a .mode) (touches (a .table .now) (a .g)) (a .own .now) (a .out .now) (a .work .now) (given start) (at-loop .loop .inv .0) (k .result) (at-if1 .if1 .left) (picked at-pick .holds (at-if1 .if1 .left)) _ _ (k .ensures .1 .0) (k .ensures .1 .1) in
+    (rw (marks (c .before .before)) n, k .kept .1 .1 .1 .1 .1 .0 ∙ at-loop .loop .inv .1, k .kept .1 .1 .1 .1 .1 .1 .0 ∙ at-loop .loop .inv .2)
 
 pub order-spec : {M : Type 1} → statement M
 order-spec =

@@ -26,7 +26,10 @@ loop-holds : tie.Need-loop-holds Inv-loop μ-loop
 loop-holds c = (omega arith, below-none _, c .before .before .before .before .before .before .pre .1 .0, c .before .before .before .before .before .before .pre .1 .1, refl, refl)
 
 may-follow-requires : tie.Need-may-follow-requires Inv-loop μ-loop
-may-follow-requires c κs = ((c .before .before .before .before .before .before .before .before .before .before .pre .0 .0, c .before .before .before .before .before .before .before .before .before .before .pre .0 .1, c .before .before .before .before .before .before .before .before .before .before .pre .0 .2, c .before .before .loop-test .taken), (c .before .before .before .loop .inv .2, c .before .before .before .loop .inv .3))
+may-follow-requires c κs =
+    let at-loop = c .before .before .before in
+    let start = at-loop .before .before .before .before .before .before .before in
+    ((start .pre .0 .0, start .pre .0 .1, start .pre .0 .2, c .before .before .loop-test .taken), (at-loop .loop .inv .2, at-loop .loop .inv .3))
 
 same-length : tie.Need-same-length Inv-loop μ-loop
 same-length c = c .before .before .before .before .before .may-follow .kept .1 .1 .1 .1 .1 .0 ∙ c .before .before .before .before .before .before .before .before .before .loop .inv .4
@@ -41,14 +44,18 @@ add-t : tie.Need-add-t Inv-loop μ-loop
 add-t c = omega (arith, c .before .before .before .before .before .before .before .before .before .before .before .before .before .before .before .before .pre .0 .1 .few, c .before .before .before .before .before .before .before .before .before .loop .inv .0)
 
 loop-again : tie.Need-loop-again Inv-loop μ-loop
-loop-again c = let m = c .before .before .before .before .before .may-follow in (
-  omega (arith, c .before .before .before .before .before .before .before .before .loop-test .taken),
-  below-more _ _ (c .before .before .before .before .before .before .before .before .before .loop .inv .1) (false-not _ (sym (m .ensures .0) ∙ c .if1 .left)),
-  m .ensures .1 .0,
-  m .ensures .1 .1,
-  m .kept .1 .1 .1 .1 .1 .0 ∙ c .before .before .before .before .before .before .before .before .before .loop .inv .4,
-  m .kept .1 .1 .1 .1 .1 .1 .0 ∙ c .before .before .before .before .before .before .before .before .before .loop .inv .5,
-)
+loop-again c =
+    let at-may-follow = c .before .before .before .before .before in
+    let in-loop = at-may-follow .before .before .before in
+    let at-loop = in-loop .before in
+    let m = at-may-follow .may-follow in (
+      omega (arith, in-loop .loop-test .taken),
+      below-more _ _ (at-loop .loop .inv .1) (false-not _ (sym (m .ensures .0) ∙ c .if1 .left)),
+      m .ensures .1 .0,
+      m .ensures .1 .1,
+      m .kept .1 .1 .1 .1 .1 .0 ∙ at-loop .loop .inv .4,
+      m .kept .1 .1 .1 .1 .1 .1 .0 ∙ at-loop .loop .inv .5,
+    )
 
 returns-2 : tie.Need-returns-2 Inv-loop μ-loop
 returns-2 c = let i = c .before .loop in

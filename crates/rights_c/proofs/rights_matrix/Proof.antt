@@ -5,7 +5,9 @@ use Rattle.rights_c.proofs.rights_matrix.Statement.{statement}
 use Rattle.rights_c.proofs.rights_matrix.Tie as tie
 
 returns : tie.Need-returns
-returns c = (c .of-verdict .ensures ∙ ap verdictReply (c .before .before .before .before .before .before .before .matrix .ensures .0), c .before .before .before .before .before .before .before .matrix .ensures .1, c .before .before .before .before .before .before .before .matrix .ensures .2, c .before .before .before .before .before .before .before .matrix .ensures .3)
+returns c =
+    let done = c .before .before .before .before .before .before .before .matrix .ensures in
+    (c .of-verdict .ensures ∙ ap verdictReply (done .0), done .1)
 
 pub rights-matrix-spec : {M : Type 1} → statement M
 rights-matrix-spec =
