@@ -3,7 +3,7 @@ use mathlib.Core.Path.{_≡_, sym, ap, subst, _∙_}
 use mathlib.Core.Logic.{_≢_}
 use mathlib.Core.Bool.{Bool, true, false, not, cond}
 use mathlib.Core.List.{List}
-use Prim.Native.Nat.{ℕ, _+_, _<_, _≤_}
+use Prim.Native.Nat.{ℕ, _+_, _-_, _<_, _≤_}
 use native.Mathlib.Nat.{add-zero}
 use native.Mathlib.Decide.{decLt, ℕ-discrete}
 use native.Mathlib.Numerals.{add-one}
@@ -15,7 +15,7 @@ use lib.Seq.{getD-set-same, getD-set-other, length-take-le, take-suc, ext-getD}
 use Rattle.tables.specs.Search.{every}
 use Rattle.tables.specs.Buffers.{build, written}
 use Rattle.answers.specs.Among.{FirstAt}
-use Rattle.lists.specs.Steps.{stops, NoStop, follows, marked, Behind}
+use Rattle.lists.specs.Steps.{stops, NoStop, StopIn, follows, marked, markedTo, Behind}
 use Rattle.tables.proofs.Tests.{and-T, T-true, not-false}
 use Rattle.tables.proofs.SearchLaws.{every-at, every-is}
 use Rattle.tables.proofs.BufferLaws.{written-more, written-rest, build-length, written-build, written-length, written-at, build-at}
@@ -49,15 +49,39 @@ module _ (touch : ℕ → Bool) where
   unfolding stops
   stops-touches work skip p t = and-T (not (eqb (getD work p 0) skip)) _ (and-T (ltb (getD work p 0) 2) _ t .1) .1
 
-  -- so no place stops the arrow on the way to one ahead
-  pub no-stop-ahead : (work : List ℕ) (skip p q : ℕ) → NoStop touch work skip p → (T (stops touch work skip p) → ⊥)
-      → ((k : ℕ) → p < k → k < q → T (touch k) → ⊥) → NoStop touch work skip q
-  no-stop-ahead work skip p q n here u k l t = go (decLt k p) (ℕ-discrete k p)
+  -- the search from place to place of a row
+  module _ (work : List ℕ) (skip first s : ℕ) where
+    pub stop-start : StopIn touch work skip first s s s
+    stop-start = record { at-most = omega arith; none-between = λ j l h t. absurd (omega arith); holds = λ l. absurd (omega arith) }
+
+    pub stop-next : (c : ℕ) → StopIn touch work skip first s c c → (T (stops touch work skip (first + c)) → ⊥) → StopIn touch work skip first s (c + 1) (c + 1)
+    stop-next c i n = record { at-most = omega arith; none-between = λ j l h t. go j l h t (ℕ-discrete j c); holds = λ l. absurd (omega arith) }
+      where
+        go : (j : ℕ) → s ≤ j → j < c + 1 → T (stops touch work skip (first + j)) → Dec (j ≡ c) → ⊥
+        go j l h t (yes e) = n (subst (λ (z : ℕ). T (stops touch work skip (first + z))) e t)
+        go j l h t (no e) = i .none-between j l (omega arith) t
+
+    pub stop-found : (n c : ℕ) → c < n → StopIn touch work skip first s c c → T (stops touch work skip (first + c)) → StopIn touch work skip first s n c
+    stop-found n c l i t = record { at-most = omega arith; none-between = i .none-between; holds = λ h. t }
+
+    -- a row that the arrow does not reach
+    pub stop-none : (n : ℕ) → ((j : ℕ) → j < n → T (touch (first + j)) → ⊥) → StopIn touch work skip first s n n
+    stop-none n u = record {
+      at-most = omega arith;
+      none-between = λ j l h t. u j h (stops-touches work skip (first + j) t);
+      holds = λ l. absurd (omega arith);
+    }
+
+  -- what does not stop it in a row does not stop it before
+  pub no-stop-row : (work : List ℕ) (skip first s n r : ℕ) → NoStop touch work skip (first + s) → StopIn touch work skip first s n r
+      → NoStop touch work skip (first + r)
+  no-stop-row work skip first s n r before i p l t = go (decLt p (first + s))
     where
-      go : Dec (k < p) → Dec (k ≡ p) → ⊥
-      go (yes h) e = n k h t
-      go (no h) (yes e) = here (subst (λ (z : ℕ). T (stops touch work skip z)) e t)
-      go (no h) (no e) = u k (omega arith) l (stops-touches work skip k t)
+      go : Dec (p < first + s) → ⊥
+      go (yes h) = before p h t
+      go (no h) =
+          let e : p ≡ first + (p - first) = omega arith in
+          i .none-between (p - first) (omega arith) (omega arith) (subst (λ (z : ℕ). T (stops touch work skip z)) e t)
 
   -- ---- whether the arrow, of this sign, may follow, by its two pointers
   module _ (sign n : ℕ) where
@@ -93,43 +117,46 @@ behind-set {touch} {own} {work} {pointers} {skip} t r l h n = record { room = rw
 -- ---- marking
 
 module _ (touch : ℕ → Bool) (w : List ℕ) where
+  abbrev g : ℕ → ℕ
+  g = marked touch w
+
   -- place p of the work bytes is marked
-  pub mark-turn : (p : ℕ) (work : List ℕ) (hit : Bool) (b : ℕ) → p < length w → work ≡ written (build (marked touch w) p) w
+  pub mark-turn : (p : ℕ) (work : List ℕ) (hit : Bool) (b : ℕ) → p < length w → work ≡ markedTo touch w p
       → hit ≡ stops touch work 2 p → b ≡ getD work p 0 + cond hit 2 0
-      → set work p b ≡ written (build (marked touch w) (p + 1)) w
+      → set work p b ≡ markedTo touch w (p + 1)
   unfolding marked
   mark-turn p work hit b l e h i =
       let same : getD work p 0 ≡ getD w p 0 =
-      ap (λ (z : List ℕ). getD z p 0) e ∙ written-rest (build (marked touch w) p) w p (omega (arith, build-length (marked touch w) p)) in
+      ap (λ (z : List ℕ). getD z p 0) e ∙ written-rest (build g p) w p (omega (arith, build-length g p)) in
       let to : b ≡ marked touch w p = i ∙ rw (h ∙ stops-same touch work w 2 p same, same) in
-      rw (to, e) (written-build (marked touch w) p w l)
+      rw (to, e) (written-build g p w l)
 
   unmarked : (k : ℕ) → (T (touch k) → ⊥) → getD w k 0 ≡ marked touch w k
   unfolding marked
   unmarked k n = rw (not-false (stops touch w 2 k) (λ t. n (stops-touches touch w 2 k t))) (sym (add-zero (getD w k 0)))
 
-  -- and so are the places up to one ahead, which the arrow does not reach
-  pub mark-ahead : (p q : ℕ) → p < q → q ≤ length w → ((k : ℕ) → p < k → k < q → T (touch k) → ⊥)
-      → written (build (marked touch w) (p + 1)) w ≡ written (build (marked touch w) q) w
-  mark-ahead p q l h u =
-      let g = marked touch w in
+  pub marked-length : (n : ℕ) → n ≤ length w → length (markedTo touch w n) ≡ length w
+  marked-length n h = written-length (build g n) w (rw build-length h)
+
+  -- and so are places that the arrow does not reach
+  pub mark-passed : (p n : ℕ) → p + n ≤ length w → ((j : ℕ) → j < n → T (touch (p + j)) → ⊥) → markedTo touch w p ≡ markedTo touch w (p + n)
+  mark-passed p n h u =
       ext-getD 0 _ _
-      (written-length (build g (p + 1)) w (rw build-length (omega arith)) ∙ sym (written-length (build g q) w (rw build-length h)))
-      (λ k z. go k (decLt k (p + 1)) (decLt k q))
+      (marked-length p (omega arith) ∙ sym (marked-length (p + n) h))
+      (λ k z. go k (decLt k p) (decLt k (p + n)))
     where
-      go : (k : ℕ) → Dec (k < p + 1) → Dec (k < q)
-          → getD (written (build (marked touch w) (p + 1)) w) k 0 ≡ getD (written (build (marked touch w) q) w) k 0
-      go k (yes m) (yes o) =
-          written-at (build (marked touch w) (p + 1)) w k (rw build-length m) ∙ build-at (marked touch w) (p + 1) k m
-          ∙ sym (written-at (build (marked touch w) q) w k (rw build-length o) ∙ build-at (marked touch w) q k o)
-      go k (yes m) (no o) = absurd (omega arith)
+      go : (k : ℕ) → Dec (k < p) → Dec (k < p + n) → getD (markedTo touch w p) k 0 ≡ getD (markedTo touch w (p + n)) k 0
+      go k (yes m) o =
+          written-at (build g p) w k (rw build-length m) ∙ build-at g p k m
+          ∙ sym (written-at (build g (p + n)) w k (rw build-length (omega arith)) ∙ build-at g (p + n) k (omega arith))
       go k (no m) (yes o) =
-          written-rest (build (marked touch w) (p + 1)) w k (rw build-length (omega arith))
-          ∙ unmarked k (u k (omega arith) o)
-          ∙ sym (written-at (build (marked touch w) q) w k (rw build-length o) ∙ build-at (marked touch w) q k o)
+          let e : k ≡ p + (k - p) = omega arith in
+          written-rest (build g p) w k (rw build-length (omega arith))
+          ∙ unmarked k (λ t. u (k - p) (omega arith) (subst (λ (z : ℕ). T (touch z)) e t))
+          ∙ sym (written-at (build g (p + n)) w k (rw build-length o) ∙ build-at g (p + n) k o)
       go k (no m) (no o) =
-          written-rest (build (marked touch w) (p + 1)) w k (rw build-length (omega arith))
-          ∙ sym (written-rest (build (marked touch w) q) w k (rw build-length (omega arith)))
+          written-rest (build g p) w k (rw build-length (omega arith))
+          ∙ sym (written-rest (build g (p + n)) w k (rw build-length (omega arith)))
 
 -- ---- a buffer that is filled with one value
 

@@ -20,17 +20,9 @@ use Rattle.lists.specs.Order.{meets, reached, granted, honest, distinct}
 use Rattle.lists.specs.Greedy.{addable, orderFault}
 use Rattle.lists.specs.Calls.{Answered}
 use Rattle.lists.specs.declared.Listed.{Listed}
-use Rattle.lists.specs.declared.Cell.{Cell}
 use Rattle.lists.specs.declared.Grid.{Grid}
 
--- place p of a table of so many columns
-abbrev pub cellAt : ℕ → ℕ → Cell
-cellAt width p = record { row = p / width; col = p % width; place = p }
-
--- the cell is that of a pair
-abbrev pub Inside : Grid → Cell → Type 0
-Inside g at = (at .place < g .pairs) × (at ≡ cellAt (g .files) (at .place))
-
+-- the table of so many users and files
 abbrev pub gridOf : List ℕ → ℕ → ℕ → Grid
 gridOf arrows users files = record { arrows = arrowCount arrows; users = users; files = files; pairs = users * files }
 
@@ -60,13 +52,6 @@ pub record Drawn (arrows own : List ℕ) : Type 0 where
 
 -- of an arrow, by which pairs it reaches
 module _ (touch : ℕ → Bool) where
-  -- c is the cell of a place after p, at most one past the last, and the arrow reaches none of the pairs between
-  pub record Ahead (g : Grid) (p : ℕ) (c : Cell) : Type 0 where
-    pub cell : c ≡ cellAt (g .files) (c .place)
-    pub later : p < c .place
-    pub within : c .place ≤ g .pairs
-    pub untouched : (q : ℕ) → p < q → q < c .place → T (touch q) → ⊥
-
   -- a work byte is 1 if its pair is granted, and 2 more if the list reaches it.
   -- The arrow reaches the pair at place p, whose byte is none of a reached pair and is not `skip`: with the arrow's sign to skip,
   -- the arrow may not follow yet; with 2, it would be the first to reach the pair.
@@ -77,6 +62,12 @@ module _ (touch : ℕ → Bool) where
   abbrev pub NoStop : List ℕ → ℕ → ℕ → Type 0
   NoStop work skip r = (p : ℕ) → p < r → T (stops work skip p) → ⊥
 
+  -- of the places from `first` on, r is the first from s on that does, or n where none before n does
+  pub record StopIn (work : List ℕ) (skip first s n r : ℕ) : Type 0 where
+    pub at-most : r ≤ n
+    pub none-between : (j : ℕ) → s ≤ j → j < r → T (stops work skip (first + j)) → ⊥
+    pub holds : r < n → T (stops work skip (first + r))
+
   -- the arrow, of this sign, may follow, and would be the first to reach some of the n pairs
   unfoldable pub follows : ℕ → ℕ → List ℕ → Bool
   follows sign n work = every (λ p. not (stops work sign p)) n && not (every (λ p. not (stops work 2 p)) n)
@@ -84,6 +75,10 @@ module _ (touch : ℕ → Bool) where
   -- the byte at place p once the arrow is in the list
   unfoldable pub marked : List ℕ → ℕ → ℕ
   marked work p = getD work p 0 + cond (stops work 2 p) 2 0
+
+  -- the work bytes, of which the first n are so
+  abbrev pub markedTo : List ℕ → ℕ → List ℕ
+  markedTo work n = written (build (marked work) n) work
 
 -- what the two kinds of pointers skip, for arrow k
 abbrev pub ownSign : List ℕ → ℕ → ℕ

@@ -1,11 +1,11 @@
 // The first-match list of a mode.
 ghost use mathlib.Core.Path.{_≡_};
 ghost use mathlib.Core.Bool.{true, cond};
-ghost use mathlib.Core.List.{[]};
+ghost use mathlib.Core.List.{List, []};
 ghost use mathlib.Core.Option.{none, some};
 ghost use Prim.Native.Nat.{ℕ, _+_, _*_, _/_, _%_, _<_, _≤_};
 ghost use lib.ListN.{length, take};
-ghost use Rattle.tables.specs.Buffers.{build, written, zeros};
+ghost use Rattle.tables.specs.Buffers.{written, zeros};
 ghost use Rattle.tables.specs.Search.{bit};
 ghost use Rattle.tables.specs.Rows.{arrowCount};
 ghost use Rattle.tables.specs.Atoms.{pairCount};
@@ -14,10 +14,11 @@ ghost use Rattle.tables.specs.Refusals.{refusal, verdictOf};
 ghost use Rattle.containment.specs.Steps.{Says};
 ghost use Rattle.answers.specs.Meaning.{isGranted, modeArrows};
 ghost use Rattle.answers.specs.Pairs.{unclearFault};
+ghost use Rattle.sets.specs.Sets.{has};
 ghost use Rattle.answers.specs.Among.{FirstAt};
 ghost use Rattle.answers.specs.Table.{Placed, Tabled};
 ghost use Rattle.lists.specs.Calls.{blanks, Outcome};
-ghost use Rattle.lists.specs.Steps.{Listing, cellAt, gridOf, Laid, Inside, Agrees, Drawn, touches, Ahead, stops, NoStop, marked, Behind, followsAt, ownSign, nothing, leftIn, Clear, workOf, Ordered};
+ghost use Rattle.lists.specs.Steps.{Listing, gridOf, Laid, Agrees, Drawn, touches, stops, NoStop, StopIn, markedTo, Behind, followsAt, ownSign, nothing, leftIn, Clear, workOf, Ordered};
 use answers::Entry;
 use answers::answer_at;
 use answers::is_unclear;
@@ -43,59 +44,6 @@ pub enum Listed {
     // So many places of the list are written.
     Written(usize),
     Refused(Refusal),
-}
-
-// A place of the matrix, with its row and its column: a walk over the places then divides only where it begins.
-struct Cell {
-    row: usize,
-    col: usize,
-    place: usize,
-}
-
-impl Cell {
-    // Place p of a table of so many columns.
-    fn at(p: usize, width: usize) -> Self
-        requires { ⌜ 0 < width ⌝ }
-        ensures { λ r. ⌜ r ≡ cellAt width p ⌝ }
-    {
-        Self {
-            row: p / width,
-            col: p % width,
-            place: p,
-        }
-    }
-
-    // The first place of the next row.
-    fn below(self, width: usize) -> Self
-        requires { ⌜ (self .col < width) × (self .row < 256) × (self .place < 65536) × (width ≤ 256) ⌝ }
-        ensures { λ r. ⌜ ((p : ℕ) → self ≡ cellAt width p → r ≡ cellAt width ((p / width + 1) * width)) ⌝ }
-    {
-        Self {
-            row: self.row + 1,
-            col: 0,
-            place: self.place + (width - self.col),
-        }
-    }
-
-    // The place after it.
-    fn next(self, width: usize) -> Self
-        requires { ⌜ (self .col < width) × (self .row < 256) × (self .place < 65536) × (width ≤ 256) ⌝ }
-        ensures { λ r. ⌜ ((p : ℕ) → self ≡ cellAt width p → r ≡ cellAt width (p + 1)) ⌝ }
-    {
-        let place = self.place + 1;
-        if self.col + 1 < width {
-            return Self {
-                row: self.row,
-                col: self.col + 1,
-                place,
-            };
-        }
-        Self {
-            row: self.row + 1,
-            col: 0,
-            place,
-        }
-    }
 }
 
 // How many arrows, users, files and pairs the table of sets is of.
@@ -127,31 +75,42 @@ fn sign_byte(sign: u16) -> u8
     (sign % 256) as u8
 }
 
-// Whether arrow k reaches the pair at the cell, and the pair's byte says that it is not reached yet and is none to skip.
-fn stops_at(table: &[u64], g: Grid, k: usize, work: &[u8], skip: u8, at: Cell) -> bool
-    requires { ⌜ Laid (now table) g × (k < 512) × Inside g at × (g .pairs ≤ length (now work)) ⌝ }
-    ensures { λ r. ⌜ r ≡ stops (touches (now (table .entry)) g k) (now (work .entry)) skip (at .place) ⌝ }
+// Whether arrow k, which reaches the user of the row, reaches the pair in a column of it, and the pair's byte says that it is not
+// reached yet and is none to skip.
+fn stops_at(table: &[u64], g: Grid, k: usize, work: &[u8], skip: u8, row: usize, col: usize) -> bool
+    requires { ⌜ Laid (now table) g × (k < 512) × (g .pairs ≤ length (now work)) × (row < g .users) × (col < g .files) × (has (now table) (g .arrows + row) k ≡ true) ⌝ }
+    ensures { λ r. ⌜ r ≡ stops (touches (now (table .entry)) g k) (now (work .entry)) skip (row * g .files + col) ⌝ }
 {
-    let p = at.place;
-    let byte = work[p];
+    let byte = work[row * g.files + col];
     if 2 <= byte {
         return false;
     }
-    if byte == skip {
-        return false;
-    }
-    is_in(table, g.arrows + at.row, k) && is_in(table, g.arrows + g.users + at.col, k)
+    byte != skip && is_in(table, g.arrows + g.users + col, k)
 }
 
-// Where the walk of arrow k goes on: at the next place, or in the next row where it reaches no pair of this one.
-fn ahead(table: &[u64], g: Grid, k: usize, at: Cell) -> Cell
-    requires { ⌜ Laid (now table) g × (k < 512) × Inside g at ⌝ }
-    ensures { λ r. ⌜ Ahead (touches (now (table .entry)) g k) g (at .place) r ⌝ }
+// The first column of a row, from `from` on, whose pair stops arrow k, or one past the last. A row whose user the arrow does not
+// reach is passed over.
+fn stop_in_row(
+    table: &[u64],
+    g: Grid,
+    k: usize,
+    work: &[u8],
+    skip: u8,
+    row: usize,
+    from: usize,
+) -> usize
+    requires { ⌜ Laid (now table) g × (k < 512) × (g .pairs ≤ length (now work)) × (row < g .users) × (from ≤ g .files) ⌝ }
+    ensures { λ r. ⌜ StopIn (touches (now (table .entry)) g k) (now (work .entry)) skip (row * g .files) from (g .files) r ⌝ }
 {
-    if is_in(table, g.arrows + at.row, k) {
-        return at.next(g.files);
+    if !is_in(table, g.arrows + row, k) {
+        return g.files;
     }
-    at.below(g.files)
+    for col in from..g.files {
+        if stops_at(table, g, k, work, skip, row, col) {
+            return col;
+        }
+    }
+    g.files
 }
 
 // The first place from `from` on that stops arrow k, or one past the end.
@@ -162,14 +121,17 @@ fn advance(table: &[u64], g: Grid, k: usize, work: &[u8], skip: u8, from: usize)
     if g.pairs <= from {
         return from;
     }
-    let mut at = Cell::at(from, g.files);
-    while at.place < g.pairs {
-        if stops_at(table, g, k, work, skip, at) {
-            return at.place;
+    let mut row = from / g.files;
+    let mut col = from % g.files;
+    while row < g.users {
+        let c = stop_in_row(table, g, k, work, skip, row, col);
+        if c < g.files {
+            return row * g.files + c;
         }
-        at = ahead(table, g, k, at);
+        row += 1;
+        col = 0;
     }
-    at.place
+    g.pairs
 }
 
 // Whether the arrow at place t of the numbers may follow the list and would be the first to reach some pair. Each arrow has two
@@ -236,20 +198,28 @@ fn marked_byte(byte: u8, hit: bool) -> u8
     byte
 }
 
+// Marks the pairs of a row that arrow k is the first to reach.
+fn mark_row(table: &[u64], g: Grid, k: usize, work: &mut [u8], row: usize)
+    requires { ⌜ Laid (now table) g × (k < 512) × (g .pairs ≤ length (now work)) × (row < g .users) ⌝ }
+    ensures { λ _. ⌜ ((w : List ℕ) → g .pairs ≤ length w → now (work .entry) ≡ markedTo (touches (now (table .entry)) g k) w (row * g .files) → now (work .exit) ≡ markedTo (touches (now (table .entry)) g k) w ((row + 1) * g .files)) ⌝ }
+{
+    if !is_in(table, g.arrows + row, k) {
+        return;
+    }
+    for col in 0..g.files {
+        let hit = stops_at(table, g, k, work, 2, row, col);
+        let p = row * g.files + col;
+        work[p] = marked_byte(work[p], hit);
+    }
+}
+
 // Marks the pairs that arrow k is the first to reach.
 fn mark(table: &[u64], g: Grid, k: usize, work: &mut [u8])
     requires { ⌜ Laid (now table) g × (k < 512) × (g .pairs ≤ length (now work)) ⌝ }
-    ensures { λ _. ⌜ now (work .exit) ≡ written (build (marked (touches (now (table .entry)) g k) (now (work .entry))) (g .pairs)) (now (work .entry)) ⌝ }
+    ensures { λ _. ⌜ now (work .exit) ≡ markedTo (touches (now (table .entry)) g k) (now (work .entry)) (g .pairs) ⌝ }
 {
-    if g.pairs == 0 {
-        return;
-    }
-    let mut at = Cell::at(0, g.files);
-    while at.place < g.pairs {
-        let hit = stops_at(table, g, k, work, 2, at);
-        let p = at.place;
-        work[p] = marked_byte(work[p], hit);
-        at = ahead(table, g, k, at);
+    for row in 0..g.users {
+        mark_row(table, g, k, work, row);
     }
 }
 

@@ -1,81 +1,57 @@
--- `lists::mark` meets its contract: the bytes before the cell are marked. Assumes nothing.
-use mathlib.Core.Path.{_≡_, refl, sym, _∙_}
-use Prim.Native.Nat.{_-_, _≤_}
+-- `lists::mark` meets its contract: the rows before this one are marked. Assumes nothing.
+use mathlib.Core.Path.{_≡_, sym, ap, _∙_}
+use Prim.Native.Nat.{_-_, _*_, _≤_}
+use native.Mathlib.Nat.{zero-mul}
 use native.Mathlib.Omega.{arith}
-use borrow.Author.Needs.{needs}
-use lib.ListN.{length, length-set}
-use Rattle.tables.specs.Buffers.{build, written}
-use Rattle.tables.proofs.Tests.{true-T}
+use lib.ListN.{length}
+use Rattle.tables.specs.Buffers.{build}
 use Rattle.tables.proofs.BufferLaws.{written-none}
-use Rattle.lists.specs.Steps.{cellAt, touches, marked}
-use Rattle.lists.proofs.StepLaws.{stops-open, mark-turn, mark-ahead}
-use Rattle.lists.proofs.PlaceLaws.{has-column}
+use Rattle.lists.specs.Steps.{touches, markedTo}
+use Rattle.lists.proofs.StepLaws.{marked-length}
+use Rattle.lists.proofs.PlaceLaws.{rows-fit}
 use Rattle.lists.proofs.mark.Statement.{statement}
 use Rattle.lists.proofs.mark.Tie as tie
 
 abbrev Inv-loop : tie.InvT-loop
-Inv-loop table g k work₀ at₀ work at =
-    (at .place ≤ g .pairs) × (at ≡ cellAt (g .files) (at .place)) × (work ≡ written (build (marked (touches table g k) work₀) (at .place)) work₀) × (length work ≡ length work₀)
+Inv-loop table g k work₀ row₀ row-end work row = (work ≡ markedTo (touches table g k) work₀ (row * g .files)) × (row ≤ g .users)
 
 abbrev μ-loop : tie.MeasureT-loop
-μ-loop table g k work₀ at₀ work at = g .pairs - at .place
+μ-loop table g k work₀ row₀ row-end work row = g .users - row
 
-returns : tie.Need-returns Inv-loop μ-loop
-unfolding build
-returns c = rw (c .if1 .taken) (sym (written-none (c .before .before .before .before .args .work .now)))
-
-at-requires : tie.Need-at-requires Inv-loop μ-loop
-at-requires c κs = has-column (c .before .before .before .before .pre .0) 0 (omega (arith, c .if1 .left))
+-- the work bytes keep their length
+long : (c : tie.At-loop Inv-loop μ-loop) → length (c .loop .work) ≡ length (c .before .before .before .args .work .now)
+long c = let start = c .before .before .before in
+    ap length (c .loop .inv .0) ∙ marked-length _ (start .args .work .now) _ (omega (arith, rows-fit (start .pre .0) _ (c .loop .inv .1), start .pre .2))
 
 loop-holds : tie.Need-loop-holds Inv-loop μ-loop
 unfolding build
-loop-holds c = rw (c .at .ensures) (omega arith, refl, sym (written-none (c .before .before .before .before .before .args .work .now)), refl)
+loop-holds c = let a = c .before .before .args in
+    (sym (written-none (a .work .now)) ∙ ap (markedTo _ (a .work .now)) (sym (zero-mul (a .g .files))), omega arith)
 
-stops-at-requires : tie.Need-stops-at-requires Inv-loop μ-loop
-stops-at-requires c κs =
-    let at-loop = c .before .before .before .before in
-    let start = at-loop .before .before .before .before .before .before in
-    (start .pre .0, start .pre .1, (c .before .if2 .taken, at-loop .loop .inv .1), omega (arith, start .pre .2, at-loop .loop .inv .3))
+mark-row-requires : tie.Need-mark-row-requires Inv-loop μ-loop
+mark-row-requires c κs = let p = c .before .before .before .before .before .pre in
+    (p .0, p .1, omega (arith, p .2, long (c .before .before)), c .before .loop-test .taken)
 
-slice-read-marked-byte : tie.Need-slice-read-marked-byte Inv-loop μ-loop
-slice-read-marked-byte c = omega (arith, c .before .before .before .before .before .before .before .before .before .before .before .before .pre .2, c .before .before .before .before .before .before .loop .inv .3, c .before .before .before .if2 .taken)
-
-marked-byte-requires : tie.Need-marked-byte-requires Inv-loop μ-loop
-marked-byte-requires c κs = λ e. stops-open _ (c .before .before .before .before .before .before .loop .work) 2 _ (true-T _ (sym (c .before .stops-at .ensures) ∙ e))
-
-slice-write-work : tie.Need-slice-write-work Inv-loop μ-loop
-slice-write-work c = omega (arith, c .before .before .before .before .before .before .before .before .before .before .before .before .before .pre .2, c .before .before .before .before .before .before .before .loop .inv .3, c .before .before .before .before .if2 .taken)
-
-ahead-requires : tie.Need-ahead-requires Inv-loop μ-loop
-ahead-requires c κs =
-    let at-if2 = c .before .before .before .before in
-    let at-loop = at-if2 .before .before .before in
-    let start = at-loop .before .before .before .before .before .before in
-    (start .pre .0, start .pre .1, (at-if2 .if2 .taken, at-loop .loop .inv .1))
+add-row : tie.Need-add-row Inv-loop μ-loop
+add-row c = omega (arith, c .before .before .before .before .loop-test .taken, c .before .before .before .before .before .before .before .before .pre .0 .few-users)
 
 loop-less : tie.Need-loop-less Inv-loop μ-loop
-loop-less c = omega (arith, c .ahead .ensures .later, c .ahead .ensures .within)
+loop-less c = omega (arith, c .before .before .before .before .loop-test .taken)
 
 loop-again : tie.Need-loop-again Inv-loop μ-loop
 loop-again c =
-    let at-stops-at = c .before .before .before in
-    let at-if2 = at-stops-at .before .before in
-    let at-loop = at-if2 .before .before .before in
-    let start = at-loop .before .before .before .before .before .before in
-    let h = c .ahead .ensures in
-    let p = at-loop .loop .at .place in (
-      h .within,
-      h .cell,
-      mark-turn _ (start .args .work .now) p (at-loop .loop .work) (at-stops-at .stops-at .result) (c .before .marked-byte .result) (omega (arith, start .pre .2, at-if2 .if2 .taken)) (at-loop .loop .inv .2) (at-stops-at .stops-at .ensures) (c .before .marked-byte .ensures)
-          ∙ mark-ahead _ (start .args .work .now) p (c .ahead .result .place) (h .later) (omega (arith, h .within, start .pre .2)) (h .untouched),
-      simp length-set (at-loop .loop .inv .3),
-    )
+    let at-loop = c .before .before .before .before .before in
+    let start = at-loop .before .before .before in
+    (c .before .before .mark-row .ensures (start .args .work .now) (start .pre .2) (at-loop .loop .inv .0), omega (arith, c .before .before .before .before .loop-test .taken))
 
-returns-2 : tie.Need-returns-2 Inv-loop μ-loop
-returns-2 c = let e : c .before .before .before .loop .at .place ≡ c .before .before .before .before .before .before .before .before .before .args .g .pairs = omega (arith, c .before .before .before .loop .inv .0, c .if2 .left) in
-    rw e at (c .before .before .before .loop .inv .2)
+same-length : tie.Need-same-length Inv-loop μ-loop
+same-length c = long (c .before)
+
+returns : tie.Need-returns Inv-loop μ-loop
+returns c = let start = c .before .before .before .before in
+    let e : c .before .loop .row ≡ start .args .g .users = omega (arith, c .loop-test .left, c .before .loop .inv .1) in
+    c .before .loop .inv .0 ∙ ap (markedTo _ (start .args .work .now)) (rw (e, start .pre .0 .pairs-are))
 
 pub mark-spec : {M : Type 1} → statement M
 mark-spec =
-    tie.close (tie.spec Inv-loop μ-loop returns at-requires loop-holds stops-at-requires slice-read-marked-byte marked-byte-requires
-    slice-write-work ahead-requires loop-less loop-again (search needs) returns-2)
+    tie.close (tie.spec Inv-loop μ-loop loop-holds mark-row-requires add-row loop-less loop-again same-length returns)

@@ -1,64 +1,49 @@
--- `lists::stops_at` meets its contract: the byte is tested, then whether the arrow is in both sets of the pair. Assumes nothing.
-use mathlib.Core.Path.{sym, _∙_}
+-- `lists::stops_at` meets its contract: the byte is tested, then whether the arrow is in the set of the column. Assumes nothing.
+use mathlib.Core.Path.{sym, ap, _∙_}
+use mathlib.Core.Bool.{not}
+use Prim.Native.Nat.{_+_, _*_}
 use native.Mathlib.Omega.{arith}
+use borrow.Author.Tests.{eq-eqb}
 use Rattle.lists.proofs.StepLaws.{stop-reached, stop-skipped, stop-touches}
-use Rattle.lists.proofs.PlaceLaws.{row-in, col-in, touched, row-passed}
+use Rattle.lists.proofs.PlaceLaws.{row-end, row-small, touched}
 use Rattle.lists.proofs.stops_at.Statement.{statement}
 use Rattle.lists.proofs.stops_at.Tie as tie
 
+mul-byte : tie.Need-mul-byte
+mul-byte c = let p = c .before .before .before .pre in omega (arith, row-small (p .0) _ (p .3))
+
+add-byte : tie.Need-add-byte
+add-byte c = let p = c .before .before .before .pre in omega (arith, row-small (p .0) _ (p .3), p .4)
+
 shared-slice-read-byte : tie.Need-shared-slice-read-byte
-shared-slice-read-byte c = omega (arith, c .before .before .before .pre .2 .0, c .before .before .before .pre .3)
+shared-slice-read-byte c = let p = c .before .before .before .before .pre in omega (arith, row-end (p .0) _ (p .3), p .4, p .2)
 
 returns : tie.Need-returns
-returns c = sym (stop-reached _ (c .before .before .before .before .args .work .now) (c .before .before .before .before .args .skip) (c .before .before .before .before .args .at .place) (omega (arith, c .if1 .taken)))
-
-returns-2 : tie.Need-returns-2
-returns-2 c = sym (stop-skipped _ (c .before .before .before .before .before .args .work .now) (c .before .before .before .before .before .args .skip) (c .before .before .before .before .before .args .at .place) (omega (arith, c .before .if1 .left)) (c .if2 .taken))
+returns c = let a = c .before .before .before .before .before .args in
+    sym (stop-reached _ (a .work .now) (a .skip) (a .row * a .g .files + a .col) (omega (arith, c .if1 .taken)))
 
 add-is-in : tie.Need-add-is-in
-add-is-in c =
-    let start = c .before .before .before .before .before .before .before in
-    omega (arith, start .pre .0 .few-arrows, row-in (start .pre .0) (start .pre .2), start .pre .0 .few-users)
-
-is-in-requires : tie.Need-is-in-requires
-is-in-requires c κs =
-    let start = c .before .before .before .before .before .before .before in
-    (omega (arith, row-in (start .pre .0) (start .pre .2), start .pre .0 .few-sets), start .pre .1)
+add-is-in c = let d = c .before .before .before .before .before .before .before .pre .0 in omega (arith, d .few-arrows, d .few-users)
 
 add-is-in-2 : tie.Need-add-is-in-2
-add-is-in-2 c = omega (arith, c .before .before .before .before .before .before .before .before .before .before .pre .0 .few-arrows, c .before .before .before .before .before .before .before .before .before .before .pre .0 .few-users)
+add-is-in-2 c = let p = c .before .before .before .before .before .before .before .pre in
+    omega (arith, p .0 .few-arrows, p .0 .few-users, p .0 .few-files, p .4)
 
-add-is-in-3 : tie.Need-add-is-in-3
-add-is-in-3 c =
-    let start = c .before .before .before .before .before .before .before .before .before .before .before in
-    omega (arith, start .pre .0 .few-arrows, start .pre .0 .few-users, col-in (start .pre .0) (start .pre .2), start .pre .0 .few-files)
+is-in-requires : tie.Need-is-in-requires
+is-in-requires c κs = let p = c .before .before .before .before .before .before .before .pre in (omega (arith, p .4, p .0 .few-sets), p .1)
 
-is-in-requires-2 : tie.Need-is-in-requires-2
-is-in-requires-2 c κs =
-    let start = c .before .before .before .before .before .before .before .before .before .before .before in
-    (omega (arith, col-in (start .pre .0) (start .pre .2), start .pre .0 .few-sets), start .pre .1)
+returns-2 : tie.Need-returns-2
+returns-2 c = let start = c .before .before .before .before .before .before .before .before in
+    let a = start .args in
+    c .is-in .ensures
+    ∙ touched (start .pre .0) (a .k) (a .row) (a .col) (start .pre .4) (start .pre .5)
+    ∙ sym (stop-touches _ (a .work .now) (a .skip) (a .row * a .g .files + a .col) (c .before .before .before .if1 .left) (c .before .before .if2 .taken))
 
 returns-3 : tie.Need-returns-3
-returns-3 c =
-    let at-if3 = c .before .before .before in
-    let at-is-in = at-if3 .before in
-    let at-if2 = at-is-in .before .before .before in
-    let at-if1 = at-if2 .before in
-    let start = at-if1 .before .before .before .before in
-    c .is-in2 .ensures
-    ∙ touched (start .pre .0) (start .pre .2) (start .args .k) (sym (at-is-in .is-in .ensures) ∙ at-if3 .if3 .taken)
-    ∙ sym (stop-touches _ (start .args .work .now) (start .args .skip) (start .args .at .place) (omega (arith, at-if1 .if1 .left)) (at-if2 .if2 .left))
-
-returns-4 : tie.Need-returns-4
-returns-4 c =
-    let at-if2 = c .before .before .before .before in
-    let at-if1 = at-if2 .before in
-    let start = at-if1 .before .before .before .before in
-    c .if3 .left
-    ∙ row-passed (start .pre .0) (start .pre .2) (start .args .k) (sym (c .before .is-in .ensures) ∙ c .if3 .left)
-    ∙ sym (stop-touches _ (start .args .work .now) (start .args .skip) (start .args .at .place) (omega (arith, at-if1 .if1 .left)) (at-if2 .if2 .left))
+returns-3 c = let a = c .before .before .before .before .before .before .args in
+    ap not (eq-eqb _ (a .skip) (c .if2 .left))
+    ∙ sym (stop-skipped _ (a .work .now) (a .skip) (a .row * a .g .files + a .col) (c .before .if1 .left) (c .if2 .left))
 
 pub stops-at-spec : {M : Type 1} → statement M
 stops-at-spec =
-    tie.close (tie.spec shared-slice-read-byte returns returns-2 add-is-in is-in-requires add-is-in-2 add-is-in-3 is-in-requires-2
-    returns-3 returns-4)
+    tie.close (tie.spec mul-byte add-byte shared-slice-read-byte returns add-is-in add-is-in-2 is-in-requires returns-2 returns-3)
