@@ -1,4 +1,5 @@
 -- `sets::first_over` meets its contract: k is in the first set, and no number before it will do. Assumes nothing.
+use mathlib.Core.Path.{sym, _∙_}
 use Prim.Native.Nat.{_+_, _-_, _<_, _≤_}
 use native.Mathlib.Omega.{arith}
 use borrow.Author.Needs.{needs}
@@ -29,7 +30,7 @@ returns c =
     let at = c .before .before .before in
     let a = at .before .before .before .before .before .args in
     passed-found (a .table .now) (a .own .now) (a .opposite .now) (at .loop .k) (omega arith) (at .loop .inv .1 (omega arith))
-    (rw (← c .before .is-inside .ensures) (c .if1 .taken)) (at .loop .inv .2)
+    (sym (c .before .is-inside .ensures) ∙ c .if1 .taken) (at .loop .inv .2)
 
 loop-less : tie.Need-loop-less Inv-loop μ-loop
 loop-less c = omega (arith, c .next-in2 .ensures .from-on)
@@ -43,7 +44,7 @@ loop-again c =
       n .holds,
       passed-next (a .table .now) (a .own .now) (a .opposite .now) (at .loop .k + 1) (c .next-in2 .result)
           (passed-more (a .table .now) (a .own .now) (a .opposite .now) (at .loop .k) (at .loop .inv .2)
-          (rw (← c .before .before .is-inside .ensures) (c .before .if1 .left))) n,
+          (sym (c .before .before .is-inside .ensures) ∙ c .before .if1 .left)) n,
     )
 
 returns-2 : tie.Need-returns-2 Inv-loop μ-loop

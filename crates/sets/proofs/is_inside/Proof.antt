@@ -1,6 +1,6 @@
 -- `sets::is_inside` meets its contract: each word of the set before q is inside that of set r. Assumes nothing.
-use mathlib.Core.Path.{_≡_, sym}
-use Prim.Native.Nat.{ℕ, _-_, _<_, _≤_}
+use mathlib.Core.Path.{_≡_, sym, subst}
+use Prim.Native.Nat.{ℕ, _-_, _^_, _<_, _≤_}
 use native.Mathlib.Omega.{arith}
 use borrow.Author.Count.{below-more}
 use borrow.Author.Needs.{needs}
@@ -23,7 +23,7 @@ returns c =
     let a = at .before .before .before .args in
     let w = c .before .before .word in
     sym
-    (not-within (a .set .now) (a .table .now) (a .r) (at .loop .q) (omega arith) (rw (← w .ensures) (omega (arith, w .ok)))
+    (not-within (a .set .now) (a .table .now) (a .r) (at .loop .q) (omega arith) (subst (λ (z : ℕ). z < 2 ^ 64) (w .ensures) (omega (arith, w .ok)))
     (rw (← w .ensures, ← c .before .word2 .ensures) (c .if1 .taken)))
 
 loop-again : tie.Need-loop-again Inv-loop μ-loop
