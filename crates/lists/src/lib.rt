@@ -75,6 +75,14 @@ fn sign_byte(sign: u16) -> u8
     (sign % 256) as u8
 }
 
+// Whether arrow k reaches the user of a row.
+fn reaches_row(table: &[u64], g: Grid, k: usize, row: usize) -> bool
+    requires { ⌜ Laid (now table) g × (k < 512) × (row < g .users) ⌝ }
+    ensures { λ r. ⌜ r ≡ has (now (table .entry)) (g .arrows + row) k ⌝ }
+{
+    is_in(table, g.arrows + row, k)
+}
+
 // Whether arrow k, which reaches the user of the row, reaches the pair in a column of it, and the pair's byte says that it is not
 // reached yet and is none to skip.
 fn stops_at(table: &[u64], g: Grid, k: usize, work: &[u8], skip: u8, row: usize, col: usize) -> bool
@@ -102,7 +110,7 @@ fn stop_in_row(
     requires { ⌜ Laid (now table) g × (k < 512) × (g .pairs ≤ length (now work)) × (row < g .users) × (from ≤ g .files) ⌝ }
     ensures { λ r. ⌜ StopIn (touches (now (table .entry)) g k) (now (work .entry)) skip (row * g .files) from (g .files) r ⌝ }
 {
-    if !is_in(table, g.arrows + row, k) {
+    if !reaches_row(table, g, k, row) {
         return g.files;
     }
     for col in from..g.files {
@@ -203,7 +211,7 @@ fn mark_row(table: &[u64], g: Grid, k: usize, work: &mut [u8], row: usize)
     requires { ⌜ Laid (now table) g × (k < 512) × (g .pairs ≤ length (now work)) × (row < g .users) ⌝ }
     ensures { λ _. ⌜ ((w : List ℕ) → g .pairs ≤ length w → now (work .entry) ≡ markedTo (touches (now (table .entry)) g k) w (row * g .files) → now (work .exit) ≡ markedTo (touches (now (table .entry)) g k) w ((row + 1) * g .files)) ⌝ }
 {
-    if !is_in(table, g.arrows + row, k) {
+    if !reaches_row(table, g, k, row) {
         return;
     }
     for col in 0..g.files {
