@@ -170,6 +170,8 @@ rights_reply rights_list(
  *            then for each block in turn 15, 16, 17, then 2, then 9.
  *   Leaves   after DONE the rows in the three tables, places beyond them untouched. A refusal
  *            leaves all three untouched. What the rows say is not checked here.
+ *   Note     no block says how many there are: a file that is cut at the end of a block is a good
+ *            file with fewer rows. Know its length, or hold the three counts against your own.
  */
 rights_reply rights_read(
     const uint8_t *file, size_t file_len,

@@ -2,6 +2,7 @@
 pub mod Product
 pub mod Parts
 pub mod Placing
+pub mod JoinedLaws
 pub mod Heads
 pub mod Held
 pub mod Counting

@@ -1,14 +1,20 @@
--- The tables that are read have room for as many rows as the answer says. Assumes nothing.
-use mathlib.Core.Path.{sym}
+-- What the answer of reading says of the tables that are read. Assumes nothing.
+use mathlib.Core.Path.{_≡_, sym, ap, _∙_}
 use mathlib.Core.List.{List}
+use mathlib.Core.Option.{none, some}
 use Prim.Native.Nat.{ℕ, _*_, _≤_}
-use lib.ListN.{length}
+use lib.ListN.{length, take}
+use Rattle.tables.specs.declared.Refusal.{Refusal}
+use Rattle.tables.proofs.PartLaws.{part-is}
 use Rattle.tables.proofs.TableLaws.{both-none, room-passed}
-use Rattle.blocks.specs.Reads.{tablesFault, readFault, ReadDone}
+use Rattle.blocks.specs.Files.{blockAt, blockCount, boxesOf, containmentsOf, arrowsOf}
+use Rattle.blocks.specs.Reads.{countsIn, tablesFault, readFault, ReadDone}
 use Rattle.blocks.specs.declared.Counts.{Counts}
-use Rattle.blocks.specs.declared.Reading.the-variants.{Tables}
-use Rattle.blocks.proofs.Order.{answer-tables}
+use Rattle.blocks.specs.declared.Reading.the-variants.{Tables, Refused}
+use Rattle.blocks.proofs.Counting.{rows-length, arrows-length}
+use Rattle.blocks.proofs.Order.{answer-tables, answer-refused}
 
+-- they have room for as many rows as it says
 pub read-fits : {file boxes rows arrows boxesEnd rowsEnd arrowsEnd : List ℕ} {counts : Counts}
     → ReadDone file boxes rows arrows boxesEnd rowsEnd arrowsEnd (Tables counts)
     → (counts .boxes ≤ length boxes) × (2 * counts .containments ≤ length rows) × (4 * counts .arrows ≤ length arrows)
@@ -18,3 +24,42 @@ read-fits d =
     let room = both-none _ _ (both-none _ _ (both-none _ _ (clean .0) .1) .1) in
     let rest = both-none _ _ (room .1) in
     rw (← clean .1) (room-passed 5 _ _ (room .0), room-passed 6 _ _ (rest .0), room-passed 7 _ _ (rest .1))
+
+-- a refusal is that of the file
+pub read-stopped : {file boxes rows arrows boxesEnd rowsEnd arrowsEnd : List ℕ} {r : Refusal}
+    → ReadDone file boxes rows arrows boxesEnd rowsEnd arrowsEnd (Refused r)
+    → readFault file (length boxes) (length rows) (length arrows) ≡ some r
+read-stopped d = answer-refused _ _ _ (sym (d .answer))
+
+-- the counted rows are what the file says
+pub record ReadAs (file boxes rows arrows boxesEnd rowsEnd arrowsEnd : List ℕ) (counts : Counts) : Type 0 where
+  pub no-fault : readFault file (length boxes) (length rows) (length arrows) ≡ none
+  pub boxes-read : take (counts .boxes) boxesEnd ≡ boxesOf file
+  pub rows-read : take (2 * counts .containments) rowsEnd ≡ containmentsOf file
+  pub arrows-read : take (4 * counts .arrows) arrowsEnd ≡ arrowsOf file
+
+pub read-tables : {file boxes rows arrows boxesEnd rowsEnd arrowsEnd : List ℕ} {counts : Counts}
+    → ReadDone file boxes rows arrows boxesEnd rowsEnd arrowsEnd (Tables counts)
+    → ReadAs file boxes rows arrows boxesEnd rowsEnd arrowsEnd counts
+unfolding countsIn
+read-tables {file} {boxes} {rows} {arrows} {boxesEnd} {rowsEnd} {arrowsEnd} {counts} d =
+    let clean = answer-tables _ _ _ (sym (d .answer)) in
+    let good = clean .0 in
+    record {
+      no-fault = good;
+      boxes-read =
+          part-is (boxesOf file) boxes (counts .boxes) boxesEnd (
+            ap (λ (k : Counts). k .boxes) (sym (clean .1)),
+            rw good at (d .boxes-end),
+          );
+      rows-read =
+          part-is (containmentsOf file) rows (2 * counts .containments) rowsEnd (
+            ap (λ (k : Counts). 2 * k .containments) (sym (clean .1)) ∙ sym (rows-length (blockAt file) (blockCount file)),
+            rw good at (d .rows-end),
+          );
+      arrows-read =
+          part-is (arrowsOf file) arrows (4 * counts .arrows) arrowsEnd (
+            ap (λ (k : Counts). 4 * k .arrows) (sym (clean .1)) ∙ sym (arrows-length (blockAt file) (blockCount file)),
+            rw good at (d .arrows-end),
+          );
+    }

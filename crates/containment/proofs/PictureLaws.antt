@@ -35,3 +35,9 @@ picture-prepared boxes rows arrows s e =
     let early = both-none (earlyFault boxes rows arrows s) (loopFault boxes rows) e .0 in
     let two = both-none (tableFault boxes rows arrows) (scratchFault (length boxes) s) early in
     (prepared boxes rows arrows s (two .0) (two .1), early)
+
+-- of the scratch, the checks read its length only
+pub picture-room : (boxes rows arrows s t : List ℕ) → length s ≡ length t
+    → pictureFault boxes rows arrows s ≡ pictureFault boxes rows arrows t
+unfolding pictureFault earlyFault scratchFault
+picture-room boxes rows arrows s t e = rw e

@@ -1,221 +1,171 @@
-// Reads one block file from standard input and writes its listing (document 01, "The program's listing").
-ghost use Prim.Native.Nat.{_*_, _<_, _≤_};
+// Reads one block file, from standard input or by its name, and writes its listing (document 01, "The program's listing"). Which
+// bytes these are is promised by `listing`; here they only come in and go out. A failure of reading or writing gives a line on
+// standard error: a failed read gives no listing, and after a failed write nothing more goes out.
 ghost use mathlib.Core.Path.{_≡_};
-ghost use lib.ListN.{length};
+ghost use mathlib.Core.Option.{some};
+ghost use Prim.Native.Nat.{_*_, _≤_};
+ghost use lib.ListN.{length, take};
 ghost use Rattle.tables.specs.Steps.{SoundRows, SoundArrows};
 ghost use Rattle.containment.specs.Steps.{Says};
 ghost use Rattle.answers.specs.Table.{Tabled};
-use answers::Entry;
+ghost use Rattle.listing.specs.Files.{fileRefusal};
+ghost use Rattle.listing.specs.Numbered.{fileLineCount, fileLine, linesFrom};
+ghost use Rattle.listing.specs.Steps.{Read, Good};
+ghost use Rattle.rights.specs.Steps.{GotMost, SentAll};
 use blocks::Counts;
 use blocks::Reading;
+use libc::STDERR_FILENO;
 use libc::STDIN_FILENO;
 use libc::STDOUT_FILENO;
-use tables::Arrow;
 use tables::BoxRow;
 use tables::Refusal;
 use tables::Verdict;
 
-// ---- The output goes out in pieces of the buffer's size. Each function takes the place of the next byte and answers the one after.
+// ---- Input and output.
 
-fn put(out: &mut [u8], at: usize, b: u8) -> usize {
-    if at < out.len() {
-        out[at] = b;
-        return at + 1;
-    }
-    io::write_all(STDOUT_FILENO, out);
-    if 0 < out.len() {
-        out[0] = b;
-        return 1;
-    }
-    0
+// How many bytes were read, or that a read failed.
+enum Input {
+    Bytes(usize),
+    Failed,
 }
 
-fn put_text(out: &mut [u8], from: usize, text: &[u8]) -> usize {
-    let mut at = from;
-    for i in 0..text.len() {
-        at = put(out, at, text[i]);
-    }
-    at
-}
-
-fn put_number(out: &mut [u8], at: usize, n: usize) -> usize {
-    let mut digits = [0u8; 20];
-    let k = io::decimal(n as u64, &mut digits);
-    put_text(out, at, &digits[..k])
-}
-
-// A number after a space.
-fn put_next(out: &mut [u8], at: usize, n: usize) -> usize {
-    let next = put(out, at, b' ');
-    put_number(out, next, n)
-}
-
-fn put_three(out: &mut [u8], at: usize, a: usize, b: usize, c: usize) -> usize {
-    let x = put_next(out, at, a);
-    let y = put_next(out, x, b);
-    put_next(out, y, c)
-}
-
-fn put_refusal(out: &mut [u8], at: usize, r: Refusal) -> usize {
-    let x = put_text(out, at, b"refused");
-    let y = put_next(out, x, r.number as usize);
-    let z = put_three(out, y, r.first, r.second, r.third);
-    put(out, z, b'\n')
-}
-
-fn put_counts(out: &mut [u8], at: usize, boxes: usize, rows: usize, arrows: usize) -> usize {
-    let x = put_text(out, at, b"boxes");
-    let x = put_next(out, x, boxes);
-    let x = put_text(out, x, b" containments");
-    let x = put_next(out, x, rows);
-    let x = put_text(out, x, b" arrows");
-    let x = put_next(out, x, arrows);
-    put(out, x, b'\n')
-}
-
-// An answer: its word, and its arrows.
-fn put_answer(out: &mut [u8], at: usize, e: Entry) -> usize {
-    match e {
-        Entry::Granted(k) => {
-            let x = put_text(out, at, b" pos");
-            put_next(out, x, tables::wide(k))
-        }
-        Entry::Denied(k) => {
-            let x = put_text(out, at, b" neg");
-            put_next(out, x, tables::wide(k))
-        }
-        Entry::Default => put_text(out, at, b" neg -"),
-        Entry::Unclear(p, n) => {
-            let x = put_text(out, at, b" ambig");
-            let y = put_next(out, x, tables::wide(p));
-            put_next(out, y, tables::wide(n))
-        }
-    }
-}
-
-fn put_pair(out: &mut [u8], at: usize, mode: u16, u: u16, f: u16, e: Entry) -> usize {
-    let x = put_number(out, at, tables::wide(mode));
-    let x = put_next(out, x, tables::wide(u));
-    let x = put_next(out, x, tables::wide(f));
-    let x = put_answer(out, x, e);
-    put(out, x, b'\n')
-}
-
-// The last line: clear, or the first unclear pair.
-fn put_verdict(out: &mut [u8], at: usize, v: Verdict) -> usize {
-    match v {
-        Verdict::Passed => put_text(out, at, b"accepted\n"),
-        Verdict::Refused(r) => {
-            let x = put_text(out, at, b"ambiguous");
-            let y = put_three(out, x, r.first, r.second, r.third);
-            put(out, y, b'\n')
-        }
-    }
-}
-
-// ---- The pairs of each mode, by user, then file, from the table that was made once.
-
-// Whether the mode has an arrow.
-fn is_used(arrows: &[u16], mode: u16) -> bool {
-    for k in 0..arrows.len() / 4 {
-        if Arrow::at(arrows, k).mode == mode {
-            return true;
-        }
-    }
-    false
-}
-
-// The lines of a mode, if it has an arrow.
-fn put_pairs(
-    boxes: &[u8],
-    rows: &[u16],
-    arrows: &[u16],
-    users: &[u16],
-    files: &[u16],
-    table: &[u64],
-    mode: u16,
-    out: &mut [u8],
-    from: usize,
-) -> usize
-    requires { ⌜ Tabled (now boxes) (now rows) (now arrows) (now users) (now files) (now table) × (mode < 8) ⌝ }
+// Reads until the buffer is full, the input ends or a read fails.
+fn read_all(fd: i32, file: &mut [u8]) -> Input
+    ensures { λ r. ⌜ GotMost (length (now (file .exit))) r ⌝ }
 {
-    if !is_used(arrows, mode) {
-        return from;
+    let mut at = 0;
+    while at < file.len() {
+        let got = libc::read(fd, &mut file[at..]);
+        if got < 0 {
+            return Input::Failed;
+        }
+        let n = io::count(got, &file[at..]);
+        if n == 0 {
+            return Input::Bytes(at);
+        }
+        at += n;
     }
-    let mut at = from;
-    for p in 0..users.len() * files.len() {
-        let e = answers::answer_at(boxes, rows, arrows, users, files, table, mode, p);
-        let pair = answers::pair_at(boxes, rows, users, files, p);
-        at = put_pair(out, at, mode, pair.user, pair.file, e);
-    }
-    at
+    Input::Bytes(at)
 }
 
-// The lines of the modes that have an arrow.
-fn put_modes(
+// The only place where bytes go to standard output. They must be so many lines of the file's listing, from line `from` on: the file
+// is there for that. Answers whether they went out; if not, says why.
+fn send(file: &[u8], from: usize, lines: usize, bytes: &[u8]) -> bool
+    requires { ⌜ now bytes ≡ linesFrom (fileLine (now file)) from lines ⌝ }
+{
+    let is_out = io::write_all(STDOUT_FILENO, bytes);
+    if !is_out {
+        os::fail(b"rights: cannot write the listing");
+    }
+    is_out
+}
+
+// ---- The listing of a file. Each function answers how many of its lines went out: all, unless a write failed.
+
+struct Sent {
+    lines: usize,
+    failed: bool,
+}
+
+// The line of a refused file or picture.
+fn send_stopped(file: &[u8], r: Refusal) -> Sent
+    requires { ⌜ fileRefusal (now file) ≡ some r ⌝ }
+    ensures { λ s. ⌜ SentAll (fileLineCount (now (file .entry))) s ⌝ }
+{
+    let mut out = io::buffer();
+    let n = listing::stopped(r, &mut out);
+    let is_out = send(file, 0, 1, &out[..n]);
+    Sent {
+        lines: 1,
+        failed: !is_out,
+    }
+}
+
+// All lines of a picture, a buffer at a time.
+fn send_lines(
+    file: &[u8],
     boxes: &[u8],
     rows: &[u16],
     arrows: &[u16],
     users: &[u16],
     files: &[u16],
     table: &[u64],
-    out: &mut [u8],
-    from: usize,
-) -> usize
+) -> Sent
+    requires { ⌜ Good (now file) (now boxes) (now rows) (now arrows) ⌝ }
     requires { ⌜ Tabled (now boxes) (now rows) (now arrows) (now users) (now files) (now table) ⌝ }
+    ensures { λ s. ⌜ SentAll (fileLineCount (now (file .entry))) s ⌝ }
 {
-    let mut at = from;
-    for m in 0..8 {
-        at = put_pairs(boxes, rows, arrows, users, files, table, m, out, at);
+    let mut out = io::large_buffer();
+    let mut place = listing::start(arrows);
+    let count = listing::line_count(users, files, place);
+    while place.line < count {
+        let chunk = listing::fill(boxes, rows, arrows, users, files, table, place, &mut out);
+        let n = chunk.bytes;
+        let next = chunk.next;
+        if !send(file, place.line, next.line - place.line, &out[..n]) {
+            return Sent {
+                lines: place.line,
+                failed: true,
+            };
+        }
+        place = next;
     }
-    at
+    Sent {
+        lines: place.line,
+        failed: false,
+    }
 }
 
 // The listing of a picture whose containments are in the scratch.
-fn put_listing(boxes: &[u8], rows: &[u16], arrows: &[u16], scratch: &[u8], out: &mut [u8]) -> usize
-    requires { ⌜ SoundRows (now boxes) (now rows) × SoundArrows (now boxes) (now arrows) × Says (length (now boxes)) (now rows) (now scratch) ⌝ }
+fn list_picture(file: &[u8], boxes: &[u8], rows: &[u16], arrows: &[u16], scratch: &[u8]) -> Sent
+    requires { ⌜ Good (now file) (now boxes) (now rows) (now arrows) ⌝ }
+    requires { ⌜ SoundRows (now boxes) (now rows) × SoundArrows (now boxes) (now arrows) ⌝ }
+    requires { ⌜ Says (length (now boxes)) (now rows) (now scratch) ⌝ }
+    ensures { λ s. ⌜ SentAll (fileLineCount (now (file .entry))) s ⌝ }
 {
     let mut u = answers::no_boxes();
     let mut f = answers::no_boxes();
     let mut table = answers::no_words();
     let s = answers::tabulate(boxes, rows, scratch, arrows, &mut u, &mut f, &mut table);
-    let users = &u[..s.users];
-    let files = &f[..s.files];
-    let head = put_counts(out, 0, boxes.len(), rows.len() / 2, arrows.len() / 4);
-    let at = put_modes(boxes, rows, arrows, users, files, &table, out, head);
-    let v = answers::first_mode(boxes, rows, arrows, users, files, &table);
-    put_verdict(out, at, v)
+    send_lines(
+        file,
+        boxes,
+        rows,
+        arrows,
+        &u[..s.users],
+        &f[..s.files],
+        &table,
+    )
 }
 
 // The listing of a picture, or its refusal.
-fn put_picture(
-    boxes: &[u8],
-    rows: &[u16],
-    arrows: &[u16],
-    scratch: &mut [u8],
-    out: &mut [u8],
-) -> usize {
-    let v = containment::prepare(boxes, rows, arrows, scratch);
-    if let Verdict::Refused(r) = v {
-        return put_refusal(out, 0, r);
-    }
-    put_listing(boxes, rows, arrows, scratch, out)
-}
-
-fn flush(out: &[u8], at: usize) {
-    if at <= out.len() {
-        io::write_all(STDOUT_FILENO, &out[..at]);
-    }
-}
-
-// ---- Room for the file, with a byte more than the longest, for its tables and for the scratch.
-
-fn file_bytes() -> [u8; 32769]
-    ensures { λ r. ⌜ 32769 ≡ length r ⌝ }
+fn list_tables(file: &[u8], boxes: &[u8], rows: &[u16], arrows: &[u16]) -> Sent
+    requires { ⌜ Read (now file) (now boxes) (now rows) (now arrows) ⌝ }
+    ensures { λ s. ⌜ SentAll (fileLineCount (now (file .entry))) s ⌝ }
 {
-    [0; 32769]
+    let mut scratch = io::large_buffer();
+    let v = containment::prepare(boxes, rows, arrows, &mut scratch);
+    if let Verdict::Refused(r) = v {
+        return send_stopped(file, r);
+    }
+    list_picture(file, boxes, rows, arrows, &scratch)
 }
 
+// The same for tables that were read, by their row counts.
+fn list_counted(file: &[u8], c: Counts, boxes: &[u8], rows: &[u16], arrows: &[u16]) -> Sent
+    requires { ⌜ (c .boxes ≤ length (now boxes)) × (2 * c .containments ≤ length (now rows))
+        × (4 * c .arrows ≤ length (now arrows)) ⌝ }
+    requires { ⌜ Read (now file) (take (c .boxes) (now boxes))
+        (take (2 * c .containments) (now rows)) (take (4 * c .arrows) (now arrows)) ⌝ }
+    ensures { λ s. ⌜ SentAll (fileLineCount (now (file .entry))) s ⌝ }
+{
+    let nb = c.boxes;
+    let nr = 2 * c.containments;
+    let na = 4 * c.arrows;
+    list_tables(file, &boxes[..nb], &rows[..nr], &arrows[..na])
+}
+
+// Room for the tables, and for the file with a byte more than the longest.
 fn box_bytes() -> [u8; BoxRow::LIMIT]
     ensures { λ r. ⌜ 256 ≡ length r ⌝ }
 {
@@ -228,54 +178,80 @@ fn table_numbers() -> [u16; 2048]
     [0; 2048]
 }
 
-// What is read, and what is to be written for it.
-fn put_file(
-    file: &[u8],
-    boxes: &mut [u8],
-    rows: &mut [u16],
-    arrows: &mut [u16],
-    scratch: &mut [u8],
-    out: &mut [u8],
-) -> usize {
-    let reading = blocks::read(file, boxes, rows, arrows);
-    match reading {
-        Reading::Refused(r) => put_refusal(out, 0, r),
-        Reading::Tables(c) => put_tables(c, boxes, rows, arrows, scratch, out),
-    }
-}
-
-// The tables that were read, by their row counts.
-fn put_tables(
-    c: Counts,
-    boxes: &[u8],
-    rows: &[u16],
-    arrows: &[u16],
-    scratch: &mut [u8],
-    out: &mut [u8],
-) -> usize
-    requires { ⌜ (c .boxes ≤ length (now boxes)) × (2 * c .containments ≤ length (now rows)) × (4 * c .arrows ≤ length (now arrows)) ⌝ }
+fn file_bytes() -> [u8; 32769]
+    ensures { λ r. ⌜ 32769 ≡ length r ⌝ }
 {
-    let nb = c.boxes;
-    let nr = 2 * c.containments;
-    let na = 4 * c.arrows;
-    put_picture(&boxes[..nb], &rows[..nr], &arrows[..na], scratch, out)
+    [0; 32769]
 }
 
-fn main() {
-    let mut file = file_bytes();
-    let got = io::read_full(STDIN_FILENO, &mut file);
+// The listing of what was read.
+fn list(file: &[u8]) -> Sent
+    ensures { λ s. ⌜ SentAll (fileLineCount (now (file .entry))) s ⌝ }
+{
     let mut boxes = box_bytes();
     let mut rows = table_numbers();
     let mut arrows = table_numbers();
-    let mut scratch = io::large_buffer();
-    let mut out = io::large_buffer();
-    let at = put_file(
-        &file[..got],
-        &mut boxes,
-        &mut rows,
-        &mut arrows,
-        &mut scratch,
-        &mut out,
+    let reading = blocks::read(file, &mut boxes, &mut rows, &mut arrows);
+    match reading {
+        Reading::Refused(r) => send_stopped(file, r),
+        Reading::Tables(c) => list_counted(file, c, &boxes, &rows, &arrows),
+    }
+}
+
+// ---- Which file is read.
+
+fn list_from(fd: i32) {
+    let mut file = file_bytes();
+    let input = read_all(fd, &mut file);
+    let Input::Bytes(n) = input else {
+        os::fail(b"rights: cannot read the file");
+        return;
+    };
+    list(&file[..n]);
+}
+
+fn list_named(name: &[u8]) {
+    let fd = os::open_read(name);
+    if fd < 0 {
+        io::write_all(STDERR_FILENO, b"rights: ");
+        os::fail(name);
+        return;
+    }
+    list_from(fd);
+    libc::close(fd);
+}
+
+fn usage() {
+    io::write_all(STDERR_FILENO, b"usage: rights [FILE]\n");
+    io::write_all(
+        STDERR_FILENO,
+        b"Lists the rights of the picture in a block file: FILE, or standard input.\n",
     );
-    flush(&out, at);
+    io::write_all(
+        STDERR_FILENO,
+        b"A listing is whole if its last line is accepted, ambiguous .. or refused ..\n",
+    );
+}
+
+fn main() {
+    let count = os::arg_count();
+    if 2 < count {
+        usage();
+        return;
+    }
+    if count < 2 {
+        list_from(STDIN_FILENO);
+        return;
+    }
+    let mut name = io::buffer();
+    let n = os::arg(1, &mut name);
+    if os::errno() != 0 {
+        os::fail(b"rights: argument");
+        return;
+    }
+    if check::same(&name[..n], b"--help") {
+        usage();
+        return;
+    }
+    list_named(&name[..n]);
 }

@@ -10,3 +10,4 @@ pub mod SelectLaws
 pub mod AtomPlaces
 pub mod PartLaws
 pub mod AtomSides
+pub mod FoldLaws

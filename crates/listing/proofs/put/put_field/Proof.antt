@@ -1,0 +1,17 @@
+-- `listing::put::put_field` meets its contract: a space, then the number. Assumes nothing.
+use Rattle.listing.proofs.PutLaws.{chain}
+use Rattle.listing.specs.Text.{text}
+use borrow.Author.Needs.{needs}
+use Rattle.listing.proofs.put.put_field.Statement.{statement}
+use Rattle.listing.proofs.put.put_field.Tie as tie
+
+returns : tie.Need-returns
+unfolding text
+returns c =
+    let number = c .before .before in
+    let space = number .before .before .before .before in
+    chain (space .put-text .ensures) (number .put-number .ensures)
+
+pub put-field-spec : {M : Type 1} → statement M
+put-field-spec =
+    tie.close (tie.spec (λ c. search needs) (λ c κs. search needs) (λ c κs. search needs) (λ c. search needs) returns)

@@ -1,0 +1,71 @@
+-- The listings of the lettered pictures A to J (document 01), and of one with a default answer; B's is the document's text. Numbers in
+-- decimal. Assumes nothing.
+use mathlib.Core.Path.{_≡_, refl}
+use mathlib.Core.List.{List, [], _∷_, map}
+use Prim.Native.Nat.{ℕ, _*_}
+use Prim.Native.String.{String}
+use lib.ListN.{length}
+use Rattle.tables.specs.Search.{orElse, given, first, lowest, every, select}
+use Rattle.tables.specs.Buffers.{zeros}
+use Rattle.tables.specs.Rows.{sideOf, onSide}
+use Rattle.tables.specs.Atoms.{outer, atom, atoms, pairCount}
+use Rattle.tables.specs.Faults.{raggedFault, countFault, byteFault, namesNoBox, acrossSides, wrongEnds, wrongMode}
+use Rattle.tables.specs.Faults.{rowFault, tableFault, roomFault}
+use Rattle.containment.specs.Contains.{contains, around, loopFault}
+use Rattle.containment.specs.Scratch.{scratchFault, earlyFault, pictureFault}
+use Rattle.answers.specs.Cases.{Picture, picture-A, picture-B, picture-C, picture-D, picture-E, picture-F, picture-G}
+use Rattle.answers.specs.Cases.{picture-H, picture-I, picture-J}
+use Rattle.answers.specs.Meaning.{hasMode, modeArrows, reaches, nests, level, overrides, settle, hits, certifies, answer, isUnclear}
+use Rattle.answers.specs.Pairs.{userAt, fileAt, firstPair, answerAt, unclearFault, anyUnclear}
+use Rattle.blocks.specs.Blocks.{joined}
+use Rattle.listing.specs.Text.{text, digit, decimalTo, decimal, line}
+use Rattle.listing.specs.Lines.{answerFields, threeFields, lineText}
+use Rattle.listing.specs.Listing.{used, countsLine, pairLine, modeText, pictureListing}
+use Rattle.listing.specs.Files.{refusedOr}
+
+-- the listing of a picture, with a scratch that suffices
+unfoldable pub listingOf : Picture → List ℕ
+listingOf p =
+    let n = length (p .boxes) in
+    refusedOr (pictureFault (p .boxes) (p .rows) (p .arrows) (zeros (n * n))) (pictureListing (p .boxes) (p .rows) (p .arrows))
+
+-- users 0 and 1, file 2; an arrow from 0 to 2 in mode 7
+unfoldable pub picture-default : Picture
+picture-default = record { boxes = 0 ∷ 0 ∷ 1 ∷ []; rows = []; arrows = 0 ∷ 2 ∷ 7 ∷ 1 ∷ [] }
+
+unfoldable pub table : List (Picture × String)
+table =
+    (picture-A, "boxes 0 containments 0 arrows 0\naccepted\n")
+    ∷ (picture-B, "boxes 4 containments 2 arrows 2\n0 0 3 pos 0\n0 1 3 neg 1\naccepted\n")
+    ∷ (picture-C, "boxes 2 containments 0 arrows 2\n0 0 1 ambig 0 1\nambiguous 0 0 1\n")
+    ∷ (picture-D, "boxes 4 containments 2 arrows 2\n0 0 3 ambig 0 1\nambiguous 0 0 3\n")
+    ∷ (picture-E, "boxes 4 containments 2 arrows 3\n0 0 3 pos 2\naccepted\n")
+    ∷ (picture-F, "boxes 4 containments 2 arrows 2\n0 0 2 ambig 0 1\nambiguous 0 0 2\n")
+    ∷ (picture-G, "boxes 2 containments 0 arrows 0\naccepted\n")
+    ∷ (picture-H, "refused 10 0 0 0\n")
+    ∷ (picture-I, "boxes 3 containments 1 arrows 2\n0 0 2 pos 0\naccepted\n")
+    ∷ (picture-J, "boxes 12 containments 12 arrows 4\n0 0 6 neg 1\n0 0 7 pos 0\n0 1 6 pos 2\n0 1 7 neg 3\naccepted\n")
+    ∷ (picture-default, "boxes 3 containments 0 arrows 1\n7 0 2 pos 0\n7 1 2 neg -\naccepted\n")
+    ∷ []
+
+pub listings-right : map (λ c. listingOf (c .0)) table ≡ map (λ c. text (c .1)) table
+unfolding listingOf table picture-A picture-B picture-C picture-D picture-E picture-F picture-G picture-H picture-I picture-J
+    picture-default text digit decimalTo decimal line answerFields threeFields lineText used countsLine pairLine modeText
+    pictureListing refusedOr joined zeros orElse given first lowest every select sideOf onSide outer atom atoms pairCount
+    raggedFault countFault byteFault namesNoBox acrossSides wrongEnds wrongMode rowFault tableFault roomFault contains around
+    loopFault scratchFault earlyFault pictureFault hasMode modeArrows reaches nests level overrides settle hits certifies
+    answer isUnclear userAt fileAt firstPair answerAt unclearFault anyUnclear
+listings-right = refl
+
+-- the document's text for the picture of case B
+pub case-B : pictureListing (picture-B .boxes) (picture-B .rows) (picture-B .arrows)
+    ≡ text "boxes 4 containments 2 arrows 2\n0 0 3 pos 0\n0 1 3 neg 1\naccepted\n"
+unfolding picture-B text digit decimalTo decimal line answerFields threeFields lineText used countsLine pairLine modeText pictureListing
+    joined orElse given first lowest every select sideOf onSide outer atom atoms pairCount contains around hasMode modeArrows reaches
+    nests level overrides settle hits certifies answer isUnclear userAt fileAt firstPair answerAt unclearFault anyUnclear
+case-B = refl
+
+-- one digit, more, and zeros inside
+pub numbers-right : map decimal (0 ∷ 7 ∷ 10 ∷ 1024 ∷ 32769 ∷ []) ≡ map text ("0" ∷ "7" ∷ "10" ∷ "1024" ∷ "32769" ∷ [])
+unfolding text digit decimalTo decimal
+numbers-right = refl

@@ -1,0 +1,7 @@
+pub mod Text
+pub mod Lines
+pub mod Listing
+pub mod Files
+pub mod Numbered
+pub mod Steps
+pub mod Cases

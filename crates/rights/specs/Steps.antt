@@ -1,0 +1,16 @@
+-- What the functions ask of and promise each other. Assumes nothing.
+use mathlib.Core.Path.{_≡_}
+use mathlib.Core.Bool.{false}
+use Prim.Native.Nat.{ℕ, _≤_}
+use Rattle.rights.specs.declared.Input.{Input}
+use Rattle.rights.specs.declared.Input.the-variants.{Bytes, Failed}
+use Rattle.rights.specs.declared.Sent.{Sent}
+
+-- no more bytes than the buffer has
+abbrev pub GotMost : ℕ → Input → Type 0
+GotMost most (Bytes n) = n ≤ most
+GotMost most Failed = Unit
+
+-- unless a write failed, so many lines went out
+abbrev pub SentAll : ℕ → Sent → Type 0
+SentAll count s = s .failed ≡ false → s .lines ≡ count
