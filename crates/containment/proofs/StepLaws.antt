@@ -28,18 +28,19 @@ same-trans h g = record { len = g .len ∙ h .len; rest = λ p l. g .rest p l �
 
 -- ---- clear
 
-module _ (n : ℕ) (s : List ℕ) (room : n * n ≤ length s) where
-  pub cleared : Cells n (direct []) (written (zeros (n * n)) s)
-  unfolding direct bit
-  cleared a b la lb =
-      let l = in-table n n a b la lb in
-      written-at (zeros (n * n)) s (a * n + b) (rw zeros-length l) ∙ zeros-at (n * n) (a * n + b) l
+-- n × n places or more are 0
+pub cleared : (n m : ℕ) (s : List ℕ) → n * n ≤ m → Cells n (direct []) (written (zeros m) s)
+unfolding direct bit
+cleared n m s h a b la lb =
+    let l : a * n + b < m = omega (arith, in-table n n a b la lb) in
+    written-at (zeros m) s (a * n + b) (rw zeros-length l) ∙ zeros-at m (a * n + b) l
 
-  pub cleared-rest : SameFrom (n * n) s (written (zeros (n * n)) s)
-  cleared-rest = record {
-    len = written-length (zeros (n * n)) s (rw zeros-length room);
-    rest = λ p l. written-rest (zeros (n * n)) s p (rw zeros-length l);
-  }
+-- and no more than that
+pub cleared-rest : (n : ℕ) (s : List ℕ) → n * n ≤ length s → SameFrom (n * n) s (written (zeros (n * n)) s)
+cleared-rest n s room = record {
+  len = written-length (zeros (n * n)) s (rw zeros-length room);
+  rest = λ p l. written-rest (zeros (n * n)) s p (rw zeros-length l);
+}
 
 -- ---- mark
 
