@@ -4,6 +4,7 @@ pub mod Parts
 pub mod Placing
 pub mod Heads
 pub mod Held
+mod ReaderCalls
 pub mod Counting
 pub mod Order
 pub mod Rooms
