@@ -15,6 +15,7 @@ use Rattle.tables.specs.Refusals.{inItself}
 use Rattle.containment.specs.Contains.{Row, here, later, Chain, one, more, contains, around, loopFault}
 use Rattle.tables.proofs.Tests.{or-T, T-or₁, T-or₂, and-T, T-and, T-same}
 use Rattle.tables.proofs.SearchLaws.{first-none, given-none}
+use Rattle.tables.proofs.RowLaws.{outer-none, outer-odd, outer-more}
 
 -- ---- one row more
 
@@ -105,9 +106,8 @@ contains-trans rows a b c s t = chain-contains (join (contains-chain rows a b s)
 -- ---- an atomic box contains nothing, and a box that contains nothing is the outer box of no row
 
 row-outer : {rows : List ℕ} {a b : ℕ} → Row rows a b → T (outer rows a)
-unfolding outer
-row-outer (here {a = a} {rows = rows}) = T-or₁ (eqb a a) (outer rows a) (eqb-refl a)
-row-outer (later {x = x} {a = a} {rows = rows} r) = T-or₂ (eqb x a) (outer rows a) (row-outer r)
+row-outer (here {a = a} {rows = rows}) = rw outer-more (T-or₁ (eqb a a) (outer rows a) (eqb-refl a))
+row-outer (later {x = x} {a = a} {rows = rows} r) = rw outer-more (T-or₂ (eqb x a) (outer rows a) (row-outer r))
 
 chain-outer : {rows : List ℕ} {a b : ℕ} → Chain rows a b → T (outer rows a)
 chain-outer (one r) = row-outer r
@@ -117,10 +117,9 @@ pub contains-outer : (rows : List ℕ) (a b : ℕ) → T (contains rows a b) →
 contains-outer rows a b t = chain-outer (contains-chain rows a b t)
 
 pub outer-contains : (rows : List ℕ) (a : ℕ) → T (outer rows a) → (b : ℕ) × T (contains rows a b)
-unfolding outer
-outer-contains [] a t = absurd t
-outer-contains (x ∷ []) a t = absurd t
-outer-contains (x ∷ y ∷ rows) a t = go (or-T (eqb x a) (outer rows a) t) (outer-contains rows a)
+outer-contains [] a t = absurd (rw outer-none at t)
+outer-contains (x ∷ []) a t = absurd (rw outer-odd at t)
+outer-contains (x ∷ y ∷ rows) a t = go (or-T (eqb x a) (outer rows a) (rw outer-more at t)) (outer-contains rows a)
   where
     go : T (eqb x a) ⊎ T (outer rows a) → (T (outer rows a) → (b : ℕ) × T (contains rows a b)) → (b : ℕ) × T (contains (x ∷ y ∷ rows) a b)
     go (inl e) ih = (y, subst (λ (z : ℕ). T (contains (x ∷ y ∷ rows) z y)) (eqb→eq x a e) (row-contains here))
