@@ -7,3 +7,4 @@ pub mod TableLaws
 pub mod CallLaws
 pub mod ModeLaws
 pub mod GrantLaws
+pub mod SameRows
