@@ -142,18 +142,16 @@ module _ (boxes rows : List ℕ) where
 
 -- the loop that looks for the first unclear pair of a mode
 module _ (boxes rows arrows : List ℕ) (m : ℕ) where
-  unfoldable pub unclearAt : ℕ → Option Refusal
+  abbrev pub unclearAt : ℕ → Option Refusal
   unclearAt p = given (isUnclear (answerAt boxes rows arrows m p)) (unclearPair m (userAt boxes rows p) (fileAt boxes rows p))
 
   pub unclear-none : (p : ℕ) → isUnclear (answerAt boxes rows arrows m p) ≡ false → unclearAt p ≡ none
-  unfolding unclearAt
   unclear-none p e = given-false _ _ e
 
   pub unclear-some : (p : ℕ) → isUnclear (answerAt boxes rows arrows m p) ≡ true
       → unclearAt p ≡ some (unclearPair m (userAt boxes rows p) (fileAt boxes rows p))
-  unfolding unclearAt
   unclear-some p e = given-true _ _ e
 
   pub unclear-is : unclearFault boxes rows arrows m ≡ first unclearAt (pairCount boxes rows)
-  unfolding unclearFault firstPair answerAt unclearAt
+  unfolding unclearFault firstPair answerAt
   unclear-is = refl
