@@ -98,12 +98,24 @@ def read(file, lent):
     return ("counts", *counts), found
 
 
+def after(file, place):
+    """The head of the block that a reader sees once it has moved on from its place; behind the last block it stays."""
+    places = range(len(file) // 512)
+    place += place in places
+    if place not in places:
+        return ["none"]
+    b = file[512 * place:512 * place + 8]
+    return ["block", b[0], b[1], b[2] + 256 * b[3], b[4] + 256 * b[5], b[6], b[7]]
+
+
 CASES = []
 
 
 def case(name, file, lent=(300, 2100, 2100)):
     words, (boxes, rows, arrows) = read(file, lent)
-    CASES.append((f"file {name}", (file, *lent), [(words, [boxes], [rows, arrows])]))
+    blocks = len(file) // 512
+    moves = after(file, 0) + [":"] + after(file, max(blocks - 1, 0)) + [":"] + after(file, blocks)
+    CASES.append((f"file {name}", (file, *lent), [(words, [boxes], [rows, arrows]), (moves, [], [])]))
 
 
 def vector(name, data, check):

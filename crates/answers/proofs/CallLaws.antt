@@ -19,7 +19,7 @@ use Rattle.tables.proofs.Tests.{and-T}
 use Rattle.tables.proofs.SearchLaws.{given-none}
 use Rattle.tables.proofs.TableLaws.{both-none, not-not, mode-passed, room-passed}
 use Rattle.tables.proofs.AtomPlaces.{atom-there}
-use Rattle.tables.proofs.Verdicts.{passed, refused, either-verdict, orElse-assoc}
+use Rattle.tables.proofs.Verdicts.{passed, refused, past, stop, either-verdict, orElse-assoc}
 use Rattle.containment.specs.Contains.{loopFault}
 use Rattle.containment.specs.Scratch.{filled, scratchFault, scratchAfter}
 use Rattle.answers.specs.Meaning.{answer}
@@ -61,24 +61,28 @@ module _ (boxes rows arrows s : List ℕ) (m : ℕ) where
         × (t ≡ scratchAfter (entryEarly boxes rows arrows s m) boxes rows s)
 
     pub entry-tables : (r : Refusal) → Tables (Stopped r) → EntryEnds (Refused r) s
-    unfolding orElse entryEarly entryFault replyOf
-    entry-tables r t = let e = refused (tableFault boxes rows arrows) r t in (rw (e, orElse), rw (e, orElse))
+    unfolding entryEarly entryFault replyOf
+    entry-tables r t =
+        let e = stop _ early (refused (tableFault boxes rows arrows) r t) in
+        (rw (stop _ late e), rw e)
 
     pub entry-early : (r : Refusal) → Tables Passed → verdictOf early ≡ Stopped r → EntryEnds (Refused r) s
-    unfolding orElse entryEarly entryFault replyOf
+    unfolding entryEarly entryFault replyOf
     entry-early r t v =
-        let e = passed (tableFault boxes rows arrows) t in
-        let g = refused early r v in
-        (rw (e, orElse, g, orElse), rw (e, orElse, g, orElse))
+        let e = past _ early (passed (tableFault boxes rows arrows) t) ∙ refused early r v in
+        (rw (stop _ late e), rw e)
 
     module _ (t : Tables Passed) (v : verdictOf early ≡ Passed) where
+      early-none : entryEarly boxes rows arrows s m ≡ none
+      unfolding entryEarly
+      early-none = past _ early (passed (tableFault boxes rows arrows) t) ∙ passed early v
+
       scratch-is : filled (length boxes) rows s ≡ scratchAfter (entryEarly boxes rows arrows s m) boxes rows s
-      unfolding orElse entryEarly
-      scratch-is = rw (passed (tableFault boxes rows arrows) t, orElse, passed early v)
+      scratch-is = rw early-none
 
       fault-is : entryFault boxes rows arrows s m u f ≡ late
-      unfolding orElse entryEarly entryFault
-      fault-is = rw (passed (tableFault boxes rows arrows) t, orElse, passed early v, orElse)
+      unfolding entryFault
+      fault-is = past _ late early-none
 
       pub entry-late : (r : Refusal) → verdictOf late ≡ Stopped r → EntryEnds (Refused r) (filled (length boxes) rows s)
       unfolding replyOf
@@ -129,30 +133,29 @@ module _ (boxes rows arrows s : List ℕ) (m : ℕ) where
     ends o e p q = (rw p, (rw q, (rw p, rw p)))
 
     pub matrix-tables : (r : Refusal) → Tables (Stopped r) → MatrixEnds (Stopped r) s bytes numbers
-    unfolding orElse matrixEarly matrixFault
+    unfolding matrixEarly matrixFault
     matrix-tables r t =
-        let e = refused (tableFault boxes rows arrows) r t in
-        ends (some r) (some r) (rw (e, orElse)) (rw (e, orElse))
+        let e = stop _ rest (refused (tableFault boxes rows arrows) r t) in
+        ends (some r) (some r) (stop _ (loopFault boxes rows) e) e
 
     pub matrix-early : (r : Refusal) → Tables Passed → verdictOf rest ≡ Stopped r → MatrixEnds (Stopped r) s bytes numbers
-    unfolding orElse matrixEarly matrixFault
+    unfolding matrixEarly matrixFault
     matrix-early r t v =
-        let e = passed (tableFault boxes rows arrows) t in
-        let g = refused rest r v in
-        ends (some r) (some r) (rw (e, orElse, g, orElse)) (rw (e, orElse, g))
+        let e = past _ rest (passed (tableFault boxes rows arrows) t) ∙ refused rest r v in
+        ends (some r) (some r) (stop _ (loopFault boxes rows) e) e
 
     module _ (t : Tables Passed) (v : verdictOf rest ≡ Passed) where
-      early-none : matrixEarly boxes rows arrows s m bytes numbers ≡ none
-      unfolding orElse matrixEarly
-      early-none = rw (passed (tableFault boxes rows arrows) t, orElse, passed rest v)
+      matrix-none : matrixEarly boxes rows arrows s m bytes numbers ≡ none
+      unfolding matrixEarly
+      matrix-none = past _ rest (passed (tableFault boxes rows arrows) t) ∙ passed rest v
 
       loops-is : matrixFault boxes rows arrows s m bytes numbers ≡ loopFault boxes rows
-      unfolding orElse matrixFault
-      loops-is = rw (early-none, orElse)
+      unfolding matrixFault
+      loops-is = past _ (loopFault boxes rows) matrix-none
 
       pub matrix-loops : (r : Refusal) → verdictOf (loopFault boxes rows) ≡ Stopped r → MatrixEnds (Stopped r) (filled (length boxes) rows s) bytes numbers
-      matrix-loops r w = ends (some r) none (loops-is ∙ refused (loopFault boxes rows) r w) early-none
+      matrix-loops r w = ends (some r) none (loops-is ∙ refused (loopFault boxes rows) r w) matrix-none
 
       pub matrix-filled : verdictOf (loopFault boxes rows) ≡ Passed
           → MatrixEnds Passed (filled (length boxes) rows s) (written (matrixBytes boxes rows arrows m) bytes) (written (matrixNumbers boxes rows arrows m) numbers)
-      matrix-filled w = ends none none (loops-is ∙ passed (loopFault boxes rows) w) early-none
+      matrix-filled w = ends none none (loops-is ∙ passed (loopFault boxes rows) w) matrix-none

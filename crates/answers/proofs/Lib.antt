@@ -8,3 +8,4 @@ pub mod CallLaws
 pub mod ModeLaws
 pub mod GrantLaws
 pub mod ClearLaws
+pub mod SameRows

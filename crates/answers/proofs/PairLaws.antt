@@ -15,7 +15,7 @@ use Rattle.tables.specs.Atoms.{atom, atoms, pairCount}
 use Rattle.tables.specs.Refusals.{unclearPair}
 use Rattle.tables.specs.declared.Refusal.{Refusal}
 use Rattle.tables.proofs.SearchLaws.{first-none, first-some, given-some, given-none, given-true, given-false}
-use Rattle.tables.proofs.AtomPlaces.{atoms-found, atoms-has, atoms-before, atoms-same, atoms-most}
+use Rattle.tables.proofs.AtomPlaces.{pairCount-is, atoms-found, atoms-has, atoms-before, atoms-same, atoms-most}
 use Rattle.containment.proofs.Index.{in-table, at-div, at-mod, place, row-step}
 use Rattle.answers.specs.Pairs.{userAt, fileAt, firstPair, answerAt, unclearFault}
 use Rattle.answers.specs.Meaning.{isUnclear}
@@ -38,25 +38,30 @@ abbrev pub Before : ℕ → ℕ → ℕ → ℕ → Type 0
 Before u f v g = (u < v) ⊎ ((u ≡ v) × (f < g))
 
 module _ (boxes rows : List ℕ) where
+  -- the row and the column of a place
+  pair-in : (p : ℕ) → p < pairCount boxes rows
+      → (p / length (atoms boxes rows file) < length (atoms boxes rows user)) × (p % length (atoms boxes rows file) < length (atoms boxes rows file))
+  pair-in p h = place-in (length (atoms boxes rows user)) (length (atoms boxes rows file)) p (rw pairCount-is at h)
+
   -- what stands at a place is a pair of atomic boxes
   pub userAt-atom : (p : ℕ) → p < pairCount boxes rows → T (atom boxes rows user (userAt boxes rows p))
-  unfolding userAt pairCount
-  userAt-atom p h = atoms-found boxes rows user (p / length (atoms boxes rows file)) (place-in _ _ p h .0)
+  unfolding userAt
+  userAt-atom p h = atoms-found boxes rows user (p / length (atoms boxes rows file)) (pair-in p h .0)
 
   pub fileAt-atom : (p : ℕ) → p < pairCount boxes rows → T (atom boxes rows file (fileAt boxes rows p))
-  unfolding fileAt pairCount
-  fileAt-atom p h = atoms-found boxes rows file (p % length (atoms boxes rows file)) (place-in (length (atoms boxes rows user)) _ p h .1)
+  unfolding fileAt
+  fileAt-atom p h = atoms-found boxes rows file (p % length (atoms boxes rows file)) (pair-in p h .1)
 
   -- and each such pair has a place
   pub pair-place : (u f : ℕ) → T (atom boxes rows user u) → T (atom boxes rows file f)
       → (p : ℕ) × (p < pairCount boxes rows) × (userAt boxes rows p ≡ u) × (fileAt boxes rows p ≡ f)
-  unfolding userAt fileAt pairCount
+  unfolding userAt fileAt
   pair-place u f a b =
       let n = length (atoms boxes rows file) in
       let i = atoms-has boxes rows user u a in
       let j = atoms-has boxes rows file f b in (
         i .0 * n + j .0,
-        in-table (length (atoms boxes rows user)) n (i .0) (j .0) (i .1) (j .1),
+        rw pairCount-is (in-table (length (atoms boxes rows user)) n (i .0) (j .0) (i .1) (j .1)),
         rw (at-div n (i .0) (j .0) (j .1)) (i .2),
         rw (at-mod n (i .0) (j .0) (j .1)) (j .2),
       )
@@ -68,12 +73,10 @@ module _ (boxes rows : List ℕ) where
   -- a pair read out of the two lists by its place
   module _ (us fs : List ℕ) (eu : us ≡ atoms boxes rows user) (ef : fs ≡ atoms boxes rows file) (p : ℕ) where
     pub place-there : p < pairCount boxes rows → (p / length fs < length us) × (p % length fs < length fs)
-    unfolding pairCount
-    place-there h = rw (eu, ef) (place-in _ _ p h)
+    place-there h = rw (eu, ef) (pair-in p h)
 
     pub pairs-are : length us * length fs ≡ pairCount boxes rows
-    unfolding pairCount
-    pairs-are = rw (eu, ef)
+    pairs-are = rw (eu, ef, pairCount-is)
 
     pub pairs-fit : length boxes ≤ 256 → length us * length fs ≤ 65536
     pairs-fit h = rw (eu, ef) (few-pairs h)
@@ -89,11 +92,11 @@ module _ (boxes rows : List ℕ) where
   -- places follow the order by user, then file
   pub pair-before : (p q : ℕ) → p < pairCount boxes rows → q < pairCount boxes rows
       → Before (userAt boxes rows q) (fileAt boxes rows q) (userAt boxes rows p) (fileAt boxes rows p) → q < p
-  unfolding userAt fileAt pairCount
+  unfolding userAt fileAt
   pair-before p q hp hq =
       let n = length (atoms boxes rows file) in
-      let at = place-in (length (atoms boxes rows user)) n p hp in
-      let to = place-in (length (atoms boxes rows user)) n q hq in
+      let at = pair-in p hp in
+      let to = pair-in q hq in
       ⊎-elim
       (λ l. earlier-row n p q (to .1) (atoms-before boxes rows user (q / n) (p / n) (to .0) (at .0) l))
       (λ r. earlier-column n p q (atoms-same boxes rows user (q / n) (p / n) (to .0) (at .0) (r .0))
@@ -139,18 +142,16 @@ module _ (boxes rows : List ℕ) where
 
 -- the loop that looks for the first unclear pair of a mode
 module _ (boxes rows arrows : List ℕ) (m : ℕ) where
-  unfoldable pub unclearAt : ℕ → Option Refusal
+  abbrev pub unclearAt : ℕ → Option Refusal
   unclearAt p = given (isUnclear (answerAt boxes rows arrows m p)) (unclearPair m (userAt boxes rows p) (fileAt boxes rows p))
 
   pub unclear-none : (p : ℕ) → isUnclear (answerAt boxes rows arrows m p) ≡ false → unclearAt p ≡ none
-  unfolding unclearAt
   unclear-none p e = given-false _ _ e
 
   pub unclear-some : (p : ℕ) → isUnclear (answerAt boxes rows arrows m p) ≡ true
       → unclearAt p ≡ some (unclearPair m (userAt boxes rows p) (fileAt boxes rows p))
-  unfolding unclearAt
   unclear-some p e = given-true _ _ e
 
   pub unclear-is : unclearFault boxes rows arrows m ≡ first unclearAt (pairCount boxes rows)
-  unfolding unclearFault firstPair answerAt unclearAt
+  unfolding unclearFault firstPair answerAt
   unclear-is = refl

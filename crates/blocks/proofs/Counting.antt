@@ -14,6 +14,7 @@ use Rattle.tables.specs.Buffers.{written}
 use Rattle.tables.specs.declared.Refusal.{Refusal}
 use Rattle.tables.proofs.Tests.{not-false}
 use Rattle.tables.proofs.SearchLaws.{first-none, first-nothing, first-more, first-here, given-none}
+use Rattle.tables.proofs.BufferLaws.{written-run}
 use Rattle.tables.proofs.TableLaws.{both-none}
 use Rattle.blocks.specs.Blocks.{headOf, capacity, byKind, boxRow, containmentRow, arrowRow, countOf, joined, boxesSaid, containmentsSaid, arrowsSaid, wrongHead, blockFault}
 use Rattle.blocks.specs.Files.{blockAt, blockCount, kindBefore, blocksFault, boxesIn, containmentsIn, arrowsIn}
@@ -21,7 +22,7 @@ use Rattle.blocks.specs.Reads.{countsIn, countsOf}
 use Rattle.blocks.specs.Steps.{countsWith, BlockFits, Fitting}
 use Rattle.blocks.specs.declared.Head.{Head}
 use Rattle.blocks.specs.declared.Counts.{Counts}
-use Rattle.blocks.proofs.Placing.{joined-length, joined-most, written-more}
+use Rattle.blocks.proofs.Placing.{joined-length, joined-most}
 
 -- a turn of the loop that writes the blocks, for each table
 pub table-more : (f : ℕ → List ℕ) (old : List ℕ) (k n i : ℕ) → k < n → length (joined f n) ≤ length old → i ≡ length (joined f k)
@@ -30,7 +31,7 @@ unfolding joined
 table-more f old k n i h l e =
     let m : length (joined f (k + 1)) ≤ length (joined f n) = joined-most f (k + 1) n (omega arith) in
     let r : length (joined f k) + length (f k) ≤ length (joined f n) = simp (add-one, length-append) at m in
-    rw (e, add-one) (written-more (joined f k) (f k) old (omega arith))
+    rw (e, add-one) (written-run (joined f k) (f k) old (omega arith))
 
 -- how long what a block says of each table is
 boxes-said : (b : List ℕ) → length (boxesSaid b) ≡ countOf 1 (headOf b)

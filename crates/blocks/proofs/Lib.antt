@@ -5,6 +5,7 @@ pub mod Placing
 pub mod JoinedLaws
 pub mod Heads
 pub mod Held
+mod ReaderCalls
 pub mod Counting
 pub mod Order
 pub mod Rooms

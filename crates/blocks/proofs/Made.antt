@@ -3,13 +3,13 @@
 use mathlib.Core.Path.{_≡_, refl, _∙_, sym, ap}
 use mathlib.Core.List.{List}
 use mathlib.Core.Logic.{⊎-elim}
-use mathlib.Core.Option.{Option, none}
+use mathlib.Core.Option.{none}
 use Prim.Native.Nat.{ℕ, zero, suc, _+_, _*_, _/_, _%_, _<_, _≤_}
 use native.Mathlib.Omega.{arith}
 use native.Mathlib.Nat.{eq-or-lt-of-le, le-of-suc-le-suc}
 use lib.ListN.{length, take, drop, length-drop}
 use lib.Seq.{take-add, take-length, take-all, drop-at, drop-append-le, take-append-le}
-use Rattle.tables.specs.Search.{first}
+use Rattle.tables.proofs.SearchLaws.{first-same}
 use Rattle.tables.proofs.Verdicts.{past}
 use Rattle.blocks.specs.Blocks.{headOf, joined, boxesSaid, containmentsSaid, arrowsSaid}
 use Rattle.blocks.specs.Files.{blockAt, blockCount, kindBefore, blocksFault, lengthFault, fileFault, boxesIn, containmentsIn, arrowsIn, boxesOf, containmentsOf, arrowsOf}
@@ -22,16 +22,11 @@ good-whole : (file : List ℕ) → fileFault file ≡ none → length file % 512
 unfolding fileFault
 good-whole file e = length-whole (length file) (both-none _ _ e .0) .0
 
--- lists and searches that agree at each number below n
+-- lists that agree at each number below n
 pub joined-same : (f g : ℕ → List ℕ) (n : ℕ) → ((k : ℕ) → k < n → f k ≡ g k) → joined f n ≡ joined g n
 unfolding joined
 joined-same f g zero e = refl
 joined-same f g (suc n) e = rw (joined-same f g n (λ k h. e k (omega arith)), e n (omega arith))
-
-pub first-same : {A : Type 0} (f g : ℕ → Option A) (n : ℕ) → ((k : ℕ) → k < n → f k ≡ g k) → first f n ≡ first g n
-unfolding first
-first-same f g zero e = refl
-first-same f g (suc n) e = rw (first-same f g n (λ k h. e k (omega arith)), e n (omega arith))
 
 -- blocks that are the same have the same faults and say the same
 module _ (a b : ℕ → List ℕ) (n : ℕ) (same : (k : ℕ) → k < n → a k ≡ b k) where

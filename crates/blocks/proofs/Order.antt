@@ -8,11 +8,10 @@ use native.Mathlib.Omega.{arith}
 use borrow.Author.Tests.{le-ltb, eq-eqb, ne-eqb}
 use lib.Dec.{eqb, ltb, eqb→eq, nltb→le, not-T}
 use lib.ListN.{length}
-use Rattle.tables.specs.Search.{given}
 use Rattle.tables.specs.Buffers.{written}
 use Rattle.tables.specs.declared.Refusal.{Refusal}
 use Rattle.tables.proofs.Tests.{T-or₁, T-or₂}
-use Rattle.tables.proofs.SearchLaws.{given-none}
+use Rattle.tables.proofs.SearchLaws.{given-none, given-false}
 use Rattle.tables.proofs.TableLaws.{both-none, not-not, room-passed}
 use Rattle.tables.proofs.Verdicts.{past, stop}
 use Rattle.blocks.specs.Files.{blockAt, blockCount, lengthFault, blocksFault, fileFault, boxesOf, containmentsOf, arrowsOf}
@@ -43,8 +42,8 @@ length-whole len e =
     )
 
 pub length-good : (len : ℕ) → 0 < len → len % 512 ≡ 0 → len ≤ 32768 → lengthFault len ≡ none
-unfolding lengthFault given
-length-good len p e h = rw (ne-eqb len 0 (λ z. omega arith), eq-eqb (len % 512) 0 e, le-ltb 32768 len h)
+unfolding lengthFault
+length-good len p e h = given-false _ _ (rw (ne-eqb len 0 (λ z. omega arith), eq-eqb (len % 512) 0 e, le-ltb 32768 len h))
 
 module _ (file : List ℕ) (boxes rows arrows : ℕ) where
   -- the checks in turn

@@ -1,29 +1,19 @@
 -- Rows written one after the other into a lent table. Assumes nothing.
-use mathlib.Core.Path.{_≡_, _∙_}
+use mathlib.Core.Path.{_≡_}
 use mathlib.Core.Logic.{⊎-elim}
-use mathlib.Core.List.{List, [], _∷_, _++_, append-assoc}
+use mathlib.Core.List.{List, [], _∷_, _++_}
 use Prim.Native.Nat.{ℕ, zero, suc, _+_, _*_, _<_, _≤_}
 use native.Mathlib.Omega.{arith}
 use native.Mathlib.Nat.{add-zero, mul-zero, mul-suc, eq-or-lt-of-le}
 use native.Mathlib.Numerals.{add-one}
-use lib.ListN.{length, drop, length-append, length-drop}
-use lib.Seq.{sets, sets-eq, drop-drop, drop-append-add, take-append-seam}
-use Rattle.tables.specs.Buffers.{written}
+use lib.ListN.{length, length-append}
+use lib.Seq.{sets}
 use Rattle.blocks.specs.Blocks.{joined}
 
 -- stores of one run of values after another
 pub sets-more : (l : List ℕ) (i : ℕ) (xs ys : List ℕ) → sets (sets l i xs) (i + length xs) ys ≡ sets l i (xs ++ ys)
 sets-more l i [] ys = rw add-zero
 sets-more l i (x ∷ xs) ys = let e : i + length (x ∷ xs) ≡ suc i + length xs = omega arith in rw e (sets-more _ (suc i) xs ys)
-
--- values stored after the first places of a table follow them
-pub written-more : (xs ys old : List ℕ) → length xs + length ys ≤ length old
-    → sets (written xs old) (length xs) ys ≡ written (xs ++ ys) old
-unfolding written
-written-more xs ys old h =
-    let l = xs ++ drop (length xs) old in
-    let e : length xs + length ys ≤ length l = simp (length-append, length-drop) (omega arith) in
-    sets-eq ys l (length xs) e ∙ simp (take-append-seam, drop-append-add, drop-drop, length-append, append-assoc)
 
 -- the length of n lists of one length
 pub joined-length : (f : ℕ → List ℕ) (w n : ℕ) → ((k : ℕ) → k < n → length (f k) ≡ w) → length (joined f n) ≡ w * n

@@ -356,6 +356,13 @@ pub fn head_at(file: &[u8], block: usize) -> Seen
     BlockReader::at(file, block).seen()
 }
 
+// What it sees once it has moved to the next block.
+pub fn head_after(file: &[u8], block: usize) -> Seen
+    ensures { λ r. ⌜ r ≡ seenAt (now (file .entry)) (nextBlock (now (file .entry)) block) ⌝ }
+{
+    BlockReader::at(file, block).next().seen()
+}
+
 // The check of a block's bytes 0 to 507.
 fn check_of(file: &[u8], block: usize) -> u32
     requires { ⌜ block < blockCount (now file) ⌝ }

@@ -1,10 +1,12 @@
--- `contains` is the chain of one or more rows; it is transitive; and what it has to do with rows and atomic boxes. Assumes nothing.
+-- `contains` is the chain of one or more rows; it is transitive; what it has to do with rows and atomic boxes; and it goes by which
+-- rows there are, not by their order or how often each stands. Assumes nothing.
 use mathlib.Core.Path.{_≡_, refl, sym, subst}
 use mathlib.Core.Logic.{_⊎_, inl, inr, ⊎-map, ⊎-elim, _↔_}
 use mathlib.Core.Bool.{_&&_, _||_}
-use mathlib.Core.List.{List, [], _∷_}
+use mathlib.Core.List.{List, [], _∷_, _++_}
 use mathlib.Core.Option.{none}
-use Prim.Native.Nat.{ℕ, _<_}
+use Prim.Native.Nat.{ℕ, _%_, _<_}
+use native.Mathlib.Omega.{arith}
 use lib.Dec.{T, eqb, eqb→eq, eqb-refl}
 use lib.ListN.{length}
 use Rattle.tables.specs.Atoms.{outer}
@@ -13,6 +15,7 @@ use Rattle.tables.specs.Refusals.{inItself}
 use Rattle.containment.specs.Contains.{Row, here, later, Chain, one, more, contains, around, loopFault}
 use Rattle.tables.proofs.Tests.{or-T, T-or₁, T-or₂, and-T, T-and, T-same}
 use Rattle.tables.proofs.SearchLaws.{first-none, given-none}
+use Rattle.tables.proofs.RowLaws.{outer-none, outer-odd, outer-more}
 
 -- ---- one row more
 
@@ -100,23 +103,11 @@ contains-iff rows a b = (contains-chain rows a b, chain-contains)
 pub contains-trans : (rows : List ℕ) (a b c : ℕ) → T (contains rows a b) → T (contains rows b c) → T (contains rows a c)
 contains-trans rows a b c s t = chain-contains (join (contains-chain rows a b s) (contains-chain rows b c t))
 
--- ---- a repeated row changes nothing
-
-pub contains-repeat : (x y : ℕ) (rows : List ℕ) → Row rows x y → (a b : ℕ) → contains (x ∷ y ∷ rows) a b ≡ contains rows a b
-contains-repeat x y rows r a b =
-    T-same (contains (x ∷ y ∷ rows) a b) (contains rows a b)
-    (λ t. chain-contains (along again (contains-chain (x ∷ y ∷ rows) a b t))) (old x y rows a b)
-  where
-    again : (a b : ℕ) → Row (x ∷ y ∷ rows) a b → Row rows a b
-    again a b here = r
-    again a b (later s) = s
-
 -- ---- an atomic box contains nothing, and a box that contains nothing is the outer box of no row
 
 row-outer : {rows : List ℕ} {a b : ℕ} → Row rows a b → T (outer rows a)
-unfolding outer
-row-outer (here {a = a} {rows = rows}) = T-or₁ (eqb a a) (outer rows a) (eqb-refl a)
-row-outer (later {x = x} {a = a} {rows = rows} r) = T-or₂ (eqb x a) (outer rows a) (row-outer r)
+row-outer (here {a = a} {rows = rows}) = rw outer-more (T-or₁ (eqb a a) (outer rows a) (eqb-refl a))
+row-outer (later {x = x} {a = a} {rows = rows} r) = rw outer-more (T-or₂ (eqb x a) (outer rows a) (row-outer r))
 
 chain-outer : {rows : List ℕ} {a b : ℕ} → Chain rows a b → T (outer rows a)
 chain-outer (one r) = row-outer r
@@ -126,14 +117,57 @@ pub contains-outer : (rows : List ℕ) (a b : ℕ) → T (contains rows a b) →
 contains-outer rows a b t = chain-outer (contains-chain rows a b t)
 
 pub outer-contains : (rows : List ℕ) (a : ℕ) → T (outer rows a) → (b : ℕ) × T (contains rows a b)
-unfolding outer
-outer-contains [] a t = absurd t
-outer-contains (x ∷ []) a t = absurd t
-outer-contains (x ∷ y ∷ rows) a t = go (or-T (eqb x a) (outer rows a) t) (outer-contains rows a)
+outer-contains [] a t = absurd (rw outer-none at t)
+outer-contains (x ∷ []) a t = absurd (rw outer-odd at t)
+outer-contains (x ∷ y ∷ rows) a t = go (or-T (eqb x a) (outer rows a) (rw outer-more at t)) (outer-contains rows a)
   where
     go : T (eqb x a) ⊎ T (outer rows a) → (T (outer rows a) → (b : ℕ) × T (contains rows a b)) → (b : ℕ) × T (contains (x ∷ y ∷ rows) a b)
     go (inl e) ih = (y, subst (λ (z : ℕ). T (contains (x ∷ y ∷ rows) z y)) (eqb→eq x a e) (row-contains here))
     go (inr o) ih = let r = ih o in (r .0, old x y rows a (r .0) (r .1))
+
+-- ---- tables with the same rows
+
+module _ (rows new : List ℕ) (same : (a b : ℕ) → Row rows a b ↔ Row new a b) where
+  -- contain the same
+  pub same-contains : (a b : ℕ) → contains rows a b ≡ contains new a b
+  same-contains a b =
+      T-same (contains rows a b) (contains new a b)
+      (λ t. chain-contains (along (λ a b. same a b .0) (contains-chain rows a b t)))
+      (λ t. chain-contains (along (λ a b. same a b .1) (contains-chain new a b t)))
+
+  -- and have the same outer boxes
+  pub same-outer : (a : ℕ) → outer rows a ≡ outer new a
+  same-outer a =
+      T-same (outer rows a) (outer new a)
+      (λ t. let c = outer-contains rows a t in contains-outer new a (c .0) (subst T (same-contains a (c .0)) (c .1)))
+      (λ t. let c = outer-contains new a t in contains-outer rows a (c .0) (subst T (sym (same-contains a (c .0))) (c .1)))
+
+-- a table with one more row (x, y), after whole rows, has the rows of the one without it
+module _ (x y : ℕ) (after : List ℕ) where
+  with-row : (before : List ℕ) → length before % 2 ≡ 0 → {a b : ℕ} → Row (before ++ after) a b → Row (before ++ (x ∷ y ∷ after)) a b
+  with-row [] e r = later r
+  with-row (v ∷ []) e r = absurd (omega arith)
+  with-row (v ∷ w ∷ before) e here = here
+  with-row (v ∷ w ∷ before) e (later r) = later (with-row before (omega arith) r)
+
+  -- and that row: what holds of both holds of each
+  without-row : (before : List ℕ) → length before % 2 ≡ 0 → (P : ℕ → ℕ → Type 0) → P x y
+      → ((a b : ℕ) → Row (before ++ after) a b → P a b) → (a b : ℕ) → Row (before ++ (x ∷ y ∷ after)) a b → P a b
+  without-row [] e P h f a b here = h
+  without-row [] e P h f a b (later r) = f a b r
+  without-row (v ∷ []) e P h f a b r = absurd (omega arith)
+  without-row (v ∷ w ∷ before) e P h f a b here = f a b here
+  without-row (v ∷ w ∷ before) e P h f a b (later r) = without-row before (omega arith) P h (λ a b r. f a b (later r)) a b r
+
+  -- a repeated row, wherever it stands
+  pub repeated : (before : List ℕ) → length before % 2 ≡ 0 → Row (before ++ after) x y
+      → (a b : ℕ) → Row (before ++ (x ∷ y ∷ after)) a b ↔ Row (before ++ after) a b
+  repeated before e r a b = (without-row before e (Row (before ++ after)) r (λ a b s. s) a b, with-row before e)
+
+  -- "A repeated pair changes nothing"
+  pub contains-repeat : (before : List ℕ) → length before % 2 ≡ 0 → Row (before ++ after) x y
+      → (a b : ℕ) → contains (before ++ (x ∷ y ∷ after)) a b ≡ contains (before ++ after) a b
+  contains-repeat before e r = same-contains (before ++ (x ∷ y ∷ after)) (before ++ after) (repeated before e r)
 
 -- ---- after check 10
 

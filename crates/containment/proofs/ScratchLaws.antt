@@ -8,7 +8,7 @@ use native.Mathlib.Decide.{decLt}
 use native.Mathlib.Omega.{arith}
 use lib.ListN.{length, getD}
 use lib.Seq.{ext-getD}
-use Rattle.tables.specs.Search.{bit, orElse}
+use Rattle.tables.specs.Search.{bit}
 use Rattle.tables.specs.Faults.{tableFault}
 use Rattle.tables.specs.Refusals.{verdictOf}
 use Rattle.tables.specs.declared.Refusal.{Refusal}
@@ -18,7 +18,7 @@ use Rattle.tables.specs.Buffers.{build}
 use Rattle.containment.specs.Contains.{contains, loopFault}
 use Rattle.containment.specs.Scratch.{filled, scratchFault, scratchAfter, earlyFault, pictureFault}
 use Rattle.containment.specs.Steps.{Says, Cells, SameFrom}
-use Rattle.tables.proofs.Verdicts.{refused}
+use Rattle.tables.proofs.Verdicts.{refused, past, stop}
 use Rattle.tables.proofs.TableLaws.{room-passed}
 use Rattle.tables.proofs.BufferLaws.{written-length, written-at, written-rest, build-length, build-at}
 use Rattle.containment.proofs.Index.{in-table, at-div, at-mod, place}
@@ -68,16 +68,22 @@ module _ (boxes rows arrows s : List ℕ) where
   Ends v t = (v ≡ verdictOf (pictureFault boxes rows arrows s)) × (t ≡ scratchAfter (earlyFault boxes rows arrows s) boxes rows s)
 
   pub ends-tables : (r : Refusal) → verdictOf (tableFault boxes rows arrows) ≡ Refused r → Ends (Refused r) s
-  unfolding orElse pictureFault earlyFault
-  ends-tables r e = let f = refused (tableFault boxes rows arrows) r e in (rw (f, orElse), rw (f, orElse))
+  unfolding pictureFault earlyFault
+  ends-tables r e =
+      let early = stop _ (scratchFault (length boxes) s) (refused (tableFault boxes rows arrows) r e) in
+      (rw (stop _ (loopFault boxes rows) early), rw early)
 
   pub ends-room : (r : Refusal) → tableFault boxes rows arrows ≡ none → verdictOf (scratchFault (length boxes) s) ≡ Refused r → Ends (Refused r) s
-  unfolding orElse pictureFault earlyFault
-  ends-room r f e = let g = refused (scratchFault (length boxes) s) r e in (rw (f, orElse, g, orElse), rw (f, orElse, g, orElse))
+  unfolding pictureFault earlyFault
+  ends-room r f e =
+      let early = past _ (scratchFault (length boxes) s) f ∙ refused (scratchFault (length boxes) s) r e in
+      (rw (stop _ (loopFault boxes rows) early), rw early)
 
   pub ends-filled : tableFault boxes rows arrows ≡ none → scratchFault (length boxes) s ≡ none → Ends (verdictOf (loopFault boxes rows)) (filled (length boxes) rows s)
-  unfolding orElse pictureFault earlyFault
-  ends-filled f g = (rw (f, orElse, g, orElse), rw (f, orElse, g, orElse))
+  unfolding pictureFault earlyFault
+  ends-filled f g =
+      let early = past _ (scratchFault (length boxes) s) f ∙ g in
+      (rw (past _ (loopFault boxes rows) early), rw early)
 
 -- where check 9 passes, there is room
 pub scratch-room : (n : ℕ) (s : List ℕ) → scratchFault n s ≡ none → n * n ≤ length s

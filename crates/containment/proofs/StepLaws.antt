@@ -18,7 +18,7 @@ use Rattle.tables.specs.Rows.{rowCount, rowAt}
 use Rattle.containment.specs.Contains.{Row, here, later}
 use Rattle.containment.specs.Steps.{direct, through, Cells, SameFrom, Joined, rowFrom}
 use Rattle.tables.proofs.RowLaws.{rows-from}
-use Rattle.tables.proofs.Bits.{bit-test}
+use Rattle.tables.proofs.Bits.{bit-is, bit-test, bit-or}
 use Rattle.tables.proofs.Tests.{and-T, not-false}
 use Rattle.tables.proofs.BufferLaws.{written-length, written-at, written-rest, zeros-length, zeros-at, build-length, build-at}
 use Rattle.containment.proofs.Index.{row-step, in-table, same-row, same-col, next-row}
@@ -28,30 +28,31 @@ same-trans h g = record { len = g .len ∙ h .len; rest = λ p l. g .rest p l �
 
 -- ---- clear
 
-module _ (n : ℕ) (s : List ℕ) (room : n * n ≤ length s) where
-  pub cleared : Cells n (direct []) (written (zeros (n * n)) s)
-  unfolding direct bit
-  cleared a b la lb =
-      let l = in-table n n a b la lb in
-      written-at (zeros (n * n)) s (a * n + b) (rw zeros-length l) ∙ zeros-at (n * n) (a * n + b) l
+-- n × n places or more are 0
+pub cleared : (n m : ℕ) (s : List ℕ) → n * n ≤ m → Cells n (direct []) (written (zeros m) s)
+unfolding direct
+cleared n m s h a b la lb =
+    let l : a * n + b < m = omega (arith, in-table n n a b la lb) in
+    written-at (zeros m) s (a * n + b) (rw zeros-length l) ∙ zeros-at m (a * n + b) l ∙ sym (bit-is false)
 
-  pub cleared-rest : SameFrom (n * n) s (written (zeros (n * n)) s)
-  cleared-rest = record {
-    len = written-length (zeros (n * n)) s (rw zeros-length room);
-    rest = λ p l. written-rest (zeros (n * n)) s p (rw zeros-length l);
-  }
+-- and no more than that
+pub cleared-rest : (n : ℕ) (s : List ℕ) → n * n ≤ length s → SameFrom (n * n) s (written (zeros (n * n)) s)
+cleared-rest n s room = record {
+  len = written-length (zeros (n * n)) s (rw zeros-length room);
+  rest = λ p l. written-rest (zeros (n * n)) s p (rw zeros-length l);
+}
 
 -- ---- mark
 
 -- the byte of boxes o and i
 mark-cells : (n o i : ℕ) (s rows : List ℕ) → o < n → i < n → n * n ≤ length s → Cells n (direct rows) s → Cells n (direct (o ∷ i ∷ rows)) (set s (o * n + i) 1)
-unfolding direct bit
+unfolding direct
 mark-cells n o i s rows ho hi room h a b la lb = go (ℕ-discrete (o * n + i) (a * n + b))
   where
     go : Dec (o * n + i ≡ a * n + b) → getD (set s (o * n + i) 1) (a * n + b) 0 ≡ bit (eqb o a && eqb i b || direct rows a b)
     go (yes e) =
         rw (eq-eqb o a (same-row n o i a b hi lb e), eq-eqb i b (same-col n o i a b hi lb e), ← e)
-        (getD-set-same s (o * n + i) 1 0 (omega (arith, in-table n n o i ho hi)))
+        (getD-set-same s (o * n + i) 1 0 (omega (arith, in-table n n o i ho hi)) ∙ sym (bit-is true))
     go (no e) =
         rw (not-false (eqb o a && eqb i b) (λ t. let p = and-T (eqb o a) (eqb i b) t in e (rw (eqb→eq o a (p .0), eqb→eq i b (p .1)))))
         (getD-set-other s (o * n + i) (a * n + b) 1 0 (λ q. e (sym q)) ∙ h a b la lb)
@@ -104,13 +105,6 @@ pub record Turned (n k i : ℕ) (s t : List ℕ) : Type 0 where
   pub done : (f : ℕ → ℕ → Bool) → Cells n f s → (a b : ℕ) → a < i → b < n → getD t (a * n + b) 0 ≡ bit (through f k a b)
   pub same : SameFrom (i * n) s t
 
-or-bits : (p q : Bool) → bitOr (bit p) (bit q) ≡ bit (p || q)
-unfolding bit
-or-bits true true = refl
-or-bits true false = refl
-or-bits false true = refl
-or-bits false false = refl
-
 bit-zero : (p : Bool) → bit p ≡ 0 → p ≡ false
 bit-zero p e = sym (bit-test p) ∙ rw (eq-eqb (bit p) 0 e)
 
@@ -137,7 +131,7 @@ module _ (n k i : ℕ) (row s t : List ℕ) (kn : k < n) (l : i < n) (copy : (b 
   pub round-yes : (getD t (i * n + k) 0 ≡ 0 → ⊥) → (u : List ℕ) → Joined row (i * n) 0 n t u → Turned n k (i + 1) s u
   unfolding through
   round-yes e u o = next u (o .len) (o .miss)
-      (λ f h b lb. o .hit b (omega arith) lb ∙ rw (old f h b lb, copy b lb ∙ h k b kn lb, bit-some (f i k) (λ z. e (old f h k kn ∙ z))) (or-bits (f i b) (f k b)))
+      (λ f h b lb. o .hit b (omega arith) lb ∙ rw (old f h b lb, copy b lb ∙ h k b kn lb, bit-some (f i k) (λ z. e (old f h k kn ∙ z))) (bit-or (f i b) (f k b)))
 
   pub round-no : getD t (i * n + k) 0 ≡ 0 → Turned n k (i + 1) s t
   unfolding through

@@ -2,16 +2,16 @@
 -- twice can be. Assumes nothing.
 use mathlib.Core.Path.{_≡_, refl, sym, subst}
 use mathlib.Core.Logic.{⊎-elim}
-use mathlib.Core.Bool.{Bool, true, false, not, cond, _&&_, _||_}
+use mathlib.Core.Bool.{Bool, true, false, not, _&&_, _||_}
 use mathlib.Core.List.{List, [], _∷_, _++_}
-use Prim.Native.Nat.{ℕ, zero, suc, _<_, _≤_}
+use Prim.Native.Nat.{ℕ, _<_, _≤_}
 use native.Mathlib.Omega.{arith}
 use lib.Dec.{T, T-not, not-T, eqb, eqb→eq, eqb-refl}
-use lib.ListN.{length, length-append}
+use lib.ListN.{length}
 use Rattle.tables.specs.Search.{select}
 use Rattle.lists.specs.Order.{anyOf, allOf, distinct}
-use Rattle.tables.proofs.Tests.{or-T, and-T, T-and, T-or₁, T-or₂, T-eqb, T-true, not-false, true-T, false-not}
-use Rattle.tables.proofs.SearchLaws.{below-suc}
+use Rattle.tables.proofs.Tests.{or-T, and-T, T-and, T-or₁, T-or₂, T-eqb}
+use Rattle.tables.proofs.SelectLaws.{select-fewer}
 
 -- ---- one more number
 
@@ -54,39 +54,6 @@ anyOf-has t (j ∷ l) k h r =
     (or-T (eqb k j) (anyOf (eqb k) l) h)
 
 -- ---- how many
-
--- a test that holds at fewer numbers selects fewer
-module _ (p q : ℕ → Bool) where
-  pub select-within : (n : ℕ) → ((j : ℕ) → j < n → T (p j) → T (q j)) → length (select p n) ≤ length (select q n)
-  unfolding select
-  select-within zero h = omega arith
-  select-within (suc n) h = go (p n) refl (q n) refl (select-within n (λ j l. h j (omega arith)))
-    where
-      go : (b : Bool) → p n ≡ b → (c : Bool) → q n ≡ c → length (select p n) ≤ length (select q n)
-          → length (cond b (select p n ++ (n ∷ [])) (select p n)) ≤ length (cond c (select q n ++ (n ∷ [])) (select q n))
-      go true e true i g = omega (arith, length-append (select p n) (n ∷ []), length-append (select q n) (n ∷ []))
-      go true e false i g = absurd (false-not (q n) i (h n (omega arith) (true-T (p n) e)))
-      go false e true i g = omega (arith, length-append (select q n) (n ∷ []))
-      go false e false i g = g
-
-  pub select-fewer : (n : ℕ) → ((j : ℕ) → j < n → T (p j) → T (q j)) → (k : ℕ) → k < n → (T (p k) → ⊥) → T (q k)
-      → length (select p n) < length (select q n)
-  unfolding select
-  select-fewer zero h k l out in′ = absurd (omega arith)
-  select-fewer (suc n) h k l out in′ =
-      ⊎-elim
-      (λ e.
-      rw (not-false (p n) (subst (λ (i : ℕ). T (p i) → ⊥) e out), T-true (q n) (subst (λ (i : ℕ). T (q i)) e in′))
-      (omega (arith, length-append (select q n) (n ∷ []), select-within n (λ j l. h j (omega arith)))))
-      (λ l′. go (p n) refl (q n) refl (select-fewer n (λ j l. h j (omega arith)) k l′ out in′))
-      (below-suc l)
-    where
-      go : (b : Bool) → p n ≡ b → (c : Bool) → q n ≡ c → length (select p n) < length (select q n)
-          → length (cond b (select p n ++ (n ∷ [])) (select p n)) < length (cond c (select q n ++ (n ∷ [])) (select q n))
-      go true e true i g = omega (arith, length-append (select p n) (n ∷ []), length-append (select q n) (n ∷ []))
-      go true e false i g = absurd (false-not (q n) i (h n (omega arith) (true-T (p n) e)))
-      go false e true i g = omega (arith, length-append (select q n) (n ∷ []))
-      go false e false i g = g
 
 -- k apart, the numbers of the list pass the test and are not k
 all-but : (t : ℕ → Bool) (k : ℕ) (l : List ℕ) → T (allOf t l) → (T (anyOf (eqb k) l) → ⊥) → T (allOf (λ j. t j && not (eqb k j)) l)

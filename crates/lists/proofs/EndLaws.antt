@@ -1,5 +1,5 @@
 -- How the call ends: at checks 1 to 9, at check 10, or with what follows it. Assumes nothing.
-use mathlib.Core.Path.{_≡_, refl}
+use mathlib.Core.Path.{_≡_, refl, _∙_}
 use mathlib.Core.List.{List}
 use mathlib.Core.Option.{Option, none, some}
 use Prim.Native.Nat.{ℕ, _*_, _<_, _≤_}
@@ -16,6 +16,7 @@ use Rattle.lists.specs.Steps.{Listing}
 use Rattle.lists.specs.declared.Listed.{Listed}
 use Rattle.lists.specs.declared.Listed.the-variants.{Refused}
 use Rattle.answers.proofs.CallLaws.{chained}
+use Rattle.tables.proofs.Verdicts.{past, stop}
 use Rattle.tables.proofs.TableLaws.{both-none, mode-passed, room-passed}
 use Rattle.containment.proofs.ScratchLaws.{scratch-room}
 
@@ -38,33 +39,34 @@ module _ (boxes rows arrows : List ℕ) (m : ℕ) (s out work : List ℕ) where
     pub work-room : pairCount boxes rows ≤ length work
 
   pub early-tables : (x : Refusal) → tableFault boxes rows arrows ≡ some x → listEarly boxes rows arrows m s out work ≡ some x
-  unfolding listEarly orElse
-  early-tables x e = rw e
+  unfolding listEarly
+  early-tables x e = stop _ _ e
 
   pub early-rest : tableFault boxes rows arrows ≡ none → listEarly boxes rows arrows m s out work ≡ rest
-  unfolding listEarly orElse
-  early-rest e = rw e
+  unfolding listEarly
+  early-rest e = past _ _ e
 
   -- refused by checks 1 to 9
   pub end-early : (x : Refusal) → listEarly boxes rows arrows m s out work ≡ some x → Outcome boxes rows arrows m s out work (Refused x) s out work
-  unfolding orElse
-  end-early x e = record { answered = rw (e, orElse) (refl, refl); scratch-after = rw e; work-after = rw (e, orElse) }
+  end-early x e =
+      let f = stop _ (listLate boxes rows arrows m) e in
+      record { answered = rw f (refl, refl); scratch-after = rw e; work-after = rw f }
 
   module _ (e : listEarly boxes rows arrows m s out work ≡ none) where
     -- refused by check 10
     pub end-loops : (x : Refusal) → loopFault boxes rows ≡ some x → Outcome boxes rows arrows m s out work (Refused x) (filled (length boxes) rows s) out work
-    unfolding orElse listLate
-    end-loops x l = record { answered = rw (e, orElse, l, orElse) (refl, refl); scratch-after = rw e; work-after = rw (e, orElse, l, orElse) }
+    unfolding listLate
+    end-loops x l =
+        let f = past _ (listLate boxes rows arrows m) e ∙ stop _ _ l in
+        record { answered = rw f (refl, refl); scratch-after = rw e; work-after = rw f }
 
     -- check 12 and what follows it
     pub end-listing : loopFault boxes rows ≡ none → (r : Listed) (out′ work′ : List ℕ) → Listing boxes rows arrows m out work r out′ work′
         → Outcome boxes rows arrows m s out work r (filled (length boxes) rows s) out′ work′
-    unfolding orElse listLate
-    end-listing l r out′ work′ g = record {
-      answered = rw (e, orElse, l, orElse) (g .answered);
-      scratch-after = rw e;
-      work-after = rw (e, orElse, l, orElse) (g .work-after);
-    }
+    unfolding listLate
+    end-listing l r out′ work′ g =
+        let f = past _ (listLate boxes rows arrows m) e ∙ past _ _ l in
+        record { answered = rw f (g .answered); scratch-after = rw e; work-after = rw f (g .work-after) }
 
   -- where checks 8 and 9 pass, the mode is one and there is room
   pub rooms : rest ≡ none → Rooms

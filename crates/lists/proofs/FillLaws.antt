@@ -19,8 +19,9 @@ use Rattle.lists.specs.Order.{anyOf, reached, granted}
 use Rattle.lists.specs.Steps.{Clear, workOf}
 use Rattle.tables.proofs.Tests.{not-false}
 use Rattle.tables.proofs.SearchLaws.{Searched, search-none, search-more, search-here, first-none, given-none}
-use Rattle.tables.proofs.BufferLaws.{written-none, written-build, written-length, build-length}
-use Rattle.answers.proofs.PairLaws.{unclearAt, unclear-is}
+use Rattle.tables.proofs.BufferLaws.{written-build, written-length, build-length}
+use Rattle.tables.proofs.PartLaws.{built-none}
+use Rattle.answers.proofs.PairLaws.{unclear-is}
 
 module _ (boxes rows arrows : List ℕ) (m : ℕ) where
   abbrev unclear : ℕ → Bool
@@ -39,8 +40,7 @@ module _ (boxes rows arrows : List ℕ) (m : ℕ) where
       pub filled : bytes ≡ written (build shown p) old
 
     pub filling-none : Filling old 0
-    unfolding build
-    filling-none = record { clear = search-none unclear place; filled = sym (written-none old) }
+    filling-none = record { clear = search-none unclear place; filled = built-none shown old }
 
     pub filling-length : (bytes : List ℕ) (p : ℕ) → p ≤ length old → Filling bytes p → length bytes ≡ length old
     filling-length bytes p h f = ap length (f .filled) ∙ written-length (build shown p) old (rw build-length h)
@@ -57,17 +57,15 @@ module _ (boxes rows arrows : List ℕ) (m : ℕ) where
 
     pub filling-unclear : (bytes : List ℕ) (p : ℕ) (e : Entry) → p < pairCount boxes rows → e ≡ answerAt boxes rows arrows m p → isUnclear e ≡ true
         → Filling bytes p → unclearFault boxes rows arrows m ≡ some (place p)
-    unfolding unclearAt
     filling-unclear bytes p e h i u f =
         unclear-is boxes rows arrows m ∙ search-here unclear place (pairCount boxes rows) p (f .clear) (rw i at u) h
 
     pub filling-done : (bytes : List ℕ) (p : ℕ) → p ≡ pairCount boxes rows → Filling bytes p
         → (Passed ≡ verdictOf (unclearFault boxes rows arrows m)) × (bytes ≡ written (workOf boxes rows arrows m []) old)
-    unfolding workOf unclearAt
+    unfolding workOf
     filling-done bytes p e f = (rw (unclear-is boxes rows arrows m, ← e, f .clear), rw e at (f .filled))
 
   -- where check 12 passes, no pair is unclear
   pub all-clear : unclearFault boxes rows arrows m ≡ none → Clear boxes rows arrows m
-  unfolding unclearAt
   all-clear e p h =
       not-false (unclear p) (given-none (unclear p) (place p) (first-none _ (pairCount boxes rows) (sym (unclear-is boxes rows arrows m) ∙ e) p h))

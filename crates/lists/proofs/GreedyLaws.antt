@@ -17,7 +17,8 @@ use Rattle.lists.specs.Greedy.{new, fits, addable, grow, greedy}
 use Rattle.tables.proofs.Tests.{T?, and-T, T-and, T-or₁, T-or₂}
 use Rattle.tables.proofs.SearchLaws.{lowest-some, lowest-none, every-at, every-is, some-none}
 use Rattle.tables.proofs.BufferLaws.{select-most}
-use Rattle.lists.proofs.CountLaws.{anyOf-snoc, allOf-snoc, distinct-snoc, anyOf-has, select-fewer}
+use Rattle.tables.proofs.SelectLaws.{select-fewer}
+use Rattle.lists.proofs.CountLaws.{anyOf-snoc, allOf-snoc, distinct-snoc, anyOf-has}
 use Rattle.lists.proofs.MatchLaws.{Honest, Fits, Full, honest-none, honest-snoc}
 
 -- ---- tests

@@ -2,14 +2,14 @@
 use mathlib.Core.Path.{_≡_, refl, sym, ap, ap₂, _∙_}
 use mathlib.Core.Bool.{Bool, true, false, not, cond, _&&_, _||_}
 use mathlib.Core.List.{List, [], _∷_, _++_}
-use Prim.Native.Nat.{ℕ, zero, suc, _+_, _<_, _≤_}
+use Prim.Native.Nat.{ℕ, _+_, _<_, _≤_}
 use native.Mathlib.Decide.{decLt, ℕ-discrete}
 use native.Mathlib.Omega.{arith}
 use borrow.Author.Tests.{eq-eqb, ne-eqb}
 use lib.Dec.{T, eqb, ltb, lt→ltb}
 use lib.ListN.{length, getD, length-append}
 use lib.Seq.{ext-getD}
-use Rattle.tables.specs.Search.{every, select, bit}
+use Rattle.tables.specs.Search.{select, bit}
 use Rattle.tables.specs.Buffers.{build, written, zeros}
 use Rattle.tables.specs.Rows.{arrowCount, arrowAt}
 use Rattle.tables.specs.Atoms.{pairCount}
@@ -20,12 +20,13 @@ use Rattle.lists.specs.Order.{anyOf, gives, ofMode, meets, reached, gran
 use Rattle.lists.specs.Greedy.{new, fits, addable, leftBy}
 use Rattle.lists.specs.Steps.{stops, follows, followsAt, marked, Behind, leftIn, Clear, workOf}
 use Rattle.tables.proofs.Tests.{and-T, T-and, T-true}
-use Rattle.tables.proofs.BufferLaws.{written-length, written-at, written-rest, build-length, build-at, zeros-length, zeros-at}
-use Rattle.tables.proofs.SelectLaws.{select-found, select-has}
+use Rattle.tables.proofs.Bits.{bit-is}
+use Rattle.tables.proofs.SearchLaws.{first-same, every-same}
+use Rattle.tables.proofs.BufferLaws.{written-length, written-at, written-rest, build-length, build-at, build-same, zeros-length, zeros-at}
+use Rattle.tables.proofs.SelectLaws.{select-found, select-has, select-within}
 use Rattle.answers.proofs.ModeLaws.{mode-select}
-use Rattle.lists.proofs.CountLaws.{anyOf-snoc, select-within, room}
+use Rattle.lists.proofs.CountLaws.{anyOf-snoc, room}
 use Rattle.lists.proofs.GreedyLaws.{Grown, grown-more, honest-own, addable-own, ofMode-there}
-use Rattle.lists.proofs.OrderLaws.{first-same}
 use Rattle.lists.proofs.StepLaws.{stops-same, stops-open}
 
 -- ---- places written twice
@@ -43,36 +44,24 @@ written-over a b old h l =
     go p (no k) =
         written-rest a (written b old) p (omega arith) ∙ written-rest b old p (omega arith) ∙ sym (written-rest a old p (omega arith))
 
-pub build-same : (g h : ℕ → ℕ) (n : ℕ) → ((k : ℕ) → k < n → g k ≡ h k) → build g n ≡ build h n
-unfolding build
-build-same g h zero e = refl
-build-same g h (suc n) e = rw (build-same g h n (λ k l. e k (omega arith)), e n (omega arith))
-
-every-same : (s t : ℕ → Bool) (n : ℕ) → ((k : ℕ) → k < n → s k ≡ t k) → every s n ≡ every t n
-unfolding every
-every-same s t zero e = refl
-every-same s t (suc n) e = rw (every-same s t n (λ k l. e k (omega arith)), e n (omega arith))
-
 -- ---- a work byte: granted, reached
 
 byte-left : (g r : Bool) → eqb (bit g + cond r 2 0) 1 ≡ (g && not r)
-unfolding bit
-byte-left true true = refl
-byte-left true false = refl
-byte-left false true = refl
-byte-left false false = refl
+byte-left true true = rw bit-is
+byte-left true false = rw bit-is
+byte-left false true = rw bit-is
+byte-left false false = rw bit-is
 
 -- the byte once an arrow that reaches the pair or not, t, is in the list
 byte-marked : (g r t : Bool) → (bit g + cond r 2 0) + cond (t && not r) 2 0 ≡ bit g + cond (r || t) 2 0
-unfolding bit
-byte-marked true true true = refl
-byte-marked true true false = refl
-byte-marked true false true = refl
-byte-marked true false false = refl
-byte-marked false true true = refl
-byte-marked false true false = refl
-byte-marked false false true = refl
-byte-marked false false false = refl
+byte-marked true true true = rw bit-is
+byte-marked true true false = rw bit-is
+byte-marked true false true = rw bit-is
+byte-marked true false false = rw bit-is
+byte-marked false true true = rw bit-is
+byte-marked false true false = rw bit-is
+byte-marked false false true = rw bit-is
+byte-marked false false false = rw bit-is
 
 ended : (t b : Bool) → false ≡ ((t && false) && not b)
 ended true b = refl
@@ -86,23 +75,21 @@ turned false false = refl
 
 -- an arrow that reaches the pair or not, t, against a byte to skip: 2, and s
 byte-new : (g r t : Bool) → (ltb (bit g + cond r 2 0) 2 && (not (eqb (bit g + cond r 2 0) 2) && t)) ≡ (t && not r)
-unfolding bit
-byte-new true true true = refl
-byte-new true true false = refl
-byte-new true false true = refl
-byte-new true false false = refl
-byte-new false true true = refl
-byte-new false true false = refl
-byte-new false false true = refl
-byte-new false false false = refl
+byte-new true true true = rw bit-is
+byte-new true true false = rw bit-is
+byte-new true false true = rw bit-is
+byte-new true false false = rw bit-is
+byte-new false true true = rw bit-is
+byte-new false true false = rw bit-is
+byte-new false false true = rw bit-is
+byte-new false false false = rw bit-is
 
 byte-wrong : (g r t : Bool) (s : ℕ)
     → (ltb (bit g + cond r 2 0) 2 && (not (eqb (bit g + cond r 2 0) s) && t)) ≡ ((t && not r) && not (eqb (bit g) s))
-unfolding bit
-byte-wrong true true t s = ended t (eqb 1 s)
-byte-wrong false true t s = ended t (eqb 0 s)
-byte-wrong true false t s = turned t (eqb 1 s)
-byte-wrong false false t s = turned t (eqb 0 s)
+byte-wrong true true t s = rw bit-is (ended t (eqb 1 s))
+byte-wrong false true t s = rw bit-is (ended t (eqb 0 s))
+byte-wrong true false t s = rw bit-is (turned t (eqb 1 s))
+byte-wrong false false t s = rw bit-is (turned t (eqb 0 s))
 
 eqb-turn : (m n : ℕ) → eqb m n ≡ eqb n m
 eqb-turn m n = go (ℕ-discrete m n)
@@ -113,7 +100,7 @@ eqb-turn m n = go (ℕ-discrete m n)
 
 -- where the answer is clear, the sign is to be that of the byte
 gives-clear : (s : ℕ) (e : Entry) → isUnclear e ≡ false → gives s e ≡ eqb (bit (isGranted e)) s
-unfolding gives bit
+unfolding gives
 gives-clear s e u = rw u (go (isGranted e))
   where
     flat : (b : Bool) → (b && true) ≡ b
@@ -121,8 +108,8 @@ gives-clear s e u = rw u (go (isGranted e))
     flat false = refl
 
     go : (g : Bool) → cond g (eqb s positive) (eqb s negative && true) ≡ eqb (bit g) s
-    go true = eqb-turn s 1
-    go false = flat (eqb s 0) ∙ eqb-turn s 0
+    go true = rw bit-is (eqb-turn s 1)
+    go false = rw bit-is (flat (eqb s 0) ∙ eqb-turn s 0)
 
 module _ (boxes rows arrows : List ℕ) (m : ℕ) where
   abbrev pairs : ℕ

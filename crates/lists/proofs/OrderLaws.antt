@@ -1,14 +1,13 @@
 -- The third condition: a list is written exactly when some honest list reaches every granted pair, and refusal 13 names the first
 -- granted pair that no honest list whatever reaches, whatever honest list to which nothing can be added was found. Assumes nothing.
-use mathlib.Core.Path.{_≡_, refl, ap}
+use mathlib.Core.Path.{_≡_, ap}
 use mathlib.Core.Logic.{_↔_}
 use mathlib.Core.Bool.{Bool, not, _&&_, _||_}
 use mathlib.Core.List.{List}
-use mathlib.Core.Option.{Option, none, some}
-use Prim.Native.Nat.{ℕ, zero, suc, _<_}
+use mathlib.Core.Option.{none, some}
+use Prim.Native.Nat.{ℕ, _<_}
 use native.Mathlib.Omega.{arith}
 use lib.Dec.{T, T-not, not-T}
-use Rattle.tables.specs.Search.{first}
 use Rattle.tables.specs.Atoms.{pairCount}
 use Rattle.tables.specs.Refusals.{noOrder}
 use Rattle.tables.specs.declared.Refusal.{Refusal}
@@ -17,14 +16,9 @@ use Rattle.lists.specs.Order.{distinct, ofMode, meets, reached, granted,
 use Rattle.lists.specs.Greedy.{greedy, leftBy, orderFault}
 use Rattle.tables.proofs.TableLaws.{not-not}
 use Rattle.tables.proofs.Tests.{and-T, T-and, T-same, T-true, not-false}
-use Rattle.tables.proofs.SearchLaws.{first-none, first-some, first-is, first-nothing, given-none, given-some, given-true, given-false, every-at, every-is}
+use Rattle.tables.proofs.SearchLaws.{first-same, first-none, first-some, first-is, first-nothing, given-none, given-some, given-true, given-false, every-at, every-is}
 use Rattle.lists.proofs.MatchLaws.{Full, maximal}
 use Rattle.lists.proofs.GreedyLaws.{implies, implied, honest-own, honest-right, Grown, greedy-grown, greedy-full}
-
-pub first-same : {A : Type 0} (g h : ℕ → Option A) (n : ℕ) → ((k : ℕ) → k < n → g k ≡ h k) → first g n ≡ first h n
-unfolding first
-first-same g h zero e = refl
-first-same g h (suc n) e = rw (first-same g h n (λ k l. e k (omega arith)), e n (omega arith))
 
 module _ (boxes rows arrows : List ℕ) (m : ℕ) where
   abbrev pairs : ℕ

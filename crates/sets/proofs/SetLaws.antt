@@ -13,22 +13,13 @@ use lib.Dec.{T, eqb, eqb→eq, lit<}
 use lib.ListN.{length, getD}
 use lib.Pow.{shr-lt, pow-mono}
 use Rattle.tables.specs.Search.{lowest, bit}
+use Rattle.tables.proofs.Bits.{bit-is, bit-lt, bit-one}
 use Rattle.tables.proofs.SelectLaws.{lowest-is, lowest-nothing}
 use Rattle.tables.proofs.BufferLaws.{build-at, build-length}
 use Rattle.tables.proofs.Tests.{T-same, T-and, and-T, true-T}
 use Rattle.sets.specs.Sets.{bitAt, wordOf, wordIn, has, shared, NextAt}
 
 -- ---- a digit more below a number
-
-bit-lt : (t : Bool) → bit t < 2
-unfolding bit
-bit-lt true = lit< tt
-bit-lt false = lit< tt
-
-bit-one : (t : Bool) → eqb (bit t) 1 ≡ t
-unfolding bit
-bit-one true = refl
-bit-one false = refl
 
 pub push-low : (w : ℕ) (t : Bool) → bitAt (w * 2 + bit t) 0 ≡ t
 unfolding bitAt
@@ -43,9 +34,8 @@ push-lt k w t h = rw (add-one, pow-suc) (digits-lt h (bit-lt t))
 
 -- a number is its lowest digit below its half
 low-digit : (n : ℕ) → n < 2 → (t : Bool) → eqb n 1 ≡ t → n ≡ bit t
-unfolding bit
-low-digit n h true e = eqb→eq n 1 (true-T (eqb n 1) e)
-low-digit zero h false e = refl
+low-digit n h true e = eqb→eq n 1 (true-T (eqb n 1) e) ∙ sym (bit-is true)
+low-digit zero h false e = sym (bit-is false)
 low-digit (suc zero) h false e = absurd (subst T e tt)
 low-digit (suc (suc n)) h false e = absurd (omega arith)
 

@@ -1,12 +1,13 @@
--- The atomic boxes of a side, by rising number: each is there once. Assumes nothing.
-use mathlib.Core.Path.{_≡_}
-use mathlib.Core.Bool.{not}
+-- The atomic boxes of a side, by rising number: each is there once; how many pairs they make. Assumes nothing.
+use mathlib.Core.Path.{_≡_, refl, ap, fun-ext}
+use mathlib.Core.Bool.{Bool, not}
 use mathlib.Core.List.{List}
-use Prim.Native.Nat.{ℕ, _<_, _≤_}
+use Prim.Native.Nat.{ℕ, _*_, _<_, _≤_}
 use lib.Dec.{T, eqb, ltb, ltb→lt}
 use lib.ListN.{length, getD}
-use Rattle.tables.specs.Rows.{sideOf, onSide}
-use Rattle.tables.specs.Atoms.{outer, atom, atoms}
+use Rattle.tables.specs.Search.{select}
+use Rattle.tables.specs.Rows.{user, file, sideOf, onSide}
+use Rattle.tables.specs.Atoms.{outer, atom, atoms, pairCount}
 use Rattle.tables.proofs.Tests.{and-T}
 use Rattle.tables.proofs.BufferLaws.{select-most}
 use Rattle.tables.proofs.SelectLaws.{select-found, select-has, select-before, select-same}
@@ -41,3 +42,12 @@ module _ (boxes rows : List ℕ) where
   pub atoms-most : (s : ℕ) → length (atoms boxes rows s) ≤ length boxes
   unfolding atoms
   atoms-most s = select-most (atom boxes rows s) (length boxes)
+
+  pub pairCount-is : pairCount boxes rows ≡ length (atoms boxes rows user) * length (atoms boxes rows file)
+  unfolding pairCount
+  pairCount-is = refl
+
+-- atomic boxes go by which boxes are outer ones
+pub atoms-by-outer : (boxes rows new : List ℕ) → ((b : ℕ) → outer rows b ≡ outer new b) → (s : ℕ) → atoms boxes rows s ≡ atoms boxes new s
+unfolding atoms atom
+atoms-by-outer boxes rows new same s = ap (λ (p : ℕ → Bool). select p (length boxes)) (fun-ext (λ b. rw (same b)))

@@ -7,8 +7,8 @@ use Prim.Native.Nat.{ℕ, zero, suc, _+_, _-_, _<_, _≤_}
 use native.Mathlib.Numerals.{add-one}
 use native.Mathlib.Omega.{arith}
 use native.Mathlib.Nat.{eq-or-lt-of-le, le-of-suc-le-suc}
-use lib.ListN.{length, getD, set, drop, length-append, length-drop, length-replicate, getD-replicate, replicate-append-replicate, List·getD-append}
-use lib.Seq.{drop-cons, set-append-seam, getD-append-add, getD-append-seam, getD-drop}
+use lib.ListN.{length, getD, set, drop, replicate, length-append, length-drop, length-replicate, getD-replicate, replicate-append-replicate, List·getD-append}
+use lib.Seq.{drop-cons, drop-drop, drop-append-add, take-append-seam, set-append-seam, sets, sets-eq, getD-append-add, getD-append-seam, getD-drop}
 use Rattle.tables.specs.Search.{select}
 use Rattle.tables.specs.Buffers.{build, written, zeros}
 
@@ -28,6 +28,14 @@ written-more new old x h =
     ap (λ (l : List ℕ). set (new ++ l) (length new) x) (drop-cons old (length new) 0 h)
     ∙ set-append-seam new (getD old (length new) 0) (drop (suc (length new)) old) x
     ∙ rw (length-snoc, add-one, append-assoc)
+
+-- the places that follow are written by one run of values
+pub written-run : (new xs old : List ℕ) → length new + length xs ≤ length old → sets (written new old) (length new) xs ≡ written (new ++ xs) old
+unfolding written
+written-run new xs old h =
+    let l = new ++ drop (length new) old in
+    let e : length new + length xs ≤ length l = simp (length-append, length-drop) (omega arith) in
+    sets-eq xs l (length new) e ∙ simp (take-append-seam, drop-append-add, drop-drop, length-append, append-assoc)
 
 pub written-length : (new old : List ℕ) → length new ≤ length old → length (written new old) ≡ length old
 unfolding written
@@ -64,6 +72,16 @@ build-at g (suc n) k l =
 pub build-more : (g : ℕ → ℕ) (n : ℕ) → build g (n + 1) ≡ build g n ++ (g n ∷ [])
 unfolding build
 build-more g n = rw add-one
+
+pub build-same : (g h : ℕ → ℕ) (n : ℕ) → ((k : ℕ) → k < n → g k ≡ h k) → build g n ≡ build h n
+unfolding build
+build-same g h zero e = refl
+build-same g h (suc n) e = rw (build-same g h n (λ k l. e k (omega arith)), e n (omega arith))
+
+-- eight values, one by one
+pub build-eight : (g : ℕ → ℕ) → build g 8 ≡ g 0 ∷ g 1 ∷ g 2 ∷ g 3 ∷ g 4 ∷ g 5 ∷ g 6 ∷ g 7 ∷ []
+unfolding build
+build-eight g = refl
 
 -- place n of a buffer that a loop fills by g
 pub written-build : (g : ℕ → ℕ) (n : ℕ) (old : List ℕ) → n < length old → set (written (build g n) old) n (g n) ≡ written (build g (n + 1)) old
@@ -116,6 +134,10 @@ module _ (p : ℕ → Bool) (old : List ℕ) where
   selected-no n count out e s = rw (select-no p n e) s
 
 -- ---- `zeros`
+
+pub zeros-is : (n : ℕ) → replicate n 0 ≡ zeros n
+unfolding zeros
+zeros-is n = refl
 
 pub zeros-length : (n : ℕ) → length (zeros n) ≡ n
 unfolding zeros

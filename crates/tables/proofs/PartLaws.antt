@@ -6,7 +6,7 @@ use native.Mathlib.Omega.{arith}
 use lib.ListN.{length, take, drop, set}
 use lib.Seq.{take-append-seam}
 use Rattle.tables.specs.Buffers.{build, written}
-use Rattle.tables.proofs.BufferLaws.{written-length, build-length, written-build}
+use Rattle.tables.proofs.BufferLaws.{written-none, written-length, build-length, written-build}
 
 -- so many places hold the new values
 abbrev pub Wrote : List ℕ → List ℕ → ℕ → List ℕ → Type 0
@@ -26,7 +26,11 @@ module _ (new old : List ℕ) (count : ℕ) (out : List ℕ) (w : Wrote new old 
   pub part-within : length new ≤ length old → count ≤ length out
   part-within h = let l = wrote-length h in omega (arith, w .0)
 
--- a loop that writes g 0, g 1, .. over the old places
+-- a loop that writes g 0, g 1, .. over the old places: before it, and after p turns
+pub built-none : (g : ℕ → ℕ) (old : List ℕ) → old ≡ written (build g 0) old
+unfolding build
+built-none g old = sym (written-none old)
+
 module _ (g : ℕ → ℕ) (old : List ℕ) (p : ℕ) (out : List ℕ) (w : out ≡ written (build g p) old) where
   pub built-length : p ≤ length old → length out ≡ length old
   built-length h = ap length w ∙ written-length (build g p) old (rw build-length h)

@@ -1,6 +1,6 @@
 -- How the outer boxes of the rows are found, from the last row to the first. Assumes nothing.
 use mathlib.Core.Path.{_≡_, refl, sym, _∙_}
-use mathlib.Core.Bool.{_||_}
+use mathlib.Core.Bool.{false, _||_}
 use mathlib.Core.List.{List, [], _∷_}
 use Prim.Native.Nat.{ℕ, suc, _*_, _/_, _%_, _-_, _<_, _≤_}
 use native.Mathlib.Numerals.{add-one}
@@ -30,10 +30,22 @@ rows-from rows k pos h =
     let e : suc (suc (2 * (k - 1))) ≡ 2 * k = omega arith in
     rw (drop-cons rows (2 * (k - 1)) 0, drop-cons rows (suc (2 * (k - 1))) 0, e, add-one)
 
+-- the outer boxes of no row, of a number that is no row, and of one row more
+pub outer-none : (b : ℕ) → outer [] b ≡ false
+unfolding outer
+outer-none b = refl
+
+pub outer-odd : (x b : ℕ) → outer (x ∷ []) b ≡ false
+unfolding outer
+outer-odd x b = refl
+
+pub outer-more : (x y : ℕ) (rows : List ℕ) (b : ℕ) → outer (x ∷ y ∷ rows) b ≡ (eqb x b || outer rows b)
+unfolding outer
+outer-more x y rows b = refl
+
 module _ (rows : List ℕ) (k : ℕ) (pos : 0 < k) (h : k ≤ rowCount rows) where
   pub outer-from : (b : ℕ) → outer (drop (2 * (k - 1)) rows) b ≡ (eqb (rowAt rows (k - 1) .outer) b || outer (drop (2 * k) rows) b)
-  unfolding outer
-  outer-from b = rw (rows-from rows k pos h, outer)
+  outer-from b = rw (rows-from rows k pos h, outer-more)
 
   -- the outer box of row k - 1 is marked
   pub marked : (marks : List ℕ) (o : ℕ) → o ≡ rowAt rows (k - 1) .outer → o < length marks

@@ -74,6 +74,12 @@ module _ {A : Type 0} (g : ℕ → Option A) where
   pub first-here : (n k : ℕ) (x : A) → first g k ≡ none → g k ≡ some x → k < n → first g n ≡ some x
   first-here n k x e h l = first-is n x (k, l, h, first-none k e)
 
+-- two searches that agree at each number below n
+pub first-same : {A : Type 0} (g h : ℕ → Option A) (n : ℕ) → ((k : ℕ) → k < n → g k ≡ h k) → first g n ≡ first h n
+unfolding first
+first-same g h zero e = refl
+first-same g h (suc n) e = rw (first-same g h n (λ k l. e k (omega arith)), e n (omega arith))
+
 -- ---- `given`
 
 pub given-some : {A : Type 0} (b : Bool) (x y : A) → given b x ≡ some y → T b × (x ≡ y)
@@ -136,3 +142,8 @@ pub every-is : (p : ℕ → Bool) (n : ℕ) → ((k : ℕ) → k < n → T (p k)
 unfolding every
 every-is p zero h = tt
 every-is p (suc n) h = T-and (every p n) (p n) (every-is p n (λ k l. h k (omega arith))) (h n (omega arith))
+
+pub every-same : (p q : ℕ → Bool) (n : ℕ) → ((k : ℕ) → k < n → p k ≡ q k) → every p n ≡ every q n
+unfolding every
+every-same p q zero e = refl
+every-same p q (suc n) e = rw (every-same p q n (λ k l. e k (omega arith)), e n (omega arith))

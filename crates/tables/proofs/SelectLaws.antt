@@ -5,7 +5,7 @@ use mathlib.Core.Logic.{⊎-elim}
 use mathlib.Core.Bool.{Bool, true, false, cond}
 use mathlib.Core.List.{List, [], _∷_, _++_}
 use mathlib.Core.Option.{none, some}
-use Prim.Native.Nat.{ℕ, zero, suc, _<_}
+use Prim.Native.Nat.{ℕ, zero, suc, _<_, _≤_}
 use native.Mathlib.Omega.{arith}
 use native.Mathlib.Numerals.{add-one}
 use lib.Dec.{T}
@@ -95,6 +95,39 @@ module _ (p : ℕ → Bool) where
       let back : ¬ (j < i) = λ k. let r = select-rising n j i k hi in absurd (omega arith) in
       let on : ¬ (i < j) = λ k. let r = select-rising n i j k hj in absurd (omega arith) in
       omega arith
+
+-- a test that holds at fewer numbers selects fewer
+module _ (p q : ℕ → Bool) where
+  pub select-within : (n : ℕ) → ((j : ℕ) → j < n → T (p j) → T (q j)) → length (select p n) ≤ length (select q n)
+  unfolding select
+  select-within zero h = omega arith
+  select-within (suc n) h = go (p n) refl (q n) refl (select-within n (λ j l. h j (omega arith)))
+    where
+      go : (b : Bool) → p n ≡ b → (c : Bool) → q n ≡ c → length (select p n) ≤ length (select q n)
+          → length (cond b (select p n ++ (n ∷ [])) (select p n)) ≤ length (cond c (select q n ++ (n ∷ [])) (select q n))
+      go true e true i g = omega (arith, length-append (select p n) (n ∷ []), length-append (select q n) (n ∷ []))
+      go true e false i g = absurd (false-not (q n) i (h n (omega arith) (true-T (p n) e)))
+      go false e true i g = omega (arith, length-append (select q n) (n ∷ []))
+      go false e false i g = g
+
+  pub select-fewer : (n : ℕ) → ((j : ℕ) → j < n → T (p j) → T (q j)) → (k : ℕ) → k < n → (T (p k) → ⊥) → T (q k)
+      → length (select p n) < length (select q n)
+  unfolding select
+  select-fewer zero h k l out in′ = absurd (omega arith)
+  select-fewer (suc n) h k l out in′ =
+      ⊎-elim
+      (λ e.
+      rw (not-false (p n) (subst (λ (i : ℕ). T (p i) → ⊥) e out), T-true (q n) (subst (λ (i : ℕ). T (q i)) e in′))
+      (omega (arith, length-append (select q n) (n ∷ []), select-within n (λ j l. h j (omega arith)))))
+      (λ l′. go (p n) refl (q n) refl (select-fewer n (λ j l. h j (omega arith)) k l′ out in′))
+      (below-suc l)
+    where
+      go : (b : Bool) → p n ≡ b → (c : Bool) → q n ≡ c → length (select p n) < length (select q n)
+          → length (cond b (select p n ++ (n ∷ [])) (select p n)) < length (cond c (select q n ++ (n ∷ [])) (select q n))
+      go true e true i g = omega (arith, length-append (select p n) (n ∷ []), length-append (select q n) (n ∷ []))
+      go true e false i g = absurd (false-not (q n) i (h n (omega arith) (true-T (p n) e)))
+      go false e true i g = omega (arith, length-append (select q n) (n ∷ []))
+      go false e false i g = g
 
 -- ---- the lowest number at which a test holds
 

@@ -4,7 +4,8 @@
 //   p   a picture: its three tables, how many places of the scratch are lent, a mode, a user and a file, and how many places of
 //       the bytes and of the numbers are lent; for prepare, judge, one_entry and matrix
 //   l   the same for list, whose list is the numbers and whose work is the bytes
-//   f   a block file, and how many places of the three tables are lent; for read
+//   f   a block file, and how many places of the three tables are lent; for read, and for a block reader that moves on from
+//       the first block, from the last block and from behind it
 //   c   bytes, for their check
 // Every buffer has 65,600 places, which hold 170 or 43690 before each call. What is written is the label and a line for each call:
 // what it answers, and then what every place of every buffer holds, as in a table.
@@ -16,6 +17,7 @@ use answers::Entry;
 use answers::Reply;
 use blocks::Check;
 use blocks::Reading;
+use blocks::Seen;
 use libc::STDIN_FILENO;
 use libc::STDOUT_FILENO;
 use lists::Listed;
@@ -294,6 +296,24 @@ fn show_reading(reading: Reading) {
     }
 }
 
+// The head of the block that a reader sees, if any.
+fn show_seen(seen: Seen) {
+    match seen {
+        Seen::Block(head) => {
+            io::write_all(STDOUT_FILENO, b"block");
+            print(wide(head.kind));
+            print(wide(head.byte1));
+            print(tables::wide(head.number));
+            print(tables::wide(head.count));
+            print(wide(head.byte6));
+            print(wide(head.byte7));
+        }
+        Seen::NoBlock => {
+            io::write_all(STDOUT_FILENO, b"none");
+        }
+    }
+}
+
 // ---- The cases.
 
 struct Question {
@@ -410,6 +430,23 @@ fn show_file(file: &[u8], boxes: &mut [u8], rows: &mut [u16], arrows: &mut [u16]
     io::write_all(STDOUT_FILENO, b"\n");
 }
 
+fn one_less(n: usize) -> usize {
+    if n == 0 {
+        return 0;
+    }
+    n - 1
+}
+
+fn show_moves(file: &[u8]) {
+    let count = file.len() / 512;
+    show_seen(blocks::head_after(file, 0));
+    io::write_all(STDOUT_FILENO, b" : ");
+    show_seen(blocks::head_after(file, one_less(count)));
+    io::write_all(STDOUT_FILENO, b" : ");
+    show_seen(blocks::head_after(file, count));
+    io::write_all(STDOUT_FILENO, b"\n");
+}
+
 fn file_case() {
     let mut file = bytes();
     let mut boxes = bytes();
@@ -417,6 +454,7 @@ fn file_case() {
     let mut arrows = numbers();
     let n = byte_table(&mut file);
     show_file(&file[..n], &mut boxes, &mut rows, &mut arrows);
+    show_moves(&file[..n]);
 }
 
 fn check_case() {

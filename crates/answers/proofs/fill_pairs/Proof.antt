@@ -1,13 +1,12 @@
 -- `answers::fill_pairs` meets its contract: the places before p of both buffers are written. Assumes nothing.
-use mathlib.Core.Path.{_≡_, sym}
+use mathlib.Core.Path.{_≡_}
 use Prim.Native.Nat.{_*_, _-_, _≤_, _<_}
 use native.Mathlib.Omega.{arith}
 use borrow.Author.Needs.{needs}
 use lib.ListN.{length}
 use Rattle.tables.specs.Atoms.{pairCount}
 use Rattle.tables.specs.Buffers.{build, written}
-use Rattle.tables.proofs.BufferLaws.{written-none}
-use Rattle.tables.proofs.PartLaws.{built-length, built-more}
+use Rattle.tables.proofs.PartLaws.{built-none, built-length, built-more}
 use Rattle.answers.specs.Pairs.{byteAt, numberAt, matrixBytes, matrixNumbers}
 use Rattle.answers.proofs.TableLaws.{tabled-pairs}
 use Rattle.answers.proofs.fill_pairs.Statement.{statement}
@@ -28,8 +27,7 @@ mul-pairs : tie.Need-mul-pairs Inv-loop μ-loop
 mul-pairs c = omega (arith, counted (c .before .before .before .before .before .before .before .before))
 
 loop-holds : tie.Need-loop-holds Inv-loop μ-loop
-unfolding build
-loop-holds c = let a = c .before .before .before .before .before .before .before .before .args in (sym (written-none (a .bytes .now)), sym (written-none (a .numbers .now)), search needs)
+loop-holds c = let a = c .before .before .before .before .before .before .before .before .args in (built-none _ (a .bytes .now), built-none _ (a .numbers .now), search needs)
 
 answer-at-requires : tie.Need-answer-at-requires Inv-loop μ-loop
 answer-at-requires c κs = let start = c .before .before .before .before .before .before .before .before .before .before in (start .pre .0, start .pre .1, omega (arith, counted start, c .loop-test .taken))

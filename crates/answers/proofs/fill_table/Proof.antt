@@ -1,12 +1,11 @@
 -- `answers::fill_table` meets its contract: the words before i are written. Assumes nothing.
-use mathlib.Core.Path.{_≡_, sym}
+use mathlib.Core.Path.{_≡_}
 use Prim.Native.Nat.{_*_, _-_, _≤_}
 use native.Mathlib.Omega.{arith}
 use borrow.Author.Needs.{needs}
 use lib.ListN.{length}
 use Rattle.tables.specs.Buffers.{build, written}
-use Rattle.tables.proofs.BufferLaws.{written-none}
-use Rattle.tables.proofs.PartLaws.{built-length, built-more}
+use Rattle.tables.proofs.PartLaws.{built-none, built-length, built-more}
 use Rattle.answers.specs.Table.{setWord, setWords, setCount}
 use Rattle.answers.proofs.fill_table.Statement.{statement}
 use Rattle.answers.proofs.fill_table.Tie as tie
@@ -18,8 +17,7 @@ abbrev μ-loop : tie.MeasureT-loop
 μ-loop n rows scratch arrows users files table₀ sets i₀ i-end table i = 8 * setCount rows arrows users files - i
 
 loop-holds : tie.Need-loop-holds Inv-loop μ-loop
-unfolding build
-loop-holds c = let a = c .before .before .before .before .before .before .args in (search needs, sym (written-none (a .table .now)))
+loop-holds c = let a = c .before .before .before .before .before .before .args in (search needs, built-none _ (a .table .now))
 
 long : (c : tie.At-loop Inv-loop μ-loop) → length (c .loop .table) ≡ length (c .before .before .before .before .before .before .before .args .table .now)
 long c = let a = c .before .before .before .before .before .before .before .args in

@@ -1,12 +1,10 @@
 -- `answers::no_boxes` meets its contract: 256 zeros. Assumes nothing.
-use mathlib.Core.Path.{refl}
-use Rattle.tables.specs.Buffers.{zeros}
+use Rattle.tables.proofs.BufferLaws.{zeros-is}
 use Rattle.answers.proofs.no_boxes.Statement.{statement}
 use Rattle.answers.proofs.no_boxes.Tie as tie
 
 returns : tie.Need-returns
-unfolding zeros
-returns c = refl
+returns c = zeros-is 256
 
 pub no-boxes-spec : {M : Type 1} → statement M
 no-boxes-spec =

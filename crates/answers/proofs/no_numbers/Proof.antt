@@ -1,12 +1,10 @@
 -- `answers::no_numbers` meets its contract: 512 zeros. Assumes nothing.
-use mathlib.Core.Path.{refl}
-use Rattle.tables.specs.Buffers.{zeros}
+use Rattle.tables.proofs.BufferLaws.{zeros-is}
 use Rattle.answers.proofs.no_numbers.Statement.{statement}
 use Rattle.answers.proofs.no_numbers.Tie as tie
 
 returns : tie.Need-returns
-unfolding zeros
-returns c = refl
+returns c = zeros-is 512
 
 pub no-numbers-spec : {M : Type 1} → statement M
 no-numbers-spec =

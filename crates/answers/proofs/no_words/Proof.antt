@@ -1,12 +1,10 @@
 -- `answers::no_words` meets its contract: 6,272 zeros. Assumes nothing.
-use mathlib.Core.Path.{refl}
-use Rattle.tables.specs.Buffers.{zeros}
+use Rattle.tables.proofs.BufferLaws.{zeros-is}
 use Rattle.answers.proofs.no_words.Statement.{statement}
 use Rattle.answers.proofs.no_words.Tie as tie
 
 returns : tie.Need-returns
-unfolding zeros
-returns c = refl
+returns c = zeros-is 6272
 
 pub no-words-spec : {M : Type 1} → statement M
 no-words-spec =

@@ -1,7 +1,7 @@
 -- `answers::pair_count` meets its contract: the counts of both sides. Assumes nothing.
 use native.Mathlib.Omega.{arith}
 use borrow.Author.Needs.{needs}
-use Rattle.tables.specs.Atoms.{pairCount}
+use Rattle.tables.proofs.AtomPlaces.{pairCount-is}
 use Rattle.answers.proofs.PairLaws.{few-pairs}
 use Rattle.answers.proofs.pair_count.Statement.{statement}
 use Rattle.answers.proofs.pair_count.Tie as tie
@@ -11,8 +11,7 @@ mul-result c = let start = c .before .before .before .before .before .before .be
     rw (c .before .before .before .before .atoms-of .ensures .0, c .before .atoms-of2 .ensures .0) (omega (arith, few-pairs (start .args .boxes .now) (start .args .rows .now) (start .pre .few-boxes)))
 
 returns : tie.Need-returns
-unfolding pairCount
-returns c = rw (c .before .before .before .before .atoms-of .ensures .0, c .before .atoms-of2 .ensures .0)
+returns c = rw (pairCount-is, c .before .before .before .before .atoms-of .ensures .0, c .before .atoms-of2 .ensures .0)
 
 pub pair-count-spec : {M : Type 1} → statement M
 pair-count-spec =

@@ -4,7 +4,7 @@ use mathlib.Core.Path.{_≡_, refl, sym, _∙_}
 use Prim.Native.Nat.{_≤_, _-_}
 use native.Mathlib.Omega.{arith}
 use borrow.Author.Needs.{needs}
-use Rattle.tables.specs.Search.{first}
+use Rattle.tables.proofs.SearchLaws.{first-zero}
 use Rattle.tables.proofs.Verdicts.{passed, refused}
 use Rattle.blocks.specs.Files.{boxesIn, containmentsIn, arrowsIn, blockAt, blockCount, blocksFault}
 use Rattle.blocks.specs.Blocks.{joined}
@@ -20,8 +20,8 @@ abbrev μ-loop : tie.MeasureT-loop
 μ-loop file counts₀ block₀ block-end counts block = blockCount file - block
 
 loop-holds : tie.Need-loop-holds Inv-loop μ-loop
-unfolding blocksFault first countsIn boxesIn containmentsIn arrowsIn joined
-loop-holds c = (search needs, refl, refl, c .zero .ensures)
+unfolding blocksFault countsIn boxesIn containmentsIn arrowsIn joined
+loop-holds c = (search needs, refl, first-zero _, c .zero .ensures)
 
 check-block-requires : tie.Need-check-block-requires Inv-loop μ-loop
 check-block-requires c κs = (search needs, c .of .ensures)

@@ -5,6 +5,7 @@ use native.Mathlib.Omega.{arith}
 use lib.ListN.{length}
 use borrow.Author.Needs.{needs}
 use Rattle.tables.specs.Buffers.{written}
+use Rattle.tables.proofs.BufferLaws.{written-none}
 use Rattle.blocks.specs.Blocks.{boxesSaid, containmentsSaid, arrowsSaid, joined}
 use Rattle.blocks.specs.Reads.{countsIn}
 use Rattle.blocks.specs.Files.{blockAt, blockCount, boxesIn, containmentsIn, arrowsIn}
@@ -27,8 +28,8 @@ abbrev μ-loop : tie.MeasureT-loop
 μ-loop file boxes₀ rows₀ arrows₀ at₀ block₀ block-end boxes rows arrows at block = blockCount file - block
 
 loop-holds : tie.Need-loop-holds Inv-loop μ-loop
-unfolding written countsIn boxesIn containmentsIn arrowsIn joined
-loop-holds c = (search needs, refl, c .zero .ensures, refl, refl, refl, refl, refl, refl)
+unfolding countsIn boxesIn containmentsIn arrowsIn joined
+loop-holds c = (search needs, refl, c .zero .ensures, refl, refl, refl, sym (written-none _), sym (written-none _), sym (written-none _))
 
 put-block-requires : tie.Need-put-block-requires Inv-loop μ-loop
 put-block-requires c κs = let l = c .before .before .before .before .loop in

@@ -1,14 +1,13 @@
 -- `containment::copy_row` meets its contract: the places before j are copied. Assumes nothing.
 use mathlib.Core.List.{List}
-use mathlib.Core.Path.{_≡_, refl, sym}
+use mathlib.Core.Path.{_≡_, refl}
 use Prim.Native.Nat.{ℕ, _+_, _-_, _≤_}
 use native.Mathlib.Omega.{arith}
 use borrow.Author.Needs.{needs}
 use lib.ListN.{length, getD}
 use Rattle.containment.specs.Steps.{rowFrom}
 use Rattle.tables.specs.Buffers.{build, written}
-use Rattle.tables.proofs.BufferLaws.{written-none}
-use Rattle.tables.proofs.PartLaws.{built-more}
+use Rattle.tables.proofs.PartLaws.{built-none, built-more}
 use Rattle.containment.proofs.copy_row.Statement.{statement}
 use Rattle.containment.proofs.copy_row.Tie as tie
 
@@ -23,8 +22,7 @@ abbrev μ-loop : tie.MeasureT-loop
 μ-loop s at n row₀ j₀ row j = n - j
 
 loop-holds : tie.Need-loop-holds Inv-loop μ-loop
-unfolding build
-loop-holds c = (search needs, refl, sym (written-none (c .args .row .now)))
+loop-holds c = (search needs, refl, built-none (copied (c .args .s .now) (c .args .at)) (c .args .row .now))
 
 loop-again : tie.Need-loop-again Inv-loop μ-loop
 loop-again c = let at = c .before .before in

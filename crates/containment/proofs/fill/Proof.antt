@@ -19,7 +19,8 @@ mark-requires : tie.Need-mark-requires
 mark-requires c κs = let cl = c .before .before .before in
     let start = c .before .before .before .before .before .before .before .before in
     let sound = start .pre .0 in
-    (sound .whole, (λ k h. (sound .outer-there k h, sound .inner-there k h), (search needs, rw (cl .clear .ensures) (cleared (length (start .args .boxes .now)) (start .args .scratch .now) (start .pre .1)))))
+    let n = length (start .args .boxes .now) in
+    (sound .whole, (λ k h. (sound .outer-there k h, sound .inner-there k h), (search needs, rw (cl .clear .ensures) (cleared n _ _ (omega arith)))))
 
 close-requires : tie.Need-close-requires
 close-requires c κs = let start = c .before .before .before .before .before .before .before .before .before .before .before .before .before .before in

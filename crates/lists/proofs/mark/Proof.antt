@@ -4,8 +4,7 @@ use Prim.Native.Nat.{_-_, _*_, _≤_}
 use native.Mathlib.Nat.{zero-mul}
 use native.Mathlib.Omega.{arith}
 use lib.ListN.{length}
-use Rattle.tables.specs.Buffers.{build}
-use Rattle.tables.proofs.BufferLaws.{written-none}
+use Rattle.tables.proofs.PartLaws.{built-none}
 use Rattle.lists.specs.Steps.{touches, markedTo}
 use Rattle.lists.proofs.StepLaws.{marked-length}
 use Rattle.lists.proofs.PlaceLaws.{rows-fit}
@@ -24,9 +23,8 @@ long c = let start = c .before .before .before in
     ap length (c .loop .inv .0) ∙ marked-length _ (start .args .work .now) _ (omega (arith, rows-fit (start .pre .0) _ (c .loop .inv .1), start .pre .2))
 
 loop-holds : tie.Need-loop-holds Inv-loop μ-loop
-unfolding build
 loop-holds c = let a = c .before .before .args in
-    (sym (written-none (a .work .now)) ∙ ap (markedTo _ (a .work .now)) (sym (zero-mul (a .g .files))), omega arith)
+    (built-none _ (a .work .now) ∙ ap (markedTo _ (a .work .now)) (sym (zero-mul (a .g .files))), omega arith)
 
 mark-row-requires : tie.Need-mark-row-requires Inv-loop μ-loop
 mark-row-requires c κs = let p = c .before .before .before .before .before .pre in

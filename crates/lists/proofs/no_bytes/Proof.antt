@@ -1,12 +1,10 @@
 -- `lists::no_bytes` meets its contract: 16,384 zeros. Assumes nothing.
-use mathlib.Core.Path.{refl}
-use Rattle.tables.specs.Buffers.{zeros}
+use Rattle.tables.proofs.BufferLaws.{zeros-is}
 use Rattle.lists.proofs.no_bytes.Statement.{statement}
 use Rattle.lists.proofs.no_bytes.Tie as tie
 
 returns : tie.Need-returns
-unfolding zeros
-returns c = refl
+returns c = zeros-is 16384
 
 pub no-bytes-spec : {M : Type 1} → statement M
 no-bytes-spec =

@@ -1,12 +1,10 @@
 -- `lists::no_places` meets its contract: 512 zeros. Assumes nothing.
-use mathlib.Core.Path.{refl}
-use Rattle.tables.specs.Buffers.{zeros}
+use Rattle.tables.proofs.BufferLaws.{zeros-is}
 use Rattle.lists.proofs.no_places.Statement.{statement}
 use Rattle.lists.proofs.no_places.Tie as tie
 
 returns : tie.Need-returns
-unfolding zeros
-returns c = refl
+returns c = zeros-is 512
 
 pub no-places-spec : {M : Type 1} → statement M
 no-places-spec =

@@ -1,12 +1,12 @@
 -- `sets::share` meets its contract: by its eight words. Assumes nothing.
 use borrow.Author.Needs.{needs}
-use Rattle.tables.specs.Buffers.{build}
+use Rattle.tables.proofs.BufferLaws.{build-eight}
 use Rattle.sets.specs.Sets.{shared}
 use Rattle.sets.proofs.share.Statement.{statement}
 use Rattle.sets.proofs.share.Tie as tie
 
 returns : tie.Need-returns
-unfolding shared build
+unfolding shared
 returns c =
     let c₂ = c .before .before in
     let c₄ = c₂ .before .before in
@@ -20,6 +20,7 @@ returns c =
       c₄ .before .shared-word3 .ensures,
       c₆ .shared-word2 .ensures,
       c₆ .before .shared-word .ensures,
+      build-eight,
     )
 
 pub share-spec : {M : Type 1} → statement M
