@@ -15,12 +15,12 @@ use Rattle.tables.specs.Refusals.{noOrder}
 use Rattle.tables.specs.Faults.{tableFault}
 use Rattle.tables.specs.declared.Refusal.{Refusal}
 use Rattle.answers.specs.Meaning.{modeArrows}
-use Rattle.answers.specs.Pairs.{Before, userAt, fileAt}
+use Rattle.answers.specs.Pairs.{userAt, fileAt}
 use Rattle.lists.specs.Order.{distinct, meets, reached, granted, right, honest, coversAll, qualifies, FirstMissed}
 use Rattle.lists.specs.Greedy.{orderFault}
 use Rattle.lists.specs.Calls.{listEarly, listLate, Answered, Outcome}
-use Rattle.lists.specs.Condition.{Pair, Reaches, GetsAnswer, Honest, IsGranted, ReachesAll}
-use Rattle.lists.specs.Condition.{SomeReachesAll, SomeReaches, FirstUnreached, WrittenList, Condition3}
+use Rattle.lists.specs.Condition.{Pair, Reaches, Honest, IsGranted, ReachesAll, SomeReachesAll}
+use Rattle.lists.specs.Condition.{FirstUnreached, WrittenList, Condition3}
 use Rattle.lists.specs.declared.Listed.{Listed}
 use Rattle.lists.specs.declared.Listed.the-variants.{Written, Refused}
 use Rattle.tables.proofs.TableLaws.{both-none}
@@ -61,8 +61,7 @@ module _ (boxes rows arrows : List ℕ) (m : ℕ) where
   honest-pairs l = (
     λ h. (
       honest-own boxes rows arrows m l h,
-      by-place (GetsAnswer boxes rows arrows m l)
-          (λ p b k e. rw (answer-at boxes rows arrows m p) at (honest-right boxes rows arrows m l h p k b e)),
+      by-place _ (λ p b k e. rw (answer-at boxes rows arrows m p) at (honest-right boxes rows arrows m l h p k b e)),
     ),
     λ h.
         honest-is boxes rows arrows m l (h .0)
@@ -71,9 +70,7 @@ module _ (boxes rows arrows : List ℕ) (m : ℕ) where
 
   covers-pairs : (l : List ℕ) → T (coversAll boxes rows arrows m l) ↔ ReachesAll boxes rows arrows m l
   covers-pairs l = (
-    λ c.
-        by-place (λ u f. IsGranted boxes rows arrows m u f → Reaches boxes rows arrows l u f)
-        (λ p b g. reached-at l p .0 (covers-at boxes rows arrows m l c p b (granted-at p .1 g))),
+    λ c. by-place _ (λ p b g. reached-at l p .0 (covers-at boxes rows arrows m l c p b (granted-at p .1 g))),
     λ c.
         covers-is boxes rows arrows m l
         (λ p b g. reached-at l p .1 (c (userAt boxes rows p) (fileAt boxes rows p) (pair-at p b) (granted-at p .0 g))),
@@ -95,9 +92,7 @@ module _ (boxes rows arrows : List ℕ) (m : ℕ) where
         is-pair = pair-at p (w .there);
         is-granted = granted-at p .0 (w .is-granted);
         unreached = λ s. w .missed (s .0) (honest-pairs (s .0) .1 (s .1)) (reached-at (s .0) p .1 (s .2));
-        before = by-place
-            (λ v g. Before v g (userAt boxes rows p) (fileAt boxes rows p) → IsGranted boxes rows arrows m v g
-            → SomeReaches boxes rows arrows m v g)
+        before = by-place _
             (λ q b o g.
             let s = w .before q (pair-before boxes rows p q (w .there) b o) (granted-at q .1 g) in
             (s .0, honest-pairs (s .0) .0 (s .1), reached-at (s .0) q .0 (s .2)));

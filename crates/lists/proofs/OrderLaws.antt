@@ -17,7 +17,8 @@ use Rattle.lists.specs.Order.{distinct, ofMode, meets, reached, granted,
 use Rattle.lists.specs.Greedy.{greedy, leftBy, orderFault}
 use Rattle.tables.proofs.TableLaws.{not-not}
 use Rattle.tables.proofs.Tests.{and-T, T-and, T-same, T-true, not-false}
-use Rattle.tables.proofs.SearchLaws.{first-none, first-some, first-is, first-nothing, given-none, given-some, given-true, given-false, every-at, every-is}
+use Rattle.tables.proofs.SearchLaws.{first-none, first-some, first-is, first-nothing, every-at, every-is}
+use Rattle.tables.proofs.SearchLaws.{given-none, given-some, given-true, given-false}
 use Rattle.lists.proofs.MatchLaws.{Full, maximal}
 use Rattle.lists.proofs.GreedyLaws.{implies, implied, honest-own, honest-right, Grown, greedy-grown, greedy-full}
 
@@ -97,7 +98,8 @@ module _ (boxes rows arrows : List ℕ) (m : ℕ) where
   -- ---- what refusal 13 says
 
   -- there is none exactly when some honest list reaches every granted pair
-  pub order-none : (orderFault boxes rows arrows m ≡ none) ↔ ((l : List ℕ) × T (honest boxes rows arrows m l) × T (coversAll boxes rows arrows m l))
+  pub order-none : (orderFault boxes rows arrows m ≡ none)
+      ↔ ((l : List ℕ) × T (honest boxes rows arrows m l) × T (coversAll boxes rows arrows m l))
   unfolding orderFault leftBy
   order-none = (
     λ e. (best, greedy-grown boxes rows arrows m .is-honest, left-none best e),
@@ -137,7 +139,11 @@ module _ (boxes rows arrows : List ℕ) (m : ℕ) where
             file-is = ap (λ (r : Refusal). r .third) (s .1);
             is-granted = d .0;
             missed = λ l h r. T-not (reached boxes rows arrows best p) (d .1) (most best (greedy-full boxes rows arrows m) l h p (w .1) r);
-            before = λ q l g. (best, greedy-grown boxes rows arrows m .is-honest, unless-left best q g (given-none (left best q) (place q) (w .3 q l)));
+            before = λ q l g. (
+              best,
+              greedy-grown boxes rows arrows m .is-honest,
+              unless-left best q g (given-none (left best q) (place q) (w .3 q l)),
+            );
           }
 
       names : FirstMissed boxes rows arrows m u f → leftBy boxes rows arrows m best ≡ some (noOrder m u f)
