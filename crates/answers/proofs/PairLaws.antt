@@ -1,6 +1,6 @@
 -- The pairs by their places, and the first at which a test holds, by user, then file. Assumes nothing.
 use mathlib.Core.Path.{_≡_, refl, ap}
-use mathlib.Core.Logic.{_⊎_, ⊎-elim}
+use mathlib.Core.Logic.{⊎-elim}
 use mathlib.Core.Bool.{Bool, true, false}
 use mathlib.Core.List.{List}
 use mathlib.Core.Option.{Option, none, some}
@@ -17,7 +17,7 @@ use Rattle.tables.specs.declared.Refusal.{Refusal}
 use Rattle.tables.proofs.SearchLaws.{first-none, first-some, given-some, given-none, given-true, given-false}
 use Rattle.tables.proofs.AtomPlaces.{pairCount-is, atoms-found, atoms-has, atoms-before, atoms-same, atoms-most}
 use Rattle.containment.proofs.Index.{in-table, at-div, at-mod, place, row-step}
-use Rattle.answers.specs.Pairs.{userAt, fileAt, firstPair, answerAt, unclearFault}
+use Rattle.answers.specs.Pairs.{Before, userAt, fileAt, firstPair, answerAt, unclearFault}
 use Rattle.answers.specs.Meaning.{isUnclear}
 
 -- a place of a table of m rows of n: its row and its column
@@ -32,10 +32,6 @@ earlier-row n p q h l = omega (arith, row-step n (q / n) (p / n) l, place n p, p
 
 earlier-column : (n p q : ℕ) → q / n ≡ p / n → q % n < p % n → q < p
 earlier-column n p q e l = omega (arith, ap (λ (k : ℕ). k * n) e, place n p, place n q)
-
--- (u, f) comes before (v, g)
-abbrev pub Before : ℕ → ℕ → ℕ → ℕ → Type 0
-Before u f v g = (u < v) ⊎ ((u ≡ v) × (f < g))
 
 module _ (boxes rows : List ℕ) where
   -- the row and the column of a place

@@ -1,52 +1,13 @@
--- The lettered pictures A to J (document 01), mode 0: one table of pictures and of what is said of their answers, and a function that
--- recomputes it. The theorem that it is right stands with the lists (`lists` specs/Cases). Assumes nothing.
-use mathlib.Core.List.{List, [], _∷_, _++_, map}
-use mathlib.Core.Option.{Option, none, some}
-use Prim.Native.Nat.{ℕ, _*_}
-use lib.ListN.{length, replicate}
-use Rattle.tables.specs.Refusals.{inItself, unclearPair}
-use Rattle.tables.specs.declared.Refusal.{Refusal}
-use Rattle.answers.specs.Meaning.{answer}
-use Rattle.answers.specs.Pairs.{matrixBytes, matrixNumbers}
-use Rattle.answers.specs.Calls.{replyOf, entryFault, judgeFault}
-use Rattle.answers.specs.declared.Entry.the-variants.{Granted, Denied, Default, Unclear}
-use Rattle.answers.specs.declared.Reply.{Reply}
-use Rattle.answers.specs.declared.Reply.the-variants.{Answered, Refused}
+-- The lettered pictures A to J (document 01). What is said of each is one table with one theorem: `lists` specs/Cases.
+-- Assumes nothing.
+use mathlib.Core.List.{List, [], _∷_, _++_}
+use Prim.Native.Nat.{ℕ}
 
 -- a picture
 pub record Picture : Type 0 where
   pub boxes : List ℕ
   pub rows : List ℕ
   pub arrows : List ℕ
-
--- a picture and what the calls answer, with buffers that suffice
-pub record Case : Type 0 where
-  pub picture : Picture
-  -- the judge's refusal, if any
-  pub judged : Option Refusal
-  -- some pairs of a user and a file, and the replies
-  pub entries : List (ℕ × ℕ × Reply)
-  -- the matrix
-  pub bytes : List ℕ
-  pub numbers : List ℕ
-
--- the same pictures and questions, with what the definitions answer
-unfoldable pub compute : Case → Case
-compute c =
-    let boxes = c .picture .boxes in
-    let rows = c .picture .rows in
-    let arrows = c .picture .arrows in
-    let scratch = replicate {A = ℕ} (length boxes * length boxes) 0 in
-    record {
-      picture = c .picture;
-      judged = judgeFault boxes rows arrows scratch;
-      entries = map (λ q. (q .0, q .1, replyOf (entryFault boxes rows arrows scratch 0 (q .0) (q .1)) (answer rows arrows 0 (q .0) (q .1)))) (c .entries);
-      bytes = matrixBytes boxes rows arrows 0;
-      numbers = matrixNumbers boxes rows arrows 0;
-    }
-
-abbrev default : ℕ
-default = 65535
 
 -- no boxes
 unfoldable pub picture-A : Picture
@@ -114,75 +75,3 @@ picture-J = record {
       ∷ 8 ∷ 7 ∷ 9 ∷ 8 ∷ 9 ∷ 6 ∷ 10 ∷ 6 ∷ 11 ∷ 10 ∷ 11 ∷ 7 ∷ [];
   arrows = 2 ∷ 8 ∷ 0 ∷ 1 ∷ 3 ∷ 9 ∷ 0 ∷ 0 ∷ 4 ∷ 10 ∷ 0 ∷ 1 ∷ 5 ∷ 11 ∷ 0 ∷ 0 ∷ [];
 }
-
-unfoldable pub table : List Case
-table =
-    -- A
-    record { picture = picture-A; judged = none; entries = []; bytes = []; numbers = [] }
-    -- B
-    ∷ record {
-      picture = picture-B;
-      judged = none;
-      entries = (0, 3, Answered (Granted 0)) ∷ (1, 3, Answered (Denied 1)) ∷ [];
-      bytes = 1 ∷ 0 ∷ [];
-      numbers = 0 ∷ 1 ∷ [];
-    }
-    -- C
-    ∷ record {
-      picture = picture-C;
-      judged = some (unclearPair 0 0 1);
-      entries = (0, 1, Answered (Unclear 0 1)) ∷ [];
-      bytes = 2 ∷ [];
-      numbers = default ∷ [];
-    }
-    -- D
-    ∷ record {
-      picture = picture-D;
-      judged = some (unclearPair 0 0 3);
-      entries = (0, 3, Answered (Unclear 0 1)) ∷ [];
-      bytes = 2 ∷ [];
-      numbers = default ∷ [];
-    }
-    -- E
-    ∷ record {
-      picture = picture-E;
-      judged = none;
-      entries = (0, 3, Answered (Granted 2)) ∷ [];
-      bytes = 1 ∷ [];
-      numbers = 2 ∷ [];
-    }
-    -- F
-    ∷ record {
-      picture = picture-F;
-      judged = some (unclearPair 0 0 2);
-      entries = (0, 2, Answered (Unclear 0 1)) ∷ [];
-      bytes = 2 ∷ [];
-      numbers = default ∷ [];
-    }
-    -- G
-    ∷ record {
-      picture = picture-G;
-      judged = none;
-      entries = (0, 1, Answered Default) ∷ [];
-      bytes = 0 ∷ [];
-      numbers = default ∷ [];
-    }
-    -- H
-    ∷ record { picture = picture-H; judged = some (inItself 0); entries = (0, 0, Refused (inItself 0)) ∷ []; bytes = []; numbers = [] }
-    -- I
-    ∷ record {
-      picture = picture-I;
-      judged = none;
-      entries = (0, 2, Answered (Granted 0)) ∷ [];
-      bytes = 1 ∷ [];
-      numbers = 0 ∷ [];
-    }
-    -- J
-    ∷ record {
-      picture = picture-J;
-      judged = none;
-      entries = (0, 6, Answered (Denied 1)) ∷ (0, 7, Answered (Granted 0)) ∷ (1, 6, Answered (Granted 2)) ∷ (1, 7, Answered (Denied 3)) ∷ [];
-      bytes = 0 ∷ 1 ∷ 1 ∷ 0 ∷ [];
-      numbers = 1 ∷ 0 ∷ 2 ∷ 3 ∷ [];
-    }
-    ∷ []

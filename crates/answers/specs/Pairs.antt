@@ -1,8 +1,10 @@
 -- The pairs of an atomic user and an atomic file: rows are the users, columns the files, both by rising number. Assumes nothing.
+use mathlib.Core.Path.{_≡_}
+use mathlib.Core.Logic.{_⊎_}
 use mathlib.Core.Bool.{Bool}
 use mathlib.Core.List.{List}
 use mathlib.Core.Option.{Option}
-use Prim.Native.Nat.{ℕ, _/_, _%_}
+use Prim.Native.Nat.{ℕ, _/_, _%_, _<_}
 use lib.ListN.{length, getD}
 use Rattle.tables.specs.Search.{first, given}
 use Rattle.tables.specs.Buffers.{build}
@@ -12,6 +14,10 @@ use Rattle.tables.specs.Refusals.{unclearPair}
 use Rattle.tables.specs.declared.Refusal.{Refusal}
 use Rattle.answers.specs.Meaning.{answer, byteOf, numberOf, isUnclear}
 use Rattle.answers.specs.declared.Entry.{Entry}
+
+-- the pair (u, f) comes before (v, g), by user, then file
+abbrev pub Before : ℕ → ℕ → ℕ → ℕ → Type 0
+Before u f v g = (u < v) ⊎ ((u ≡ v) × (f < g))
 
 module _ (boxes rows : List ℕ) where
   -- the user and the file of the pair at place p

@@ -11,3 +11,4 @@ pub mod FillLaws
 pub mod CallLaws
 pub mod ReadyLaws
 pub mod EndLaws
+pub mod ConditionLaws

@@ -1,6 +1,6 @@
 -- The third condition: a list is written exactly when some honest list reaches every granted pair, and refusal 13 names the first
 -- granted pair that no honest list whatever reaches, whatever honest list to which nothing can be added was found. Assumes nothing.
-use mathlib.Core.Path.{_≡_, ap}
+use mathlib.Core.Path.{_≡_, sym, ap}
 use mathlib.Core.Logic.{_↔_}
 use mathlib.Core.Bool.{Bool, not, _&&_, _||_}
 use mathlib.Core.List.{List}
@@ -16,7 +16,8 @@ use Rattle.lists.specs.Order.{distinct, ofMode, meets, reached, granted,
 use Rattle.lists.specs.Greedy.{greedy, leftBy, orderFault}
 use Rattle.tables.proofs.TableLaws.{not-not}
 use Rattle.tables.proofs.Tests.{and-T, T-and, T-same, T-true, not-false}
-use Rattle.tables.proofs.SearchLaws.{first-same, first-none, first-some, first-is, first-nothing, given-none, given-some, given-true, given-false, every-at, every-is}
+use Rattle.tables.proofs.SearchLaws.{first-same, first-none, first-some, first-is, first-nothing, every-at, every-is}
+use Rattle.tables.proofs.SearchLaws.{given-none, given-some, given-true, given-false}
 use Rattle.lists.proofs.MatchLaws.{Full, maximal}
 use Rattle.lists.proofs.GreedyLaws.{implies, implied, honest-own, honest-right, Grown, greedy-grown, greedy-full}
 
@@ -39,19 +40,25 @@ module _ (boxes rows arrows : List ℕ) (m : ℕ) where
   unless-left l p g n =
       not-not (reached boxes rows arrows l p) (λ r. n (T-and (granted boxes rows arrows m p) (not (reached boxes rows arrows l p)) g r))
 
-  -- a list leaves nothing exactly if it reaches every granted pair
-  left-none : (l : List ℕ) → leftBy boxes rows arrows m l ≡ none → T (coversAll boxes rows arrows m l)
-  unfolding leftBy coversAll
-  left-none l e =
+  -- what it is to reach every granted pair
+  pub covers-is : (l : List ℕ) → ((p : ℕ) → p < pairs → T (granted boxes rows arrows m p) → T (reached boxes rows arrows l p))
+      → T (coversAll boxes rows arrows m l)
+  unfolding coversAll
+  covers-is l h =
       every-is (λ p. not (granted boxes rows arrows m p) || reached boxes rows arrows l p) pairs
-      (λ p b. implies (granted boxes rows arrows m p) (reached boxes rows arrows l p)
-      (λ g. unless-left l p g (given-none (left l p) (place p) (first-none _ pairs e p b))))
+      (λ p b. implies (granted boxes rows arrows m p) (reached boxes rows arrows l p) (h p b))
 
-  covers-at : (l : List ℕ) → T (coversAll boxes rows arrows m l) → (p : ℕ) → p < pairs → T (granted boxes rows arrows m p) → T (reached boxes rows arrows l p)
+  pub covers-at : (l : List ℕ) → T (coversAll boxes rows arrows m l)
+      → (p : ℕ) → p < pairs → T (granted boxes rows arrows m p) → T (reached boxes rows arrows l p)
   unfolding coversAll
   covers-at l c p b =
       implied (granted boxes rows arrows m p) (reached boxes rows arrows l p)
       (every-at (λ p. not (granted boxes rows arrows m p) || reached boxes rows arrows l p) pairs c p b)
+
+  -- a list that leaves nothing does
+  left-none : (l : List ℕ) → leftBy boxes rows arrows m l ≡ none → T (coversAll boxes rows arrows m l)
+  unfolding leftBy
+  left-none l e = covers-is l (λ p b g. unless-left l p g (given-none (left l p) (place p) (first-none _ pairs e p b)))
 
   -- a list to which nothing can be added reaches all that an honest list reaches
   abbrev pub IsFull : List ℕ → Type 0
@@ -85,7 +92,8 @@ module _ (boxes rows arrows : List ℕ) (m : ℕ) where
   -- ---- what refusal 13 says
 
   -- there is none exactly when some honest list reaches every granted pair
-  pub order-none : (orderFault boxes rows arrows m ≡ none) ↔ ((l : List ℕ) × T (honest boxes rows arrows m l) × T (coversAll boxes rows arrows m l))
+  pub order-none : (orderFault boxes rows arrows m ≡ none)
+      ↔ ((l : List ℕ) × T (honest boxes rows arrows m l) × T (coversAll boxes rows arrows m l))
   unfolding orderFault leftBy
   order-none = (
     λ e. (best, greedy-grown boxes rows arrows m .is-honest, left-none best e),
@@ -99,6 +107,13 @@ module _ (boxes rows arrows : List ℕ) (m : ℕ) where
         T-not (reached boxes rows arrows best p) (d .1)
         (most best (greedy-full boxes rows arrows m) (s .0) (s .1) p b (covers-at (s .0) (s .2) p b (d .0)))))),
   )
+
+  -- it names a pair in the mode
+  pub order-some : (x : Refusal) → orderFault boxes rows arrows m ≡ some x → (u f : ℕ) × (x ≡ noOrder m u f)
+  unfolding orderFault leftBy
+  order-some x e =
+      let w = first-some _ pairs x e in
+      (userAt boxes rows (w .0), fileAt boxes rows (w .0), sym (given-some (left best (w .0)) (place (w .0)) x (w .2) .1))
 
   -- it names a pair exactly when that is the first granted pair that no honest list whatever reaches
   pub order-missed : (u f : ℕ) → (orderFault boxes rows arrows m ≡ some (noOrder m u f)) ↔ FirstMissed boxes rows arrows m u f
@@ -118,7 +133,11 @@ module _ (boxes rows arrows : List ℕ) (m : ℕ) where
             file-is = ap (λ (r : Refusal). r .third) (s .1);
             is-granted = d .0;
             missed = λ l h r. T-not (reached boxes rows arrows best p) (d .1) (most best (greedy-full boxes rows arrows m) l h p (w .1) r);
-            before = λ q l g. (best, greedy-grown boxes rows arrows m .is-honest, unless-left best q g (given-none (left best q) (place q) (w .3 q l)));
+            before = λ q l g. (
+              best,
+              greedy-grown boxes rows arrows m .is-honest,
+              unless-left best q g (given-none (left best q) (place q) (w .3 q l)),
+            );
           }
 
       names : FirstMissed boxes rows arrows m u f → leftBy boxes rows arrows m best ≡ some (noOrder m u f)

@@ -1,4 +1,5 @@
--- The lettered pictures A to J (document 01), mode 0, whole: the answers' table, with what holds of lists. Assumes nothing.
+-- The lettered pictures A to J (document 01) in mode 0: one table of what is said of each, and the theorem that the definitions say
+-- the same (`table-right`). The pictures stand in `answers` specs/Cases. Assumes nothing.
 use mathlib.Core.Path.{_≡_, refl}
 use mathlib.Core.Bool.{Bool, true, false}
 use mathlib.Core.List.{List, [], _∷_, map}
@@ -6,74 +7,193 @@ use mathlib.Core.Option.{Option, none, some}
 use Prim.Native.Nat.{ℕ, _*_}
 use lib.ListN.{length, replicate}
 use Rattle.tables.specs.Search.{orElse, given, first, lowest, every, select}
-use Rattle.tables.specs.Buffers.{build, written}
+use Rattle.tables.specs.Buffers.{build}
 use Rattle.tables.specs.Rows.{sideOf, onSide}
 use Rattle.tables.specs.Atoms.{outer, atom, atoms, pairCount}
 use Rattle.tables.specs.Refusals.{inItself, unclearPair, noOrder}
-use Rattle.tables.specs.Faults.{raggedFault, countFault, byteFault, namesNoBox, acrossSides, wrongEnds, wrongMode, rowFault, tableFault, modeFault, roomFault}
+use Rattle.tables.specs.Faults.{raggedFault, countFault, byteFault, namesNoBox, acrossSides, wrongEnds, wrongMode}
+use Rattle.tables.specs.Faults.{rowFault, tableFault, modeFault, roomFault}
 use Rattle.tables.specs.declared.Refusal.{Refusal}
 use Rattle.containment.specs.Contains.{contains, around, loopFault}
 use Rattle.containment.specs.Scratch.{scratchFault, earlyFault, pictureFault}
-use Rattle.answers.specs.Meaning.{reaches, nests, level, overrides, settle, hits, certifies, answer, byteOf, numberOf, isGranted, isUnclear, hasMode, modeArrows}
+use Rattle.answers.specs.Meaning.{hasMode, modeArrows, reaches, nests, level, overrides, settle, hits, certifies, answer}
+use Rattle.answers.specs.Meaning.{byteOf, numberOf, isGranted, isUnclear}
 use Rattle.answers.specs.Pairs.{userAt, fileAt, firstPair, answerAt, byteAt, numberAt, matrixBytes, matrixNumbers, unclearFault, anyUnclear}
-use Rattle.answers.specs.Calls.{askedFault, entryEarly, entryFault, judgeFault, matrixEarly, matrixFault, replyOf}
-use Rattle.answers.specs.Cases.{Case, compute, picture-A, picture-B, picture-C, picture-D, picture-E, picture-F, picture-G, picture-H, picture-I, picture-J}
-use Rattle.lists.specs.Order.{anyOf, allOf, firstOf, passes, distinct, gives, ofMode, meets, reached, granted, right, honest, coversAll, qualifies}
+use Rattle.answers.specs.Calls.{askedFault, entryEarly, entryFault, judgeFault, replyOf}
+use Rattle.answers.specs.Cases.{Picture, picture-A, picture-B, picture-C, picture-D, picture-E, picture-F}
+use Rattle.answers.specs.Cases.{picture-G, picture-H, picture-I, picture-J}
+use Rattle.answers.specs.declared.Entry.the-variants.{Granted, Denied, Default, Unclear}
+use Rattle.answers.specs.declared.Reply.{Reply}
+use Rattle.answers.specs.declared.Reply.the-variants.{Answered, Refused}
+use Rattle.lists.specs.Order.{anyOf, allOf, firstOf, passes, distinct, gives, ofMode}
+use Rattle.lists.specs.Order.{meets, reached, granted, right, honest, coversAll, qualifies}
 use Rattle.lists.specs.Greedy.{new, fits, addable, grow, greedy, leftBy, orderFault}
 use Rattle.lists.specs.Calls.{listEarly, listLate}
-use Rattle.answers.specs.Cases as answers
 
--- a case of the answers, and what the call for a list says
-pub record ListCase : Type 0 where
-  pub base : Case
-  -- the call's refusal, if any, with buffers that suffice
-  pub refused : Option Refusal
+-- a picture and what the calls answer, with buffers that suffice
+pub record Case : Type 0 where
+  pub picture : Picture
+  -- the judge's refusal, if any
+  pub judged : Option Refusal
+  -- some pairs of a user and a file, and the replies
+  pub entries : List (ℕ × ℕ × Reply)
+  -- the matrix
+  pub bytes : List ℕ
+  pub numbers : List ℕ
+  -- the refusal of the call for a list, if any
+  pub listed : Option Refusal
   -- some lists, and whether they qualify
   pub lists : List (List ℕ × Bool)
 
-unfoldable pub computeList : ListCase → ListCase
-computeList c =
-    let boxes = c .base .picture .boxes in
-    let rows = c .base .picture .rows in
-    let arrows = c .base .picture .arrows in
+abbrev default : ℕ
+default = 65535
+
+unfoldable pub table : List Case
+table =
+    -- A: no boxes
+    record {
+      picture = picture-A;
+      judged = none;
+      entries = [];
+      bytes = [];
+      numbers = [];
+      listed = none;
+      lists = ([], true) ∷ [];
+    }
+    -- B: an arrow from a user overrides one from its group
+    ∷ record {
+      picture = picture-B;
+      judged = none;
+      entries = (0, 3, Answered (Granted 0)) ∷ (1, 3, Answered (Denied 1)) ∷ [];
+      bytes = 1 ∷ 0 ∷ [];
+      numbers = 0 ∷ 1 ∷ [];
+      listed = none;
+      lists = (0 ∷ 1 ∷ [], true) ∷ (0 ∷ [], true) ∷ (1 ∷ 0 ∷ [], false) ∷ (0 ∷ 0 ∷ [], false) ∷ ([], false) ∷ [];
+    }
+    -- C: both signs between the same two boxes
+    ∷ record {
+      picture = picture-C;
+      judged = some (unclearPair 0 0 1);
+      entries = (0, 1, Answered (Unclear 0 1)) ∷ [];
+      bytes = 2 ∷ [];
+      numbers = default ∷ [];
+      listed = some (unclearPair 0 0 1);
+      lists = [];
+    }
+    -- D: a user in two groups
+    ∷ record {
+      picture = picture-D;
+      judged = some (unclearPair 0 0 3);
+      entries = (0, 3, Answered (Unclear 0 1)) ∷ [];
+      bytes = 2 ∷ [];
+      numbers = default ∷ [];
+      listed = some (unclearPair 0 0 3);
+      lists = [];
+    }
+    -- E: D, settled by an arrow from the user
+    ∷ record {
+      picture = picture-E;
+      judged = none;
+      entries = (0, 3, Answered (Granted 2)) ∷ [];
+      bytes = 1 ∷ [];
+      numbers = 2 ∷ [];
+      listed = none;
+      lists = (2 ∷ [], true) ∷ (1 ∷ 2 ∷ [], false) ∷ [];
+    }
+    -- F: one arrow is deeper by its tail, the other by its head
+    ∷ record {
+      picture = picture-F;
+      judged = some (unclearPair 0 0 2);
+      entries = (0, 2, Answered (Unclear 0 1)) ∷ [];
+      bytes = 2 ∷ [];
+      numbers = default ∷ [];
+      listed = some (unclearPair 0 0 2);
+      lists = [];
+    }
+    -- G: no arrow
+    ∷ record {
+      picture = picture-G;
+      judged = none;
+      entries = (0, 1, Answered Default) ∷ [];
+      bytes = 0 ∷ [];
+      numbers = default ∷ [];
+      listed = none;
+      lists = ([], true) ∷ [];
+    }
+    -- H: a box contains itself
+    ∷ record {
+      picture = picture-H;
+      judged = some (inItself 0);
+      entries = (0, 0, Refused (inItself 0)) ∷ [];
+      bytes = [];
+      numbers = [];
+      listed = some (inItself 0);
+      lists = [];
+    }
+    -- I: two arrows of one sign, and the lower number is shown
+    ∷ record {
+      picture = picture-I;
+      judged = none;
+      entries = (0, 2, Answered (Granted 0)) ∷ [];
+      bytes = 1 ∷ [];
+      numbers = 0 ∷ [];
+      listed = none;
+      lists = (0 ∷ [], true) ∷ [];
+    }
+    -- J: the ring, clear and without a list
+    ∷ record {
+      picture = picture-J;
+      judged = none;
+      entries =
+          (0, 6, Answered (Denied 1)) ∷ (0, 7, Answered (Granted 0))
+          ∷ (1, 6, Answered (Granted 2)) ∷ (1, 7, Answered (Denied 3)) ∷ [];
+      bytes = 0 ∷ 1 ∷ 1 ∷ 0 ∷ [];
+      numbers = 1 ∷ 0 ∷ 2 ∷ 3 ∷ [];
+      listed = some (noOrder 0 0 7);
+      lists = (0 ∷ 1 ∷ 2 ∷ 3 ∷ [], false) ∷ [];
+    }
+    ∷ []
+
+-- the same picture and questions, with what the definitions say
+unfoldable pub compute : Case → Case
+compute c =
+    let boxes = c .picture .boxes in
+    let rows = c .picture .rows in
+    let arrows = c .picture .arrows in
     let square = replicate {A = ℕ} (length boxes * length boxes) 0 in
     record {
-      base = compute (c .base);
-      refused = orElse (orElse (listEarly boxes rows arrows 0 square arrows square) (listLate boxes rows arrows 0)) (orderFault boxes rows arrows 0);
+      picture = c .picture;
+      judged = judgeFault boxes rows arrows square;
+      entries = map
+          (λ q. (q .0, q .1, replyOf (entryFault boxes rows arrows square 0 (q .0) (q .1)) (answer rows arrows 0 (q .0) (q .1))))
+          (c .entries);
+      bytes = matrixBytes boxes rows arrows 0;
+      numbers = matrixNumbers boxes rows arrows 0;
+      listed =
+          orElse (listEarly boxes rows arrows 0 square arrows square)
+          (orElse (listLate boxes rows arrows 0) (orderFault boxes rows arrows 0));
       lists = map (λ q. (q .0, qualifies boxes rows arrows 0 (q .0))) (c .lists);
     }
 
--- each case with its refusal and its lists
-unfoldable pub extend : List Case → List (Option Refusal × List (List ℕ × Bool)) → List ListCase
-extend [] e = []
-extend (c ∷ cs) [] = []
-extend (c ∷ cs) (x ∷ e) = record { base = c; refused = x .0; lists = x .1 } ∷ extend cs e
-
-unfoldable pub table : List ListCase
-table =
-    extend answers.table
-    ( -- A
-    (none, ([], true) ∷ [])
-    -- B
-    ∷ (none, (0 ∷ 1 ∷ [], true) ∷ (0 ∷ [], true) ∷ (1 ∷ 0 ∷ [], false) ∷ (0 ∷ 0 ∷ [], false) ∷ ([], false) ∷ [])
-    -- C
-    ∷ (some (unclearPair 0 0 1), [])
-    -- D
-    ∷ (some (unclearPair 0 0 3), [])
-    -- E
-    ∷ (none, (2 ∷ [], true) ∷ (1 ∷ 2 ∷ [], false) ∷ [])
-    -- F
-    ∷ (some (unclearPair 0 0 2), [])
-    -- G
-    ∷ (none, ([], true) ∷ [])
-    -- H
-    ∷ (some (inItself 0), [])
-    -- I
-    ∷ (none, (0 ∷ [], true) ∷ [])
-    -- J
-    ∷ (some (noOrder 0 0 7), (0 ∷ 1 ∷ 2 ∷ 3 ∷ [], false) ∷ [])
-    ∷ [])
-
-pub table-right : map computeList table ≡ table
-unfolding computeList extend table answers.table compute picture-A picture-B picture-C picture-D picture-E picture-F picture-G picture-H picture-I picture-J orElse given first lowest every select build written sideOf onSide outer atom atoms pairCount raggedFault countFault byteFault namesNoBox acrossSides wrongEnds wrongMode rowFault tableFault modeFault roomFault contains around loopFault reaches nests level overrides settle hits certifies answer byteOf numberOf isGranted isUnclear userAt fileAt firstPair answerAt byteAt numberAt matrixBytes matrixNumbers unclearFault anyUnclear scratchFault earlyFault pictureFault askedFault entryEarly entryFault judgeFault matrixEarly matrixFault replyOf hasMode modeArrows anyOf allOf firstOf passes distinct gives ofMode meets reached granted right honest coversAll qualifies new fits addable grow greedy leftBy orderFault listEarly listLate
+pub table-right : map compute table ≡ table
+unfolding compute table picture-A picture-B picture-C picture-D picture-E picture-F picture-G picture-H picture-I picture-J
+    orElse given first lowest every select build sideOf onSide outer atom atoms pairCount
+    raggedFault countFault byteFault namesNoBox acrossSides wrongEnds wrongMode rowFault tableFault modeFault roomFault
+    contains around loopFault scratchFault earlyFault pictureFault
+    hasMode modeArrows reaches nests level overrides settle hits certifies answer byteOf numberOf isGranted isUnclear
+    userAt fileAt firstPair answerAt byteAt numberAt matrixBytes matrixNumbers unclearFault anyUnclear
+    askedFault entryEarly entryFault judgeFault replyOf
+    anyOf allOf firstOf passes distinct gives ofMode meets reached granted right honest coversAll qualifies
+    new fits addable grow greedy leftBy orderFault listEarly listLate
 table-right = refl
+
+-- how many pairs and lists are asked about
+abbrev asked : Case → Picture × ℕ × ℕ
+asked c = (c .picture, length (c .entries), length (c .lists))
+
+-- none of A to J is missing from the table, and none of their pairs and lists
+pub table-whole : map asked table
+    ≡ (picture-A, 0, 1) ∷ (picture-B, 2, 5) ∷ (picture-C, 1, 0) ∷ (picture-D, 1, 0) ∷ (picture-E, 1, 2)
+    ∷ (picture-F, 1, 0) ∷ (picture-G, 1, 1) ∷ (picture-H, 1, 0) ∷ (picture-I, 1, 1) ∷ (picture-J, 4, 1) ∷ []
+unfolding table
+table-whole = refl

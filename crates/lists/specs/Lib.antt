@@ -1,5 +1,6 @@
 pub mod Order
 pub mod Greedy
 pub mod Calls
+pub mod Condition
 pub mod Steps
 pub mod Cases

@@ -1,0 +1,169 @@
+-- The third condition holds of every call that passes checks 1 to 12 (`third-condition`). Before it: what is said of places is the
+-- same as what is said of pairs by their box numbers. Assumes nothing.
+use mathlib.Core.Path.{_≡_, refl, sym, ap, subst, _∙_}
+use mathlib.Core.Logic.{_↔_}
+use mathlib.Core.List.{List}
+use mathlib.Core.Option.{Option, none, some}
+use Prim.Native.Nat.{ℕ, _<_, _≤_}
+use native.Mathlib.Omega.{arith}
+use lib.Dec.{T}
+use lib.ListN.{length}
+use Rattle.tables.specs.Search.{orElse}
+use Rattle.tables.specs.Buffers.{written, zeros}
+use Rattle.tables.specs.Atoms.{pairCount}
+use Rattle.tables.specs.Refusals.{noOrder}
+use Rattle.tables.specs.Faults.{tableFault}
+use Rattle.tables.specs.declared.Refusal.{Refusal}
+use Rattle.answers.specs.Meaning.{modeArrows}
+use Rattle.answers.specs.Pairs.{userAt, fileAt}
+use Rattle.lists.specs.Order.{distinct, meets, reached, granted, right, honest, coversAll, qualifies, FirstMissed}
+use Rattle.lists.specs.Greedy.{orderFault}
+use Rattle.lists.specs.Calls.{listEarly, listLate, Answered, Outcome}
+use Rattle.lists.specs.Condition.{Pair, Reaches, Honest, IsGranted, ReachesAll, SomeReachesAll}
+use Rattle.lists.specs.Condition.{FirstUnreached, WrittenList, Condition3}
+use Rattle.lists.specs.declared.Listed.{Listed}
+use Rattle.lists.specs.declared.Listed.the-variants.{Written, Refused}
+use Rattle.tables.proofs.TableLaws.{both-none}
+use Rattle.tables.proofs.Tests.{and-T}
+use Rattle.tables.proofs.SearchLaws.{some-none}
+use Rattle.tables.proofs.BufferLaws.{written-rest}
+use Rattle.tables.proofs.PartLaws.{part-is, wrote-length}
+use Rattle.answers.proofs.PairLaws.{userAt-atom, fileAt-atom, pair-place, pair-before}
+use Rattle.answers.proofs.ModeLaws.{answer-at}
+use Rattle.lists.proofs.GreedyLaws.{honest-own, honest-right, honest-is}
+use Rattle.lists.proofs.OrderLaws.{covers-is, covers-at, order-none, order-some, order-missed}
+use Rattle.lists.proofs.GrowLaws.{own-room}
+use Rattle.lists.proofs.EndLaws.{rooms}
+
+module _ (boxes rows arrows : List ℕ) (m : ℕ) where
+  -- ---- places and pairs
+
+  -- what holds at each place holds of each pair
+  by-place : (P : ℕ → ℕ → Type 0) → ((p : ℕ) → p < pairCount boxes rows → P (userAt boxes rows p) (fileAt boxes rows p))
+      → (u f : ℕ) → Pair boxes rows arrows u f → P u f
+  by-place P h u f a = let p = pair-place boxes rows u f (a .0) (a .1) in rw (p .2, p .3) at (h (p .0) (p .1))
+
+  pair-at : (p : ℕ) → p < pairCount boxes rows → Pair boxes rows arrows (userAt boxes rows p) (fileAt boxes rows p)
+  pair-at p b = (userAt-atom boxes rows p b, fileAt-atom boxes rows p b)
+
+  -- the pair at a place is granted; it is reached by a list
+  granted-at : (p : ℕ) → T (granted boxes rows arrows m p) ↔ IsGranted boxes rows arrows m (userAt boxes rows p) (fileAt boxes rows p)
+  unfolding granted
+  granted-at p = let e = answer-at boxes rows arrows m p in (λ t. rw e at t, λ t. rw e t)
+
+  reached-at : (l : List ℕ) (p : ℕ)
+      → T (reached boxes rows arrows l p) ↔ Reaches boxes rows arrows l (userAt boxes rows p) (fileAt boxes rows p)
+  unfolding reached meets
+  reached-at l p = (λ t. t, λ t. t)
+
+  honest-pairs : (l : List ℕ) → T (honest boxes rows arrows m l) ↔ Honest boxes rows arrows m l
+  unfolding meets right
+  honest-pairs l = (
+    λ h. (
+      honest-own boxes rows arrows m l h,
+      by-place _ (λ p b k e. rw (answer-at boxes rows arrows m p) at (honest-right boxes rows arrows m l h p k b e)),
+    ),
+    λ h.
+        honest-is boxes rows arrows m l (h .0)
+        (λ p k b e. rw (answer-at boxes rows arrows m p) (h .1 (userAt boxes rows p) (fileAt boxes rows p) (pair-at p b) k e)),
+  )
+
+  covers-pairs : (l : List ℕ) → T (coversAll boxes rows arrows m l) ↔ ReachesAll boxes rows arrows m l
+  covers-pairs l = (
+    λ c. by-place _ (λ p b g. reached-at l p .0 (covers-at boxes rows arrows m l c p b (granted-at p .1 g))),
+    λ c.
+        covers-is boxes rows arrows m l
+        (λ p b g. reached-at l p .1 (c (userAt boxes rows p) (fileAt boxes rows p) (pair-at p b) (granted-at p .0 g))),
+  )
+
+  -- ---- refusal 13
+
+  order-pairs : (orderFault boxes rows arrows m ≡ none) ↔ SomeReachesAll boxes rows arrows m
+  order-pairs = (
+    λ e. let s = order-none boxes rows arrows m .0 e in (s .0, honest-pairs (s .0) .0 (s .1), covers-pairs (s .0) .0 (s .2)),
+    λ s. order-none boxes rows arrows m .1 (s .0, honest-pairs (s .0) .1 (s .1), covers-pairs (s .0) .1 (s .2)),
+  )
+
+  missed-pair : (u f : ℕ) → FirstMissed boxes rows arrows m u f → FirstUnreached boxes rows arrows m u f
+  missed-pair u f w =
+      let p = w .place in
+      rw (← w .user-is, ← w .file-is)
+      (record {
+        is-pair = pair-at p (w .there);
+        is-granted = granted-at p .0 (w .is-granted);
+        unreached = λ s. w .missed (s .0) (honest-pairs (s .0) .1 (s .1)) (reached-at (s .0) p .1 (s .2));
+        before = by-place _
+            (λ q b o g.
+            let s = w .before q (pair-before boxes rows p q (w .there) b o) (granted-at q .1 g) in
+            (s .0, honest-pairs (s .0) .0 (s .1), reached-at (s .0) q .0 (s .2)));
+      })
+
+  -- ---- what is written
+
+  -- checks 1 to 9 leave a place for each arrow of the mode
+  room-for : (s out work : List ℕ) → listEarly boxes rows arrows m s out work ≡ none → length (modeArrows arrows m) ≤ length out
+  unfolding listEarly
+  room-for s out work e = rooms boxes rows arrows m s out work (both-none (tableFault boxes rows arrows) _ e .1) .out-room
+
+  list-there : (l out out′ : List ℕ) → length (modeArrows arrows m) ≤ length out → out′ ≡ written l out
+      → T (qualifies boxes rows arrows m l)
+      → WrittenList boxes rows arrows m (length l) out out′
+  unfolding qualifies
+  list-there l out out′ h w q =
+      let a = and-T (honest boxes rows arrows m l) _ q in
+      let b = and-T (distinct l) (coversAll boxes rows arrows m l) (a .1) in
+      let few = own-room boxes rows arrows m (modeArrows arrows m) refl l (record { is-honest = a .0; once = b .0 }) in
+      let fit : length l ≤ length out = omega arith in
+      let part = part-is l out (length l) out′ (refl, w) in
+      record {
+        there = fit;
+        same-places = wrote-length l out (length l) out′ (refl, w) fit;
+        is-honest = rw part (honest-pairs l .0 (a .0));
+        once = rw part (b .0);
+        reaches-all = rw part (covers-pairs l .0 (b .1));
+        beyond = λ p g. rw w (written-rest l out p g);
+      }
+
+not-both : {r : Listed} {n : ℕ} {x : Refusal} → r ≡ Written n → r ≡ Refused x → ⊥
+not-both e i = let z : _≡_ {A = ℕ} 0 1 = cc in omega arith
+
+-- the third condition of acceptance: of what the call promises, wherever checks 1 to 12 find no fault
+pub third-condition : {boxes rows arrows : List ℕ} {m : ℕ} {s out work : List ℕ} {r : Listed} {s′ out′ work′ : List ℕ}
+    → Outcome boxes rows arrows m s out work r s′ out′ work′
+    → orElse (listEarly boxes rows arrows m s out work) (listLate boxes rows arrows m) ≡ none
+    → Condition3 boxes rows arrows m out work r out′ work′
+third-condition {boxes} {rows} {arrows} {m} {s} {out} {work} {r} {s′} {out′} {work′} o passed =
+    go (orderFault boxes rows arrows m) refl (rw passed at (o .answered))
+  where
+    zero-work : work′ ≡ written (zeros (pairCount boxes rows)) work
+    zero-work = rw passed at (o .work-after)
+
+    go : (x : Option Refusal) → orderFault boxes rows arrows m ≡ x → Answered boxes rows arrows m none x r out out′
+        → Condition3 boxes rows arrows m out work r out′ work′
+    go none e a =
+        let some-list = order-pairs boxes rows arrows m .0 e in
+        let room = room-for boxes rows arrows m s out work (both-none (listEarly boxes rows arrows m s out work) _ passed .0) in
+        record {
+          writes = (λ w. some-list, λ l. (length (a .0), a .1));
+          written-list = λ n i.
+              let k : length (a .0) ≡ n = cc in
+              subst (λ (j : ℕ). WrittenList boxes rows arrows m j out out′) k
+              (list-there boxes rows arrows m (a .0) out out′ room (a .2) (a .3));
+          no-order = (λ w. absurd (not-both (a .1) (w .2)), λ n. absurd (n some-list));
+          names = λ u f i. absurd (not-both (a .1) i);
+          blanked = λ u f i. absurd (not-both (a .1) i);
+          work-after = zero-work;
+        }
+    go (some x) e a =
+        let no-list : SomeReachesAll boxes rows arrows m → ⊥ = λ l. some-none (sym e ∙ order-pairs boxes rows arrows m .1 l) in
+        let pair = order-some boxes rows arrows m x e in
+        record {
+          writes = (λ w. absurd (not-both (w .1) (a .0)), λ l. absurd (no-list l));
+          written-list = λ n i. absurd (not-both i (a .0));
+          no-order = (λ w. no-list, λ n. (pair .0, pair .1, a .0 ∙ ap Refused (pair .2)));
+          names = λ u f i.
+              let k : x ≡ noOrder m u f = cc in
+              missed-pair boxes rows arrows m u f (order-missed boxes rows arrows m u f .0 (e ∙ ap some k));
+          blanked = λ u f i. a .1;
+          work-after = zero-work;
+        }
