@@ -56,12 +56,12 @@ pub enum Reply {
     Refused(Refusal),
 }
 
-// The arrow that grants, where only that is wanted, or 65,535, the number of no arrow.
+// The arrow that grants: it is taken out of the answer, and the other three answers are turned away with the number of no arrow.
 pub fn granting(e: Entry) -> u16
     ensures { λ r. ⌜ r ≡ grantingOf e ⌝ }
 {
     let Entry::Granted(k) = e else {
-        return 65535;
+        return Arrow::NONE;
     };
     k
 }
@@ -85,8 +85,8 @@ fn number_of(e: Entry) -> u16
     match e {
         Entry::Granted(k) => k,
         Entry::Denied(k) => k,
-        Entry::Default => 65535,
-        Entry::Unclear(_, _) => 65535,
+        Entry::Default => Arrow::NONE,
+        Entry::Unclear(_, _) => Arrow::NONE,
     }
 }
 

@@ -4,6 +4,7 @@ ghost use mathlib.Core.Bool.{true, cond};
 ghost use mathlib.Core.List.{List, []};
 ghost use mathlib.Core.Option.{none, some};
 ghost use Prim.Native.Nat.{ℕ, _+_, _*_, _/_, _%_, _<_, _≤_};
+ghost use lib.Dec.{ltb};
 ghost use lib.ListN.{length, take};
 ghost use Rattle.tables.specs.Buffers.{written, zeros};
 ghost use Rattle.tables.specs.Search.{bit};
@@ -12,15 +13,15 @@ ghost use Rattle.tables.specs.Atoms.{pairCount};
 ghost use Rattle.tables.specs.Steps.{SoundRows, SoundArrows};
 ghost use Rattle.tables.specs.Refusals.{refusal, verdictOf};
 ghost use Rattle.containment.specs.Steps.{Says};
-ghost use Rattle.answers.specs.Meaning.{isGranted, modeArrows};
+ghost use Rattle.answers.specs.Meaning.{modeArrows};
 ghost use Rattle.answers.specs.Pairs.{unclearFault};
 ghost use Rattle.sets.specs.Sets.{has};
 ghost use Rattle.answers.specs.Among.{FirstAt};
 ghost use Rattle.answers.specs.Table.{Placed, Tabled};
 ghost use Rattle.lists.specs.Calls.{blanks, Outcome};
 ghost use Rattle.lists.specs.Steps.{Listing, gridOf, Laid, Agrees, Drawn, touches, stops, NoStop, StopIn, markedTo, Behind, followsAt, ownSign, nothing, leftIn, Clear, workOf, Ordered};
-use answers::Entry;
 use answers::answer_at;
+use answers::granting;
 use answers::is_unclear;
 use answers::mode_arrows;
 use answers::no_boxes;
@@ -257,7 +258,7 @@ fn blank(out: &mut [u16], count: usize)
     ensures { λ _. ⌜ now (out .exit) ≡ written (blanks count) (now (out .entry)) ⌝ }
 {
     for p in 0..count {
-        out[p] = 65535;
+        out[p] = Arrow::NONE;
     }
 }
 
@@ -300,14 +301,14 @@ fn order(
     }
 }
 
-// 1 if the answer grants, else 0: the granting arrow is taken out, and the other three answers are turned away.
-fn granted_byte(e: Entry) -> u8
-    ensures { λ r. ⌜ r ≡ bit (isGranted e) ⌝ }
+// 1 for the number of a granting arrow, 0 for that of no arrow.
+fn granted_byte(k: u16) -> u8
+    ensures { λ r. ⌜ r ≡ bit (ltb k 65535) ⌝ }
 {
-    let Entry::Granted(_) = e else {
-        return 0;
-    };
-    1
+    if k < Arrow::NONE {
+        return 1;
+    }
+    0
 }
 
 // Check 12, and a byte for each pair, 1 if it is granted. They are no work bytes yet: check 12 leaves those untouched.
@@ -330,7 +331,7 @@ fn fill_granted(
         if is_unclear(e) {
             return refuse_pair(boxes, rows, users, files, 12, mode, p);
         }
-        bytes[p] = granted_byte(e);
+        bytes[p] = granted_byte(granting(e));
     }
     Verdict::Passed
 }
