@@ -1,25 +1,27 @@
--- Which answers grant, by the tag of the answer. Assumes nothing.
-use mathlib.Core.Path.{_≡_, refl}
-use mathlib.Core.Logic.{⊎-elim}
-use mathlib.Core.Bool.{true, false}
-use mathlib.Core.List.{[], _∷_}
-use Prim.Native.Nat.{ℕ}
+-- An answer grants exactly if its granting arrow is not 65,535, the number of no arrow. Assumes nothing.
+use mathlib.Core.Path.{_≡_, refl, sym}
+use mathlib.Core.List.{List}
+use mathlib.Core.Option.{Option, none, some}
+use Prim.Native.Nat.{ℕ, _<_, _≤_}
 use native.Mathlib.Omega.{arith}
-use types.Run.{OneOf}
-use denote.Enum.Declared.{tagOf}
-use Rattle.answers.specs.Meaning.{isGranted}
-use Rattle.answers.specs.declared.Entry.{Entry}
-use Rattle.answers.specs.declared.Entry.the-variants.{Granted, Denied, Default, Unclear}
-use Rattle.answers.proofs.Entry.{the-type}
+use borrow.Author.Tests.{lt-ltb}
+use lib.Dec.{ltb}
+use Rattle.tables.specs.Rows.{arrowCount}
+use Rattle.tables.proofs.SearchLaws.{lowest-some}
+use Rattle.answers.specs.Meaning.{settle, answer, isGranted, grantingOf}
+use Rattle.answers.specs.Pairs.{answerAt}
 
-pub grants : (k : ℕ) → isGranted (Granted k) ≡ true
-unfolding isGranted
-grants k = refl
+-- where the certificates are numbers of arrows
+settled : (c d p n : Option ℕ) → ((k : ℕ) → c ≡ some k → k < 65535) → isGranted (settle c d p n) ≡ ltb (grantingOf (settle c d p n)) 65535
+unfolding settle isGranted grantingOf
+settled (some k) d p n h = sym (lt-ltb k 65535 (h k refl))
+settled none (some k) p n h = refl
+settled none none (some p) (some n) h = refl
+settled none none (some p) none h = refl
+settled none none none n h = refl
 
--- the other three answers
-pub grants-not : (e : Entry) → OneOf (1 ∷ 2 ∷ 3 ∷ []) (tagOf the-type e) → isGranted e ≡ false
-unfolding isGranted
-grants-not (Granted k) h = ⊎-elim (λ z. absurd (omega arith)) (λ w. ⊎-elim (λ z. absurd (omega arith)) (λ z. absurd (omega arith)) w) h
-grants-not (Denied k) h = refl
-grants-not Default h = refl
-grants-not (Unclear p n) h = refl
+pub grants-by : (boxes rows arrows : List ℕ) (m p : ℕ) → arrowCount arrows ≤ 512
+    → isGranted (answerAt boxes rows arrows m p) ≡ ltb (grantingOf (answerAt boxes rows arrows m p)) 65535
+unfolding answerAt answer
+grants-by boxes rows arrows m p few =
+    settled _ _ _ _ (λ k e. omega (arith, lowest-some _ (arrowCount arrows) k e .0))

@@ -16,8 +16,8 @@ use Rattle.tables.proofs.Tests.{and-T, T-and, T-eqb, T-true, not-false}
 use Rattle.tables.proofs.SearchLaws.{lowest-some, lowest-none}
 use Rattle.tables.proofs.SelectLaws.{lowest-is, lowest-nothing}
 use Rattle.tables.proofs.BufferLaws.{written-at, written-length, build-at, build-length}
-use Rattle.tables.proofs.PartLaws.{part-is, part-length}
-use Rattle.tables.proofs.AtomPlaces.{atoms-found, atom-there}
+use Rattle.tables.proofs.PartLaws.{Wrote, part-is, part-length}
+use Rattle.tables.proofs.AtomPlaces.{atoms-found, atom-there, atoms-most}
 use Rattle.tables.proofs.AtomSides.{atoms-apart}
 use Rattle.containment.specs.Contains.{around}
 use Rattle.containment.specs.Steps.{Says}
@@ -25,8 +25,9 @@ use Rattle.sets.specs.Sets.{has, shared, overAll}
 use Rattle.sets.proofs.SetLaws.{word-is, zero-bit, wordOf-bit, shared-has}
 use Rattle.sets.proofs.InsideLaws.{has-word, covers-own, covers-each, covers-is}
 use Rattle.answers.specs.Meaning.{positive, negative, hasMode, reaches, overrides, settle, hits, certifies, answer}
-use Rattle.answers.specs.Table.{beats, signed, member, setWord, setWords, setCount, userSets, fileSets, modeSets, Source, Tabled, Tabulates}
-use Rattle.answers.specs.declared.Sides.{Sides}
+use Rattle.answers.specs.Table.{beats, signed, member, setWord, setWords, setCount, userSets, fileSets, modeSets}
+use Rattle.answers.specs.Table.{Source, Tabled, Tabulates, gridOf, Laid, tailAround, headAround}
+use Rattle.answers.specs.declared.Grid.{Grid}
 use Rattle.answers.proofs.ReadyLaws.{sound-within, boxes-within, room}
 use Rattle.answers.proofs.PairLaws.{pairs-are, pairs-fit}
 use Rattle.answers.proofs.AnswerLaws.{hit, hit-mode, hit-reaches, hit-sign, certifies-hits, certifies-over, certifies-is}
@@ -154,25 +155,31 @@ module _ {boxes rows arrows users files : List ℕ} (sr : SoundRows boxes rows) 
       }
 
 -- what the table was made into, as a walk is given it
-module _ {boxes rows arrows : List ℕ} {counts : Sides} {us users fs files ts table : List ℕ}
-    (sr : SoundRows boxes rows) (d : Tabulates boxes rows arrows counts us users fs files ts table) where
-  pub users-within : us ≡ zeros 256 → counts .users ≤ length users
-  users-within e = boxes-within boxes rows user us (counts .users) users sr (room 256 e) (d .users-counted, d .users-written)
+module _ {boxes rows arrows : List ℕ} {g : Grid} {us users fs files ts table : List ℕ}
+    (sr : SoundRows boxes rows) (d : Tabulates boxes rows arrows g us users fs files ts table) where
+  users-wrote : Wrote (atoms boxes rows user) us (g .users) users
+  users-wrote = (ap (λ (x : Grid). x .users) (d .counted), d .users-written)
 
-  pub files-within : fs ≡ zeros 256 → counts .files ≤ length files
-  files-within e = boxes-within boxes rows file fs (counts .files) files sr (room 256 e) (d .files-counted, d .files-written)
+  files-wrote : Wrote (atoms boxes rows file) fs (g .files) files
+  files-wrote = (ap (λ (x : Grid). x .files) (d .counted), d .files-written)
 
-  pub users-length : counts .users ≡ length (take (counts .users) users)
-  users-length = part-length (atoms boxes rows user) us (counts .users) users (d .users-counted, d .users-written)
+  pub users-within : us ≡ zeros 256 → g .users ≤ length users
+  users-within e = boxes-within boxes rows user us (g .users) users sr (room 256 e) users-wrote
 
-  pub files-length : counts .files ≡ length (take (counts .files) files)
-  files-length = part-length (atoms boxes rows file) fs (counts .files) files (d .files-counted, d .files-written)
+  pub files-within : fs ≡ zeros 256 → g .files ≤ length files
+  files-within e = boxes-within boxes rows file fs (g .files) files sr (room 256 e) files-wrote
 
-  pub made : SoundArrows boxes arrows → ts ≡ zeros 6272 → Tabled boxes rows arrows (take (counts .users) users) (take (counts .files) files) table
+  pub users-length : g .users ≡ length (take (g .users) users)
+  users-length = part-length (atoms boxes rows user) us (g .users) users users-wrote
+
+  pub files-length : g .files ≡ length (take (g .files) files)
+  files-length = part-length (atoms boxes rows file) fs (g .files) files files-wrote
+
+  pub made : SoundArrows boxes arrows → ts ≡ zeros 6272 → Tabled boxes rows arrows (take (g .users) users) (take (g .files) files) table
   made sa e =
       tabled sr sa
-      (part-is (atoms boxes rows user) us (counts .users) users (d .users-counted, d .users-written))
-      (part-is (atoms boxes rows file) fs (counts .files) files (d .files-counted, d .files-written))
+      (part-is (atoms boxes rows user) us (g .users) users users-wrote)
+      (part-is (atoms boxes rows file) fs (g .files) files files-wrote)
       ts table (room 6272 e) (d .table-written)
 
 -- ---- the answer of a pair
@@ -183,6 +190,41 @@ module _ {boxes rows arrows users files table : List ℕ} (d : Tabled boxes rows
     pairs-are boxes rows users files (d .users-are) (d .files-are) 0,
     pairs-fit boxes rows users files (d .users-are) (d .files-are) 0 (d .few-boxes),
   )
+
+  pub few-users : length users ≤ 256
+  few-users = rw (d .users-are) (omega (arith, atoms-most boxes rows user, d .few-boxes))
+
+  pub few-files : length files ≤ 256
+  few-files = rw (d .files-are) (omega (arith, atoms-most boxes rows file, d .few-boxes))
+
+  pub laid : Laid table (gridOf arrows (length users) (length files))
+  laid = record {
+    pairs-are = refl;
+    few-arrows = d .few-arrows;
+    few-users = few-users;
+    few-files = few-files;
+    few-sets = omega (arith, d .few-sets);
+  }
+
+  -- what the set of user i and that of file j say of arrow k
+  module _ (k : ℕ) (l : k < arrowCount arrows) where
+    pub tail-around : (i : ℕ) → i < length users
+        → tailAround table (gridOf arrows (length users) (length files)) k i ≡ around rows (arrowAt arrows k .tail) (getD users i 0)
+    unfolding tailAround
+    tail-around i h =
+        let few = d .few-arrows in
+        let r = userSets rows arrows users files + i in
+        let at : r - userSets rows arrows users files ≡ i = omega arith in
+        rw (d .members r k (omega arith) (omega arith), member-user rows arrows users files k l r (omega arith) (omega arith), at)
+
+    pub head-around : (j : ℕ) → j < length files
+        → headAround table (gridOf arrows (length users) (length files)) k j ≡ around rows (arrowAt arrows k .head) (getD files j 0)
+    unfolding headAround
+    head-around j h =
+        let few = d .few-arrows in
+        let r = fileSets rows arrows users files + j in
+        let at : r - fileSets rows arrows users files ≡ j = omega arith in
+        rw (d .members r k (omega arith) (omega arith), member-file rows arrows users files k l r (omega arith) (omega arith), at)
 
   -- only numbers of arrows are in the table
   there : (r k : ℕ) → r < setCount rows arrows users files → k < 512 → T (has table r k) → k < arrowCount arrows
@@ -209,23 +251,15 @@ module _ {boxes rows arrows users files table : List ℕ} (d : Tabled boxes rows
     -- the three tests
     tests : (s r : ℕ) → OfMode m s r → (k : ℕ) → k < arrowCount arrows → has (of r) 0 k ≡
         ((around rows (arrowAt arrows k .tail) (getD users i 0) && around rows (arrowAt arrows k .head) (getD files j 0)) && (eqb (arrowAt arrows k .mode) m && eqb (arrowAt arrows k .sign) s))
-    unfolding signed hasMode
+    unfolding signed hasMode tailAround headAround
     tests s r o k l =
         let few = d .few-arrows in
-        let a : userSets rows arrows users files + i < setCount rows arrows users files = omega arith in
-        let b : fileSets rows arrows users files + j < setCount rows arrows users files = omega arith in
-        let at-i : userSets rows arrows users files + i - userSets rows arrows users files ≡ i = omega arith in
-        let at-j : fileSets rows arrows users files + j - fileSets rows arrows users files ≡ j = omega arith in
         rw (
           shared-has table (userSets rows arrows users files + i) (fileSets rows arrows users files + j) r k (omega arith),
-          d .members (userSets rows arrows users files + i) k a (omega arith),
-          d .members (fileSets rows arrows users files + j) k b (omega arith),
+          tail-around k l i hi,
+          head-around k l j hj,
           d .members r k (o .before) (omega arith),
-          member-user rows arrows users files k l (userSets rows arrows users files + i) (omega arith) (omega arith),
-          member-file rows arrows users files k l (fileSets rows arrows users files + j) (omega arith) (omega arith),
           member-mode rows arrows users files k l r (o .after),
-          at-i,
-          at-j,
           o .mode-is,
           o .sign-is,
         )

@@ -15,7 +15,7 @@ use Rattle.containment.specs.Steps.{Says}
 use Rattle.sets.specs.Sets.{wordOf, has}
 use Rattle.answers.specs.Meaning.{hasMode, overrides}
 use Rattle.answers.specs.Among.{Within}
-use Rattle.answers.specs.declared.Sides.{Sides}
+use Rattle.answers.specs.declared.Grid.{Grid}
 
 -- arrows r and k have the same mode, and r overrides k
 unfoldable pub beats : List ℕ → List ℕ → ℕ → ℕ → Bool
@@ -78,10 +78,29 @@ pub record Tabled (boxes rows arrows users files table : List ℕ) : Type 0 wher
   pub room : 4096 ≤ length table
   pub members : (r k : ℕ) → r < setCount rows arrows users files → k < 512 → has table r k ≡ member rows arrows users files r k
 
+-- the grid of the table for so many users and files
+abbrev pub gridOf : List ℕ → ℕ → ℕ → Grid
+gridOf arrows users files = record { arrows = arrowCount arrows; users = users; files = files; pairs = users * files }
+
 -- what making the table leaves: the atomic boxes of each side, and how many, and the table
-pub record Tabulates (boxes rows arrows : List ℕ) (counts : Sides) (users₀ users files₀ files table₀ table : List ℕ) : Type 0 where
-  pub users-counted : counts .users ≡ length (atoms boxes rows user)
-  pub files-counted : counts .files ≡ length (atoms boxes rows file)
+pub record Tabulates (boxes rows arrows : List ℕ) (g : Grid) (users₀ users files₀ files table₀ table : List ℕ) : Type 0 where
+  pub counted : g ≡ gridOf arrows (length (atoms boxes rows user)) (length (atoms boxes rows file))
   pub users-written : users ≡ written (atoms boxes rows user) users₀
   pub files-written : files ≡ written (atoms boxes rows file) files₀
   pub table-written : table ≡ written (setWords rows arrows (atoms boxes rows user) (atoms boxes rows file)) table₀
+
+-- a table that has room for the sets of a grid
+pub record Laid (table : List ℕ) (g : Grid) : Type 0 where
+  pub pairs-are : g .pairs ≡ g .users * g .files
+  pub few-arrows : g .arrows ≤ 512
+  pub few-users : g .users ≤ 256
+  pub few-files : g .files ≤ 256
+  pub few-sets : 8 * (g .arrows + g .users + g .files) ≤ length table
+
+-- arrow k is in the set of the user of row i: its tail is the user or contains it
+unfoldable pub tailAround : List ℕ → Grid → ℕ → ℕ → Bool
+tailAround table g k i = has table (g .arrows + i) k
+
+-- arrow k is in the set of the file of column j: its head is the file or contains it
+unfoldable pub headAround : List ℕ → Grid → ℕ → ℕ → Bool
+headAround table g k j = has table (g .arrows + g .users + j) k

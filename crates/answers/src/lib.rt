@@ -19,11 +19,13 @@ ghost use Rattle.answers.specs.Calls.{askedFault, replyOf, entryEarly, e
 ghost use Rattle.sets.specs.Sets.{has, overAll};
 ghost use Rattle.answers.specs.Among.{reaching, overridesAll, Within, Numbers, FirstAt, wins, NoneBefore};
 ghost use Rattle.answers.specs.Table.{member, setWord, setWords, setCount, Placed, Source, Tabled, Tabulates};
+ghost use Rattle.answers.specs.Table.{gridOf, Laid, tailAround, headAround};
 use containment::check_scratch;
 use containment::contain;
 use containment::does_contain;
 use containment::prepare;
 use sets::first_over;
+use sets::is_in;
 use sets::next_in;
 use sets::push;
 use sets::share;
@@ -56,12 +58,12 @@ pub enum Reply {
     Refused(Refusal),
 }
 
-// The arrow that grants, where only that is wanted, or 65,535, the number of no arrow.
+// The arrow that grants: it is taken out of the answer, and the other three answers are turned away with the number of no arrow.
 pub fn granting(e: Entry) -> u16
     ensures { λ r. ⌜ r ≡ grantingOf e ⌝ }
 {
     let Entry::Granted(k) = e else {
-        return 65535;
+        return Arrow::NONE;
     };
     k
 }
@@ -85,8 +87,8 @@ fn number_of(e: Entry) -> u16
     match e {
         Entry::Granted(k) => k,
         Entry::Denied(k) => k,
-        Entry::Default => 65535,
-        Entry::Unclear(_, _) => 65535,
+        Entry::Default => Arrow::NONE,
+        Entry::Unclear(_, _) => Arrow::NONE,
     }
 }
 
@@ -493,10 +495,25 @@ fn fill_table(
     }
 }
 
-// How many atomic users and files there are.
-pub struct Sides {
+// How many arrows, users, files and pairs the table is of.
+pub struct Grid {
+    pub arrows: usize,
     pub users: usize,
     pub files: usize,
+    pub pairs: usize,
+}
+
+// The grid of the table for so many users and files.
+pub fn grid_of(arrows: &[u16], users: usize, files: usize) -> Grid
+    requires { ⌜ (users ≤ 256) × (files ≤ 256) ⌝ }
+    ensures { λ r. ⌜ r ≡ gridOf (now (arrows .entry)) users files ⌝ }
+{
+    Grid {
+        arrows: arrows.len() / 4,
+        users,
+        files,
+        pairs: users * files,
+    }
 }
 
 // Writes the atomic boxes of each side and the table: all that the answers of all pairs and modes need.
@@ -508,7 +525,7 @@ pub fn tabulate(
     users: &mut [u16],
     files: &mut [u16],
     table: &mut [u64],
-) -> Sides
+) -> Grid
     requires { ⌜ SoundRows (now boxes) (now rows) × SoundArrows (now boxes) (now arrows) × Says (length (now boxes)) (now rows) (now scratch) × (256 ≤ length (now users)) × (256 ≤ length (now files)) × (6272 ≤ length (now table)) ⌝ }
     ensures { λ r. ⌜ Tabulates (now (boxes .entry)) (now (rows .entry)) (now (arrows .entry)) r (now (users .entry)) (now (users .exit)) (now (files .entry)) (now (files .exit)) (now (table .entry)) (now (table .exit)) ⌝ }
 {
@@ -523,7 +540,7 @@ pub fn tabulate(
         &files[..f],
         table,
     );
-    Sides { users: u, files: f }
+    grid_of(arrows, u, f)
 }
 
 // The answer, by the sets of the positive and of the negative arrows that reach the pair.
@@ -572,6 +589,22 @@ pub fn answer_at(
     let ps = share(table, user, file, of_mode + 1);
     let ns = share(table, user, file, of_mode);
     settle_sets(table, &ps, &ns)
+}
+
+// Whether arrow k reaches the user of a row: its tail is the user or contains it.
+pub fn reaches_user(table: &[u64], g: Grid, k: usize, row: usize) -> bool
+    requires { ⌜ Laid (now table) g × (k < 512) × (row < g .users) ⌝ }
+    ensures { λ r. ⌜ r ≡ tailAround (now (table .entry)) g k row ⌝ }
+{
+    is_in(table, g.arrows + row, k)
+}
+
+// Whether arrow k reaches the file of a column: its head is the file or contains it.
+pub fn reaches_file(table: &[u64], g: Grid, k: usize, col: usize) -> bool
+    requires { ⌜ Laid (now table) g × (k < 512) × (col < g .files) ⌝ }
+    ensures { λ r. ⌜ r ≡ headAround (now (table .entry)) g k col ⌝ }
+{
+    is_in(table, g.arrows + g.users + col, k)
 }
 
 // Check 12 for a mode: the first unclear pair, by user, then file.

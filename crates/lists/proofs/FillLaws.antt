@@ -5,14 +5,16 @@ use mathlib.Core.List.{List, []}
 use mathlib.Core.Option.{none, some}
 use Prim.Native.Nat.{ℕ, _+_, _<_, _≤_}
 use native.Mathlib.Nat.{add-zero}
+use lib.Dec.{ltb}
 use lib.ListN.{length, set}
 use Rattle.tables.specs.Search.{bit}
 use Rattle.tables.specs.Buffers.{build, written}
+use Rattle.tables.specs.Rows.{arrowCount}
 use Rattle.tables.specs.Atoms.{pairCount}
 use Rattle.tables.specs.Refusals.{unclearPair, verdictOf}
 use Rattle.tables.specs.declared.Refusal.{Refusal}
 use Rattle.tables.specs.declared.Verdict.the-variants.{Passed}
-use Rattle.answers.specs.Meaning.{isGranted, isUnclear}
+use Rattle.answers.specs.Meaning.{isGranted, isUnclear, grantingOf}
 use Rattle.answers.specs.Pairs.{userAt, fileAt, answerAt, unclearFault}
 use Rattle.answers.specs.declared.Entry.{Entry}
 use Rattle.lists.specs.Order.{anyOf, reached, granted}
@@ -22,6 +24,7 @@ use Rattle.tables.proofs.SearchLaws.{Searched, search-none, search-more, search
 use Rattle.tables.proofs.BufferLaws.{written-build, written-length, build-length}
 use Rattle.tables.proofs.PartLaws.{built-none}
 use Rattle.answers.proofs.PairLaws.{unclear-is}
+use Rattle.answers.proofs.GrantLaws.{grants-by}
 
 module _ (boxes rows arrows : List ℕ) (m : ℕ) where
   abbrev unclear : ℕ → Bool
@@ -46,10 +49,11 @@ module _ (boxes rows arrows : List ℕ) (m : ℕ) where
     filling-length bytes p h f = ap length (f .filled) ∙ written-length (build shown p) old (rw build-length h)
 
     pub filling-next : (bytes : List ℕ) (p : ℕ) (e : Entry) (b : ℕ) → p < length old → e ≡ answerAt boxes rows arrows m p → isUnclear e ≡ false
-        → b ≡ bit (isGranted e) → Filling bytes p → Filling (set bytes p b) (p + 1)
+        → arrowCount arrows ≤ 512 → b ≡ bit (ltb (grantingOf e) 65535) → Filling bytes p → Filling (set bytes p b) (p + 1)
     unfolding granted reached anyOf
-    filling-next bytes p e b h i u g f =
-        let same : b ≡ shown p = g ∙ rw i (sym (add-zero (bit (isGranted (answerAt boxes rows arrows m p))))) in
+    filling-next bytes p e b h i u few g f =
+        let same : b ≡ shown p =
+        g ∙ rw (i, ← grants-by boxes rows arrows m p few) (sym (add-zero (bit (isGranted (answerAt boxes rows arrows m p))))) in
         record {
           clear = search-more unclear place p (f .clear) (rw i at u);
           filled = rw (same, f .filled) (written-build shown p old h);

@@ -3,7 +3,7 @@ use mathlib.Core.Path.{_≡_}
 use mathlib.Core.Bool.{Bool, false, not, cond, _&&_}
 use mathlib.Core.List.{List}
 use mathlib.Core.Option.{Option}
-use Prim.Native.Nat.{ℕ, _+_, _*_, _/_, _%_, _<_, _≤_}
+use Prim.Native.Nat.{ℕ, _+_, _/_, _%_, _<_, _≤_}
 use lib.Dec.{T, eqb, ltb}
 use lib.ListN.{length, getD}
 use Rattle.tables.specs.Search.{first, given, every, bit}
@@ -12,31 +12,19 @@ use Rattle.tables.specs.Rows.{user, file, arrowCount, arrowAt}
 use Rattle.tables.specs.Atoms.{pairCount}
 use Rattle.tables.specs.Refusals.{noOrder, unlessRefused}
 use Rattle.tables.specs.declared.Refusal.{Refusal}
-use Rattle.sets.specs.Sets.{has}
 use Rattle.answers.specs.Among.{Numbers}
 use Rattle.answers.specs.Meaning.{isUnclear}
 use Rattle.answers.specs.Pairs.{userAt, fileAt, answerAt, unclearFault}
+use Rattle.answers.specs.Table.{tailAround, headAround}
+use Rattle.answers.specs.declared.Grid.{Grid}
 use Rattle.lists.specs.Order.{meets, reached, granted, honest, distinct}
 use Rattle.lists.specs.Greedy.{addable, orderFault}
 use Rattle.lists.specs.Calls.{Answered}
 use Rattle.lists.specs.declared.Listed.{Listed}
-use Rattle.lists.specs.declared.Grid.{Grid}
 
--- the table of so many users and files
-abbrev pub gridOf : List ℕ → ℕ → ℕ → Grid
-gridOf arrows users files = record { arrows = arrowCount arrows; users = users; files = files; pairs = users * files }
-
--- the table has a set for each arrow, then for each user, then for each file
-pub record Laid (table : List ℕ) (g : Grid) : Type 0 where
-  pub pairs-are : g .pairs ≡ g .users * g .files
-  pub few-arrows : g .arrows ≤ 512
-  pub few-users : g .users ≤ 256
-  pub few-files : g .files ≤ 256
-  pub few-sets : 8 * (g .arrows + g .users + g .files) ≤ length table
-
--- arrow k reaches the pair at place p, by the table: it is in the set of the user and in that of the file
+-- arrow k reaches the pair at place p, by the table: it reaches the user of the row and the file of the column
 unfoldable pub touches : List ℕ → Grid → ℕ → ℕ → Bool
-touches table g k p = has table (g .arrows + p / g .files) k && has table (g .arrows + g .users + p % g .files) k
+touches table g k p = tailAround table g k (p / g .files) && headAround table g k (p % g .files)
 
 -- the table is that of the picture
 pub record Agrees (boxes rows arrows table : List ℕ) (g : Grid) : Type 0 where

@@ -4,6 +4,7 @@ ghost use mathlib.Core.Bool.{true, cond};
 ghost use mathlib.Core.List.{List, []};
 ghost use mathlib.Core.Option.{none, some};
 ghost use Prim.Native.Nat.{ℕ, _+_, _*_, _/_, _%_, _<_, _≤_};
+ghost use lib.Dec.{ltb};
 ghost use lib.ListN.{length, take};
 ghost use Rattle.tables.specs.Buffers.{written, zeros};
 ghost use Rattle.tables.specs.Search.{bit};
@@ -12,26 +13,29 @@ ghost use Rattle.tables.specs.Atoms.{pairCount};
 ghost use Rattle.tables.specs.Steps.{SoundRows, SoundArrows};
 ghost use Rattle.tables.specs.Refusals.{refusal, verdictOf};
 ghost use Rattle.containment.specs.Steps.{Says};
-ghost use Rattle.answers.specs.Meaning.{isGranted, modeArrows};
+ghost use Rattle.answers.specs.Meaning.{modeArrows};
 ghost use Rattle.answers.specs.Pairs.{unclearFault};
-ghost use Rattle.sets.specs.Sets.{has};
 ghost use Rattle.answers.specs.Among.{FirstAt};
-ghost use Rattle.answers.specs.Table.{Placed, Tabled};
+ghost use Rattle.answers.specs.Table.{Placed, Tabled, Laid, tailAround};
 ghost use Rattle.lists.specs.Calls.{blanks, Outcome};
-ghost use Rattle.lists.specs.Steps.{Listing, gridOf, Laid, Agrees, Drawn, touches, stops, NoStop, StopIn, markedTo, Behind, followsAt, ownSign, nothing, leftIn, Clear, workOf, Ordered};
-use answers::Entry;
+ghost use Rattle.lists.specs.Steps.{Agrees, Drawn, touches, stops, NoStop, StopIn, markedTo, Behind, followsAt, ownSign, nothing};
+ghost use Rattle.lists.specs.Steps.{leftIn, Clear, workOf, Ordered, Listing};
+use answers::Grid;
 use answers::answer_at;
+use answers::granting;
+use answers::grid_of;
 use answers::is_unclear;
 use answers::mode_arrows;
 use answers::no_boxes;
 use answers::no_numbers;
 use answers::no_words;
 use answers::pair_count;
+use answers::reaches_file;
+use answers::reaches_user;
 use answers::refuse_pair;
 use answers::tabulate;
 use containment::check_scratch;
 use containment::contain;
-use sets::is_in;
 use tables::Arrow;
 use tables::Refusal;
 use tables::Verdict;
@@ -46,27 +50,6 @@ pub enum Listed {
     Refused(Refusal),
 }
 
-// How many arrows, users, files and pairs the table of sets is of.
-struct Grid {
-    arrows: usize,
-    users: usize,
-    files: usize,
-    pairs: usize,
-}
-
-// The table of so many users and files.
-fn grid_of(arrows: &[u16], users: usize, files: usize) -> Grid
-    requires { ⌜ (users ≤ 256) × (files ≤ 256) ⌝ }
-    ensures { λ r. ⌜ r ≡ gridOf (now (arrows .entry)) users files ⌝ }
-{
-    Grid {
-        arrows: arrows.len() / 4,
-        users,
-        files,
-        pairs: users * files,
-    }
-}
-
 // The sign of an arrow as a byte.
 fn sign_byte(sign: u16) -> u8
     requires { ⌜ sign ≤ 1 ⌝ }
@@ -75,25 +58,18 @@ fn sign_byte(sign: u16) -> u8
     (sign % 256) as u8
 }
 
-// Whether arrow k reaches the user of a row.
-fn reaches_row(table: &[u64], g: Grid, k: usize, row: usize) -> bool
-    requires { ⌜ Laid (now table) g × (k < 512) × (row < g .users) ⌝ }
-    ensures { λ r. ⌜ r ≡ has (now (table .entry)) (g .arrows + row) k ⌝ }
-{
-    is_in(table, g.arrows + row, k)
-}
-
 // Whether arrow k, which reaches the user of the row, reaches the pair in a column of it, and the pair's byte says that it is not
 // reached yet and is none to skip.
 fn stops_at(table: &[u64], g: Grid, k: usize, work: &[u8], skip: u8, row: usize, col: usize) -> bool
-    requires { ⌜ Laid (now table) g × (k < 512) × (g .pairs ≤ length (now work)) × (row < g .users) × (col < g .files) × (has (now table) (g .arrows + row) k ≡ true) ⌝ }
+    requires { ⌜ Laid (now table) g × (k < 512) × (g .pairs ≤ length (now work)) × (row < g .users) × (col < g .files)
+        × (tailAround (now table) g k row ≡ true) ⌝ }
     ensures { λ r. ⌜ r ≡ stops (touches (now (table .entry)) g k) (now (work .entry)) skip (row * g .files + col) ⌝ }
 {
     let byte = work[row * g.files + col];
     if 2 <= byte {
         return false;
     }
-    byte != skip && is_in(table, g.arrows + g.users + col, k)
+    byte != skip && reaches_file(table, g, k, col)
 }
 
 // The first column of a row, from `from` on, whose pair stops arrow k, or one past the last. A row whose user the arrow does not
@@ -110,7 +86,7 @@ fn stop_in_row(
     requires { ⌜ Laid (now table) g × (k < 512) × (g .pairs ≤ length (now work)) × (row < g .users) × (from ≤ g .files) ⌝ }
     ensures { λ r. ⌜ StopIn (touches (now (table .entry)) g k) (now (work .entry)) skip (row * g .files) from (g .files) r ⌝ }
 {
-    if !reaches_row(table, g, k, row) {
+    if !reaches_user(table, g, k, row) {
         return g.files;
     }
     for col in from..g.files {
@@ -211,7 +187,7 @@ fn mark_row(table: &[u64], g: Grid, k: usize, work: &mut [u8], row: usize)
     requires { ⌜ Laid (now table) g × (k < 512) × (g .pairs ≤ length (now work)) × (row < g .users) ⌝ }
     ensures { λ _. ⌜ ((w : List ℕ) → g .pairs ≤ length w → now (work .entry) ≡ markedTo (touches (now (table .entry)) g k) w (row * g .files) → now (work .exit) ≡ markedTo (touches (now (table .entry)) g k) w ((row + 1) * g .files)) ⌝ }
 {
-    if !reaches_row(table, g, k, row) {
+    if !reaches_user(table, g, k, row) {
         return;
     }
     for col in 0..g.files {
@@ -257,7 +233,7 @@ fn blank(out: &mut [u16], count: usize)
     ensures { λ _. ⌜ now (out .exit) ≡ written (blanks count) (now (out .entry)) ⌝ }
 {
     for p in 0..count {
-        out[p] = 65535;
+        out[p] = Arrow::NONE;
     }
 }
 
@@ -300,14 +276,14 @@ fn order(
     }
 }
 
-// 1 if the answer grants, else 0: the granting arrow is taken out, and the other three answers are turned away.
-fn granted_byte(e: Entry) -> u8
-    ensures { λ r. ⌜ r ≡ bit (isGranted e) ⌝ }
+// 1 for the number of a granting arrow, 0 for that of no arrow.
+fn granted_byte(k: u16) -> u8
+    ensures { λ r. ⌜ r ≡ bit (ltb k 65535) ⌝ }
 {
-    let Entry::Granted(_) = e else {
-        return 0;
-    };
-    1
+    if k < Arrow::NONE {
+        return 1;
+    }
+    0
 }
 
 // Check 12, and a byte for each pair, 1 if it is granted. They are no work bytes yet: check 12 leaves those untouched.
@@ -330,7 +306,7 @@ fn fill_granted(
         if is_unclear(e) {
             return refuse_pair(boxes, rows, users, files, 12, mode, p);
         }
-        bytes[p] = granted_byte(e);
+        bytes[p] = granted_byte(granting(e));
     }
     Verdict::Passed
 }

@@ -59,6 +59,9 @@ impl Arrow {
     // A picture has at most so many arrows.
     pub const LIMIT: usize = 512;
 
+    // The number of no arrow.
+    pub const NONE: u16 = 65535;
+
     // Arrow k.
     pub fn at(arrows: &[u16], k: usize) -> Self
         requires { ⌜ k < arrowCount (now arrows) ⌝ }

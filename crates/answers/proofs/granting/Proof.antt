@@ -13,6 +13,10 @@ use Rattle.answers.proofs.Entry.{the-type}
 use Rattle.answers.proofs.granting.Statement.{statement}
 use Rattle.answers.proofs.granting.Tie as tie
 
+returns-2 : tie.Need-returns-2
+unfolding grantingOf
+returns-2 c = rw (c .before .e .given .1)
+
 -- an entry whose tag is not that of the first variant grants nothing
 others : (e : Entry) → OneOf (1 ∷ 2 ∷ 3 ∷ []) (tagOf the-type e) → 65535 ≡ grantingOf e
 unfolding grantingOf
@@ -23,10 +27,6 @@ others (Unclear p n) h = refl
 
 returns : tie.Need-returns
 returns c = others (c .before .args .e) (c .match .keys2)
-
-returns-2 : tie.Need-returns-2
-unfolding grantingOf
-returns-2 c = rw (c .before .e .given .1)
 
 pub granting-spec : {M : Type 1} → statement M
 granting-spec =

@@ -62,26 +62,37 @@ returns c =
 
 slice-write-bytes : tie.Need-slice-write-bytes Inv-loop μ-loop
 slice-write-bytes c =
-    let in-loop = c .before .before .before .before in
+    let in-loop = c .before .before .before .before .before in
     let at-loop = in-loop .before in
     let start = at-loop .before .before .before .before .before .before .before .before in
     omega (arith, counted start, in-loop .loop-test .taken, start .pre .2, kept at-loop)
 
 add-p : tie.Need-add-p Inv-loop μ-loop
-add-p c = omega (arith, counted (c .before .before .before .before .before .before .before .before .before .before .before .before .before), c .before .before .before .before .loop-test .taken)
+add-p c =
+    let in-loop = c .before .before .before .before .before in
+    omega (arith, counted (in-loop .before .before .before .before .before .before .before .before .before), in-loop .loop-test .taken)
 
 loop-less : tie.Need-loop-less Inv-loop μ-loop
-loop-less c = omega (arith, counted (c .before .before .before .before .before .before .before .before .before .before .before .before .before), c .before .before .before .before .loop-test .taken)
+loop-less c =
+    let in-loop = c .before .before .before .before .before in
+    omega (arith, counted (in-loop .before .before .before .before .before .before .before .before .before), in-loop .loop-test .taken)
 
 loop-again : tie.Need-loop-again Inv-loop μ-loop
 loop-again c =
-    let at-answer-at = c .before .before .before in
+    let at-answer-at = c .before .before .before .before in
     let in-loop = at-answer-at .before in
     let at-loop = in-loop .before in
     let start = at-loop .before .before .before .before .before .before .before .before in
     let a = start .args in
     let i = at-loop .loop in (
-      filling-next (a .boxes .now) (a .rows .now) (a .arrows .now) (a .mode) (a .bytes .now) (i .bytes) (i .p) (at-answer-at .answer-at .result) (c .granted-byte .result) (omega (arith, counted start, in-loop .loop-test .taken, start .pre .2)) (at-answer-at .answer-at .ensures) (sym (c .before .before .is-unclear .ensures) ∙ c .before .if1 .left) (c .granted-byte .ensures) (i .inv .0),
+      filling-next (a .boxes .now) (a .rows .now) (a .arrows .now) (a .mode) (a .bytes .now) (i .bytes) (i .p)
+          (at-answer-at .answer-at .result) (c .granted-byte .result)
+          (omega (arith, counted start, in-loop .loop-test .taken, start .pre .2))
+          (at-answer-at .answer-at .ensures)
+          (sym (c .before .before .before .is-unclear .ensures) ∙ c .before .before .if1 .left)
+          (start .pre .0 .few-arrows)
+          (rw (c .before .granting .ensures) at (c .granted-byte .ensures))
+          (i .inv .0),
       omega (arith, counted start, in-loop .loop-test .taken),
     )
 
@@ -97,4 +108,4 @@ returns-2 c = let a = c .before .before .before .before .before .before .before 
 pub fill-granted-spec : {M : Type 1} → statement M
 fill-granted-spec =
     tie.close (tie.spec Inv-loop μ-loop mul-p-end loop-holds answer-at-requires (λ c κs. search needs) refuse-pair-requires same-length
-    returns (λ c κs. search needs) slice-write-bytes add-p loop-less loop-again same-length-2 returns-2)
+    returns (λ c κs. search needs) (λ c κs. search needs) slice-write-bytes add-p loop-less loop-again same-length-2 returns-2)

@@ -12,11 +12,11 @@ use Rattle.tables.proofs.Verdicts.{passed, refused}
 use Rattle.tables.proofs.AtomSides.{pairs-most}
 use Rattle.tables.proofs.BufferLaws.{zeros-length}
 use Rattle.answers.specs.Pairs.{unclearFault}
-use Rattle.answers.proofs.TableLaws.{tabled-pairs}
+use Rattle.answers.proofs.TableLaws.{tabled-pairs, few-users, few-files, laid}
 use Rattle.lists.specs.Steps.{leftIn, workOf}
 use Rattle.lists.proofs.CallLaws.{finish-written, finish-refused, finish-work, listing-refused, copied, copied-again, listing-done}
 use Rattle.lists.proofs.FillLaws.{all-clear}
-use Rattle.lists.proofs.PlaceLaws.{few-users, few-files, laid, agrees}
+use Rattle.lists.proofs.PlaceLaws.{agrees}
 use Rattle.lists.proofs.list_pairs.Statement.{statement}
 use Rattle.lists.proofs.list_pairs.Tie as tie
 

@@ -31,7 +31,7 @@ returns c = let start = c .before .before .before .before in
     let n = a .g .files in λ w r e.
     e
     ∙ mark-passed _ w (a .row * n) n (omega (arith, row-end (start .pre .0) (a .row) (start .pre .3)))
-    (λ j l. untouched (start .pre .0) (a .k) (a .row) j l (sym (c .before .reaches-row .ensures) ∙ not-true _ (c .if1 .taken)))
+    (λ j l. untouched (start .pre .0) (a .k) (a .row) j l (sym (c .before .reaches-user .ensures) ∙ not-true _ (c .if1 .taken)))
     ∙ ap (markedTo _ w) (sym (next-row n (a .row)))
 
 loop-holds : tie.Need-loop-holds Inv-loop μ-loop
@@ -40,7 +40,7 @@ loop-holds c = (λ w r e. e ∙ ap (markedTo _ w) (sym (add-zero _)), refl, omeg
 stops-at-requires : tie.Need-stops-at-requires Inv-loop μ-loop
 stops-at-requires c κs = let at-loop = c .before .before in
     let p = at-loop .before .before .before .before .before .pre in
-    (p .0, p .1, omega (arith, p .2, at-loop .loop .inv .1), p .3, c .before .loop-test .taken, sym (at-loop .before .before .reaches-row .ensures) ∙ not-false _ (at-loop .before .if1 .left))
+    (p .0, p .1, omega (arith, p .2, at-loop .loop .inv .1), p .3, c .before .loop-test .taken, sym (at-loop .before .before .reaches-user .ensures) ∙ not-false _ (at-loop .before .if1 .left))
 
 mul-p : tie.Need-mul-p Inv-loop μ-loop
 mul-p c = let p = c .before .before .before .before .before .before .before .before .before .pre in omega (arith, row-small (p .0) _ (p .3))

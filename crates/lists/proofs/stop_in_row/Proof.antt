@@ -21,14 +21,14 @@ returns : tie.Need-returns Inv-loop μ-loop
 returns c = let start = c .before .before .before .before in
     let a = start .args in
     stop-none _ (a .work .now) (a .skip) _ (a .from) (a .g .files)
-    (λ j l. untouched (start .pre .0) (a .k) (a .row) j l (sym (c .before .reaches-row .ensures) ∙ not-true _ (c .if1 .taken)))
+    (λ j l. untouched (start .pre .0) (a .k) (a .row) j l (sym (c .before .reaches-user .ensures) ∙ not-true _ (c .if1 .taken)))
 
 loop-holds : tie.Need-loop-holds Inv-loop μ-loop
 loop-holds c = (stop-start _ _ _ _ _, c .before .before .before .before .pre .4)
 
 stops-at-requires : tie.Need-stops-at-requires Inv-loop μ-loop
 stops-at-requires c κs = let p = c .before .before .before .before .before .before .pre in
-    (p .0, p .1, p .2, p .3, c .loop-test .taken, sym (c .before .before .before .reaches-row .ensures) ∙ not-false _ (c .before .before .if1 .left))
+    (p .0, p .1, p .2, p .3, c .loop-test .taken, sym (c .before .before .before .reaches-user .ensures) ∙ not-false _ (c .before .before .if1 .left))
 
 returns-2 : tie.Need-returns-2 Inv-loop μ-loop
 returns-2 c = stop-found _ _ _ _ _ _ _ (c .before .before .loop-test .taken) (c .before .before .before .loop .inv .0) (true-T _ (sym (c .before .stops-at .ensures) ∙ c .if2 .taken))

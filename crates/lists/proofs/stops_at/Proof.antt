@@ -1,4 +1,4 @@
--- `lists::stops_at` meets its contract: the byte is tested, then whether the arrow is in the set of the column. Assumes nothing.
+-- `lists::stops_at` meets its contract: the byte is tested, then whether the arrow reaches the file of the column. Assumes nothing.
 use mathlib.Core.Path.{sym, ap, _∙_}
 use mathlib.Core.Bool.{not}
 use Prim.Native.Nat.{_+_, _*_}
@@ -22,22 +22,15 @@ returns : tie.Need-returns
 returns c = let a = c .before .before .before .before .before .args in
     sym (stop-reached _ (a .work .now) (a .skip) (a .row * a .g .files + a .col) (omega (arith, c .if1 .taken)))
 
-add-is-in : tie.Need-add-is-in
-add-is-in c = let d = c .before .before .before .before .before .before .before .pre .0 in omega (arith, d .few-arrows, d .few-users)
-
-add-is-in-2 : tie.Need-add-is-in-2
-add-is-in-2 c = let p = c .before .before .before .before .before .before .before .pre in
-    omega (arith, p .0 .few-arrows, p .0 .few-users, p .0 .few-files, p .4)
-
-is-in-requires : tie.Need-is-in-requires
-is-in-requires c κs = let p = c .before .before .before .before .before .before .before .pre in (omega (arith, p .4, p .0 .few-sets), p .1)
+reaches-file-requires : tie.Need-reaches-file-requires
+reaches-file-requires c κs = let p = c .before .before .before .before .before .before .pre in (p .0, p .1, p .4)
 
 returns-2 : tie.Need-returns-2
-returns-2 c = let start = c .before .before .before .before .before .before .before .before in
+returns-2 c = let start = c .before .before .before .before .before .before .before in
     let a = start .args in
-    c .is-in .ensures
+    c .reaches-file .ensures
     ∙ touched (start .pre .0) (a .k) (a .row) (a .col) (start .pre .4) (start .pre .5)
-    ∙ sym (stop-touches _ (a .work .now) (a .skip) (a .row * a .g .files + a .col) (c .before .before .before .if1 .left) (c .before .before .if2 .taken))
+    ∙ sym (stop-touches _ (a .work .now) (a .skip) (a .row * a .g .files + a .col) (c .before .before .if1 .left) (c .before .if2 .taken))
 
 returns-3 : tie.Need-returns-3
 returns-3 c = let a = c .before .before .before .before .before .before .args in
@@ -46,4 +39,4 @@ returns-3 c = let a = c .before .before .before .before .before .before .args in
 
 pub stops-at-spec : {M : Type 1} → statement M
 stops-at-spec =
-    tie.close (tie.spec mul-byte add-byte shared-slice-read-byte returns add-is-in add-is-in-2 is-in-requires returns-2 returns-3)
+    tie.close (tie.spec mul-byte add-byte shared-slice-read-byte returns reaches-file-requires returns-2 returns-3)
