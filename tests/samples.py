@@ -164,11 +164,22 @@ def all_inside(boxes, rows):
     return inside
 
 
-def answer(inside, arrows, mode, user, file):
-    """The answer's words in the listing, and whether it is unclear."""
+def around(inside, box, atom):
+    return box == atom or atom in inside[box]
 
-    def around(box, atom):
-        return box == atom or atom in inside[box]
+
+def around_user(inside, arrows, mode, user):
+    """The numbers of the mode's arrows whose tail is the user or contains it."""
+    return [
+        number
+        for number, (tail, _, arrow_mode, _) in enumerate(arrows)
+        if arrow_mode == mode and around(inside, tail, user)
+    ]
+
+
+def answer_among(inside, arrows, numbers, file):
+    """The answer that these arrows give at a file: its words in the listing, and whether it is
+    unclear."""
 
     def level(a, b):
         return a == b or (a not in inside[b] and b not in inside[a])
@@ -182,8 +193,9 @@ def answer(inside, arrows, mode, user, file):
         )
 
     reaching = {1: [], 0: []}
-    for number, (tail, head, arrow_mode, sign) in enumerate(arrows):
-        if arrow_mode == mode and around(tail, user) and around(head, file):
+    for number in numbers:
+        _, head, _, sign = arrows[number]
+        if around(inside, head, file):
             reaching[sign].append(number)
     if not reaching[1] and not reaching[0]:
         return "neg -", False
@@ -192,6 +204,10 @@ def answer(inside, arrows, mode, user, file):
             if all(overrides(number, other) for other in reaching[1 - sign]):
                 return f"{word} {number}", False
     return f"ambig {reaching[1][0]} {reaching[0][0]}", True
+
+
+def answer(inside, arrows, mode, user, file):
+    return answer_among(inside, arrows, around_user(inside, arrows, mode, user), file)
 
 
 def listing(data):
@@ -213,8 +229,9 @@ def listing(data):
     last = "accepted"
     for mode in sorted({row[2] for row in arrows}):
         for user in users:
+            numbers = around_user(inside, arrows, mode, user)
             for file in files:
-                words, unclear = answer(inside, arrows, mode, user, file)
+                words, unclear = answer_among(inside, arrows, numbers, file)
                 lines.append(f"{mode} {user} {file} {words}")
                 if unclear and last == "accepted":
                     last = f"ambiguous {mode} {user} {file}"
