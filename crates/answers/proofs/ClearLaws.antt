@@ -1,19 +1,18 @@
--- For the crates above: the first unclear pair as a search over places, and modes without an arrow. Assumes nothing.
+-- For the crates above: the first unclear pair mode by mode, and modes without an arrow. Assumes nothing.
 use mathlib.Core.Path.{_≡_, refl, ap, _∙_}
 use mathlib.Core.List.{List}
 use mathlib.Core.Option.{none}
 use Prim.Native.Nat.{ℕ, _<_, _≤_}
 use native.Mathlib.Omega.{arith}
 use lib.ListN.{length}
-use Rattle.tables.specs.Search.{first, given, select}
+use Rattle.tables.specs.Search.{first, select}
 use Rattle.tables.specs.Rows.{arrowCount, arrowAt}
 use Rattle.tables.specs.Atoms.{pairCount}
-use Rattle.tables.specs.Refusals.{unclearPair}
 use Rattle.tables.proofs.Tests.{T-eqb}
 use Rattle.tables.proofs.SearchLaws.{first-nothing}
 use Rattle.tables.proofs.SelectLaws.{select-has}
 use Rattle.answers.specs.Meaning.{hasMode, modeArrows, isUnclear}
-use Rattle.answers.specs.Pairs.{userAt, fileAt, answerAt, unclearFault, anyUnclear}
+use Rattle.answers.specs.Pairs.{userAt, fileAt, unclearFault, anyUnclear}
 use Rattle.answers.proofs.AnswerLaws.{unreached-default}
 use Rattle.answers.proofs.PairLaws.{unclearAt, unclear-is, unclear-none}
 use Rattle.answers.proofs.ModeLaws.{mode-select, answer-at}
@@ -25,13 +24,6 @@ module _ (boxes rows arrows : List ℕ) where
   any-unclear = refl
 
   module _ (m : ℕ) where
-    -- and place by place
-    pub mode-unclear : unclearFault boxes rows arrows m
-        ≡ first (λ p. given (isUnclear (answerAt boxes rows arrows m p)) (unclearPair m (userAt boxes rows p) (fileAt boxes rows p)))
-        (pairCount boxes rows)
-    unfolding unclearAt
-    mode-unclear = unclear-is boxes rows arrows m
-
     no-arrow : length (modeArrows arrows m) ≤ 0 → (k : ℕ) → k < arrowCount arrows → arrowAt arrows k .mode ≡ m → ⊥
     unfolding hasMode
     no-arrow few k l e =

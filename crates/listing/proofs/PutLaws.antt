@@ -8,8 +8,8 @@ use lib.ListN.{length, drop, set, getD, length-append}
 use lib.Seq.{sets, length-sets, length-take-le, drop-cons, drop-length}
 use Rattle.io.specs.Counts.{Counts}
 use Rattle.tables.specs.Buffers.{written}
-use Rattle.tables.proofs.BufferLaws.{written-none}
-use Rattle.blocks.proofs.Placing.{sets-more, written-more}
+use Rattle.tables.proofs.BufferLaws.{written-none, written-run}
+use Rattle.blocks.proofs.Placing.{sets-more}
 use Rattle.answers.specs.declared.Entry.{Entry}
 use Rattle.answers.specs.declared.Entry.the-variants.{Granted, Denied, Default, Unclear}
 use Rattle.listing.specs.Text.{text, line}
@@ -48,7 +48,7 @@ pub at-start : (old new a : List ℕ) (m y : ℕ) → m ≤ length old → Put o
 at-start old new a m y h p =
     let e : y ≡ length a = omega arith in
     let fits : y ≤ length new = omega arith in
-    let there : sets old 0 a ≡ written a old = rw (written-none old) at (written-more [] a old (omega arith)) in
+    let there : sets old 0 a ≡ written a old = rw (written-none old) at (written-run [] a old (omega arith)) in
     (e, p .placed ∙ there, (fits, sym (length-take-le y new fits)))
 
 -- nothing put

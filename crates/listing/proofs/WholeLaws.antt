@@ -15,7 +15,8 @@ use Rattle.tables.specs.declared.Refusal.{Refusal}
 use Rattle.tables.proofs.FoldLaws.{fold, fold-same, fold-add, fold-grid, fold-select, first-fold, orElse-chains}
 use Rattle.answers.specs.Pairs.{unclearFault, anyUnclear}
 use Rattle.answers.specs.Meaning.{modeArrows}
-use Rattle.answers.proofs.ClearLaws.{any-unclear, mode-unclear, unused-clear}
+use Rattle.answers.proofs.PairLaws.{unclear-is}
+use Rattle.answers.proofs.ClearLaws.{any-unclear, unused-clear}
 use Rattle.blocks.specs.Blocks.{joined}
 use Rattle.blocks.proofs.Made.{joined-same}
 use Rattle.blocks.proofs.JoinedLaws.{joined-none, joined-more, joined-fold, append-chains}
@@ -75,7 +76,7 @@ module _ (boxes rows arrows : List ℕ) where
 
   mode-first : (m : ℕ) → fold none orElse (unclearIn boxes rows arrows m) pairs ≡ unclearFault boxes rows arrows m
   unfolding unclearIn
-  mode-first m = sym (first-fold (unclearIn boxes rows arrows m) pairs) ∙ sym (mode-unclear boxes rows arrows m)
+  mode-first m = sym (first-fold (unclearIn boxes rows arrows m) pairs) ∙ sym (unclear-is boxes rows arrows m)
 
   -- the first unclear pair of the pair lines is the picture's
   unclear-whole : first (unclearOf boxes rows arrows) (pairLines boxes rows arrows) ≡ anyUnclear boxes rows arrows
