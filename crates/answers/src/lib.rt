@@ -630,7 +630,7 @@ fn first_unclear(
 }
 
 // Check 12 for all modes, by the table.
-pub fn first_mode(
+fn first_mode(
     boxes: &[u8],
     rows: &[u16],
     arrows: &[u16],
