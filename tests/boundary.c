@@ -1,7 +1,11 @@
-/* Case B through the C header, call by call: that the header and the library fit together. */
+/*
+ * Case B through the C header, call by call: that the header and the library fit together, with
+ * the kinds, lengths and names of the header. Last a picture that shows which pair 13 names.
+ */
 
 #include "rights.h"
 #include <stdio.h>
+#include <string.h>
 
 static int failed = 0;
 
@@ -11,6 +15,13 @@ static void expect(const char *what, rights_reply got, uint32_t kind, uint32_t n
         printf("%s: kind %u, number %u, %llu %llu %llu\n", what, (unsigned)got.kind,
                (unsigned)got.number, (unsigned long long)got.a, (unsigned long long)got.b,
                (unsigned long long)got.c);
+        failed++;
+    }
+}
+
+static void name(const char *what, const char *got, const char *wanted) {
+    if (strcmp(got, wanted) != 0) {
+        printf("%s: %s\n", what, got);
         failed++;
     }
 }
@@ -40,6 +51,10 @@ int main(void) {
     const uint8_t contained[16] = {0, 0, 0, 0, 0, 0, 0, 0, 1, 1, 0, 0, 0, 0, 0, 0};
     uint8_t scratch[17], bytes[3] = {9, 9, 9}, work[3] = {9, 9, 9};
     uint16_t numbers[3] = {9, 9, 9}, list[3] = {9, 9, 9};
+    uint16_t users[3] = {9, 9, 9}, files[3] = {9, 9, 9};
+    const rights_reply zeros = {0, 0, 0, 0, 0};
+    hold("version", rights_version() == RIGHTS_VERSION);
+    hold("a reply of zeros", zeros.kind == RIGHTS_DENIED);
     for (int k = 0; k < 17; k++) {
         scratch[k] = 9;
     }
@@ -66,7 +81,8 @@ int main(void) {
     expect("matrix",
            rights_matrix(boxes, 4, rows, 4, arrows, 8, 0, scratch, 16, bytes, 3, numbers, 3),
            RIGHTS_DONE, 0, 0, 0, 0);
-    hold("matrix bytes", bytes[0] == 1 && bytes[1] == 0 && bytes[2] == 9);
+    hold("matrix bytes",
+         bytes[0] == RIGHTS_GRANTED && bytes[1] == RIGHTS_DENIED && bytes[2] == 9);
     hold("matrix numbers", numbers[0] == 0 && numbers[1] == 1 && numbers[2] == 9);
 
     rights_reply reply =
@@ -75,17 +91,68 @@ int main(void) {
     hold("list places", list[0] == 0 && list[1] == (reply.a == 2 ? 1 : 9) && list[2] == 9);
     hold("work", work[0] == 0 && work[1] == 0 && work[2] == 9);
 
-    uint8_t file[512] = {1, 0, 0, 0, 4, 0, 0, 0, 0, 0, 0, 1};
+    expect("one place for users", rights_atoms(boxes, 4, rows, 4, users, 1, files, 0),
+           RIGHTS_REFUSED, RIGHTS_BUFFER_SHORT, RIGHTS_ATOMIC_USERS, 2, 0);
+    expect("no place for files", rights_atoms(boxes, 4, rows, 4, users, 2, files, 0),
+           RIGHTS_REFUSED, RIGHTS_BUFFER_SHORT, RIGHTS_ATOMIC_FILES, 1, 0);
+    expect("an odd length", rights_atoms(boxes, 4, rows, 3, users, 3, files, 3), RIGHTS_REFUSED,
+           RIGHTS_RAGGED, 1, 3, 0);
+    hold("atoms untouched", users[0] == 9 && files[0] == 9);
+    expect("atoms", rights_atoms(boxes, 4, rows, 4, users, 3, files, 3), RIGHTS_DONE, 0, 2, 1, 0);
+    hold("users", users[0] == 0 && users[1] == 1 && users[2] == 9);
+    hold("files", files[0] == 3 && files[1] == 9 && files[2] == 9);
+
+    /* B as a file: a block of boxes, one of containments, one of arrows. */
+    uint8_t file[1536] = {1, 0, 0, 0, 4, 0, 0, 0, 0, 0, 0, 1};
+    const uint8_t second[] = {2, 0, 1, 0, 2, 0, 0, 0, 2, 0, 0, 0, 2, 0, 1, 0};
+    const uint8_t third[] = {3, 0, 2, 0, 2, 0, 0, 0, 0, 0, 3, 0, 0, 1, 2, 0, 3, 0, 0, 0};
+    memcpy(file + 512, second, sizeof second);
+    memcpy(file + 1024, third, sizeof third);
     uint8_t read_boxes[5] = {9, 9, 9, 9, 9};
-    uint16_t none[1] = {9};
-    expect("unsealed", rights_read(file, 512, read_boxes, 5, none, 0, none, 0), RIGHTS_REFUSED,
-           RIGHTS_BLOCK_CHECK, 0, 0, 0);
-    seal(file);
-    expect("read", rights_read(file, 512, read_boxes, 5, none, 0, none, 0), RIGHTS_DONE, 0, 4, 0,
-           0);
-    hold("boxes read", read_boxes[0] == 0 && read_boxes[3] == 1 && read_boxes[4] == 9);
-    expect("511 bytes", rights_read(file, 511, read_boxes, 5, none, 0, none, 0), RIGHTS_REFUSED,
-           RIGHTS_FILE_LENGTH, 511, 0, 0);
+    uint16_t read_rows[5] = {9, 9, 9, 9, 9};
+    uint16_t read_arrows[9] = {9, 9, 9, 9, 9, 9, 9, 9, 9};
+    reply = rights_read(file, 1536, read_boxes, 5, read_rows, 5, read_arrows, 9);
+    expect("unsealed", reply, RIGHTS_REFUSED, RIGHTS_BLOCK_CHECK, 0, 0, 0);
+    hold("lengths after a refusal",
+         rights_boxes_len(reply) + rights_rows_len(reply) + rights_arrows_len(reply) == 0);
+    for (int k = 0; k < 3; k++) {
+        seal(file + 512 * k);
+    }
+    reply = rights_read(file, 1536, read_boxes, 5, read_rows, 5, read_arrows, 9);
+    expect("read", reply, RIGHTS_DONE, 0, 4, 2, 2);
+    hold("boxes read", memcmp(read_boxes, boxes, sizeof boxes) == 0 && read_boxes[4] == 9);
+    hold("rows read", memcmp(read_rows, rows, sizeof rows) == 0 && read_rows[4] == 9);
+    hold("arrows read", memcmp(read_arrows, arrows, sizeof arrows) == 0 && read_arrows[8] == 9);
+    hold("lengths", rights_boxes_len(reply) == 4 && rights_rows_len(reply) == 4
+                        && rights_arrows_len(reply) == 8);
+    expect("511 bytes", rights_read(file, 511, read_boxes, 5, read_rows, 5, read_arrows, 9),
+           RIGHTS_REFUSED, RIGHTS_FILE_LENGTH, 511, 0, 0);
+
+    name("refusal 0", rights_refusal_name(0), "no refusal");
+    name("refusal 9", rights_refusal_name(RIGHTS_BUFFER_SHORT), "buffer too short");
+    name("refusal 13", rights_refusal_name(RIGHTS_NO_ORDER), "no order");
+    name("refusal 17", rights_refusal_name(RIGHTS_FILLER), "filler not zero");
+    name("refusal 18", rights_refusal_name(18), "unknown refusal");
+    name("buffer 7", rights_buffer_name(RIGHTS_ARROWS), "arrows");
+    name("buffer 8", rights_buffer_name(8), "unknown buffer");
+    name("buffer 12", rights_buffer_name(RIGHTS_ATOMIC_FILES), "atomic files");
+
+    /*
+     * J with a user in front and a file behind, joined by a positive arrow. Granted are (0, 13),
+     * (1, 8) and (2, 7). No list reaches all three, but an honest one reaches the first.
+     */
+    const uint8_t j_boxes[14] = {0, 0, 0, 0, 0, 0, 0, 1, 1, 1, 1, 1, 1, 1};
+    const uint16_t j_rows[24] = {3, 1, 3,  6, 4,  1,  5,  4, 5,  2,  6,  2,
+                                 9, 8, 10, 9, 10, 7, 11, 7, 12, 11, 12, 8};
+    const uint16_t j_arrows[20] = {3, 9, 0, 1, 4, 10, 0, 0, 5, 11, 0, 1, 6, 12, 0, 0, 0, 13, 0, 1};
+    uint8_t j_scratch[196], j_work[9];
+    uint16_t j_list[5];
+    expect("first granted pair",
+           rights_entry(j_boxes, 14, j_rows, 24, j_arrows, 20, 0, 13, 0, j_scratch, 196),
+           RIGHTS_GRANTED, 0, 4, 0, 0);
+    expect("no order", rights_list(j_boxes, 14, j_rows, 24, j_arrows, 20, 0, j_scratch, 196,
+                                   j_list, 5, j_work, 9),
+           RIGHTS_REFUSED, RIGHTS_NO_ORDER, 0, 1, 8);
 
     printf("boundary: %s\n", failed ? "FAILED" : "passed");
     return failed != 0;
