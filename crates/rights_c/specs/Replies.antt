@@ -8,6 +8,8 @@ use Rattle.answers.specs.declared.Entry.the-variants.{Granted, Denied, Default,
 use Rattle.answers.specs.declared.Reply.the-variants.{Answered, Refused as EntryRefused}
 use Rattle.lists.specs.declared.Listed.{Listed}
 use Rattle.lists.specs.declared.Listed.the-variants.{Written, Refused as ListRefused}
+use Rattle.headings.specs.declared.Headings.{Headings}
+use Rattle.headings.specs.declared.Headings.the-variants.{Written as HeadingsWritten, Refused as HeadingsRefused}
 use Rattle.blocks.specs.declared.Reading.{Reading}
 use Rattle.blocks.specs.declared.Reading.the-variants.{Tables, Refused as ReadRefused}
 use Rattle.answers.specs.declared.Reply.{Reply as EntryReply}
@@ -29,12 +31,12 @@ abbrev pub verdictReply : Verdict → Reply
 verdictReply Passed = doneReply 0 0 0
 verdictReply (Refused r) = refusedReply r
 
--- kind 0 granted and 1 denied, with the arrow; 2 denied by default; 3 unclear, with the positive and the negative arrow
+-- kind 0 denied and 1 granted, with the arrow; 2 unclear, with the positive and the negative arrow; 3 denied by default
 abbrev pub entryReply : Entry → Reply
-entryReply (Granted k) = reply 0 0 k 0 0
-entryReply (Denied k) = reply 1 0 k 0 0
-entryReply Default = reply 2 0 0 0 0
-entryReply (Unclear p n) = reply 3 0 p n 0
+entryReply (Denied k) = reply 0 0 k 0 0
+entryReply (Granted k) = reply 1 0 k 0 0
+entryReply (Unclear p n) = reply 2 0 p n 0
+entryReply Default = reply 3 0 0 0 0
 
 abbrev pub askedReply : EntryReply → Reply
 askedReply (Answered e) = entryReply e
@@ -45,7 +47,16 @@ abbrev pub listReply : Listed → Reply
 listReply (Written count) = doneReply count 0 0
 listReply (ListRefused r) = refusedReply r
 
+-- the headings: done with the two counts
+abbrev pub headingReply : Headings → Reply
+headingReply (HeadingsWritten users files) = doneReply users files 0
+headingReply (HeadingsRefused r) = refusedReply r
+
 -- reading: done with the three row counts
 abbrev pub readReply : Reading → Reply
 readReply (Tables c) = doneReply (c .boxes) (c .containments) (c .arrows)
 readReply (ReadRefused r) = refusedReply r
+
+-- the version: major 1, minor 0, patch 0, as major × 65,536 + minor × 256 + patch
+abbrev pub version : ℕ
+version = 65536

@@ -7,12 +7,15 @@ ghost use Rattle.containment.specs.Scratch.{scratchAfter, earlyFault};
 ghost use Rattle.answers.specs.Meaning.{answer};
 ghost use Rattle.answers.specs.Calls.{replyOf, entryEarly, entryFault, judgeFault, matrixEarly, matrixFault, bytesAfter, numbersAfter};
 ghost use Rattle.lists.specs.Calls.{Outcome};
+ghost use Rattle.headings.specs.Calls.{headingsOf, headingFault, usersAfter, filesAfter};
 ghost use Rattle.blocks.specs.Reads.{ReadDone};
-ghost use Rattle.rights_c.specs.Replies.{reply, doneReply, refusedReply, verdictReply, entryReply, askedReply, listReply, readReply};
+ghost use Rattle.rights_c.specs.Replies.{reply, doneReply, refusedReply, verdictReply, entryReply, askedReply};
+ghost use Rattle.rights_c.specs.Replies.{listReply, headingReply, readReply, version};
 ghost use Rattle.lists.specs.declared.Listed.{Listed};
 ghost use Rattle.blocks.specs.declared.Reading.{Reading};
 use answers::Entry;
 use blocks::Reading;
+use headings::Headings;
 use lists::Listed;
 use tables::Refusal;
 use tables::Verdict;
@@ -76,10 +79,10 @@ fn of_entry(e: Entry) -> Reply
     ensures { λ r. ⌜ r ≡ entryReply e ⌝ }
 {
     match e {
-        Entry::Granted(k) => shown(0, k, 0),
-        Entry::Denied(k) => shown(1, k, 0),
-        Entry::Default => shown(2, 0, 0),
-        Entry::Unclear(p, n) => shown(3, p, n),
+        Entry::Granted(k) => shown(1, k, 0),
+        Entry::Denied(k) => shown(0, k, 0),
+        Entry::Default => shown(3, 0, 0),
+        Entry::Unclear(p, n) => shown(2, p, n),
     }
 }
 
@@ -98,6 +101,15 @@ fn of_list(l: Listed) -> Reply
     match l {
         Listed::Written(count) => done(count, 0, 0),
         Listed::Refused(x) => of_refusal(x),
+    }
+}
+
+fn of_headings(h: Headings) -> Reply
+    ensures { λ r. ⌜ r ≡ headingReply h ⌝ }
+{
+    match h {
+        Headings::Written(users, files) => done(users, files, 0),
+        Headings::Refused(x) => of_refusal(x),
     }
 }
 
@@ -173,6 +185,23 @@ pub extern "C" fn rights_list(
 }
 
 #[no_mangle]
+pub extern "C" fn rights_atoms(
+    boxes: &[u8],
+    rows: &[u16],
+    users: &mut [u16],
+    files: &mut [u16],
+) -> Reply
+    ensures { λ r. ⌜ r ≡ headingReply (headingsOf (now (boxes .entry)) (now (rows .entry))
+        (headingFault (now (boxes .entry)) (now (rows .entry)) (now (users .entry)) (now (files .entry)))) ⌝ }
+    ensures { λ _. ⌜ now (users .exit)
+        ≡ usersAfter (now (boxes .entry)) (now (rows .entry)) (now (users .entry)) (now (files .entry)) ⌝ }
+    ensures { λ _. ⌜ now (files .exit)
+        ≡ filesAfter (now (boxes .entry)) (now (rows .entry)) (now (users .entry)) (now (files .entry)) ⌝ }
+{
+    of_headings(headings::atomic_boxes(boxes, rows, users, files))
+}
+
+#[no_mangle]
 pub extern "C" fn rights_read(
     file: &[u8],
     boxes: &mut [u8],
@@ -182,4 +211,12 @@ pub extern "C" fn rights_read(
     ensures { λ r. ⌜ ((x : Reading) × (r ≡ readReply x) × ReadDone (now (file .entry)) (now (boxes .entry)) (now (rows .entry)) (now (arrows .entry)) (now (boxes .exit)) (now (rows .exit)) (now (arrows .exit)) x) ⌝ }
 {
     of_reading(blocks::read(file, boxes, rows, arrows))
+}
+
+// The version of these calls: major 1, minor 0, patch 0, one byte each.
+#[no_mangle]
+pub extern "C" fn rights_version() -> u32
+    ensures { λ r. ⌜ r ≡ version ⌝ }
+{
+    0x010000
 }

@@ -1,0 +1,69 @@
+-- The stages of the call: a refusal by checks 1 to 7, one by check 9, and none. Assumes nothing.
+use mathlib.Core.Path.{_≡_, _∙_}
+use mathlib.Core.List.{List, []}
+use mathlib.Core.Option.{Option, none, some}
+use Prim.Native.Nat.{ℕ, _≤_}
+use lib.ListN.{length}
+use Rattle.tables.specs.Buffers.{written}
+use Rattle.tables.specs.Rows.{user, file}
+use Rattle.tables.specs.Atoms.{atoms}
+use Rattle.tables.specs.Faults.{tableFault, roomFault}
+use Rattle.tables.specs.Refusals.{verdictOf, unlessRefused, either}
+use Rattle.tables.specs.declared.Refusal.{Refusal}
+use Rattle.tables.specs.declared.Verdict.the-variants.{Passed, Refused as Stopped}
+use Rattle.tables.proofs.TableLaws.{both-none, room-passed}
+use Rattle.tables.proofs.Verdicts.{passed, refused, past, stop, either-verdict}
+use Rattle.headings.specs.Calls.{headingsOf, headingRooms, headingFault, usersAfter, filesAfter}
+use Rattle.headings.specs.declared.Headings.{Headings}
+use Rattle.headings.specs.declared.Headings.the-variants.{Written, Refused}
+
+module _ (boxes rows users files : List ℕ) where
+  -- the verdicts on both buffers
+  pub rooms-is : either
+      (verdictOf (roomFault 11 (length users) (length (atoms boxes rows user))))
+      (verdictOf (roomFault 12 (length files) (length (atoms boxes rows file))))
+      ≡ verdictOf (headingRooms boxes rows users files)
+  unfolding headingRooms
+  rooms-is = either-verdict _ _
+
+  -- where check 9 passes, the buffers suffice
+  pub rooms-passed : verdictOf (headingRooms boxes rows users files) ≡ Passed
+      → (length (atoms boxes rows user) ≤ length users) × (length (atoms boxes rows file) ≤ length files)
+  unfolding headingRooms
+  rooms-passed e =
+      let first = roomFault 11 (length users) (length (atoms boxes rows user)) in
+      let last = roomFault 12 (length files) (length (atoms boxes rows file)) in
+      let both = both-none first last (passed (headingRooms boxes rows users files) e) in
+      (room-passed 11 (length users) _ (both .0), room-passed 12 (length files) _ (both .1))
+
+  -- what the call answers, and the two buffers at the end
+  abbrev pub Ends : Headings → List ℕ → List ℕ → Type 0
+  Ends r u f =
+      (r ≡ headingsOf boxes rows (headingFault boxes rows users files))
+      × ((u ≡ usersAfter boxes rows users files) × (f ≡ filesAfter boxes rows users files))
+
+  -- the fault decides
+  ends : (o : Option Refusal) → headingFault boxes rows users files ≡ o
+      → Ends (headingsOf boxes rows o) (unlessRefused o (written (atoms boxes rows user) users) users)
+      (unlessRefused o (written (atoms boxes rows file) files) files)
+  unfolding usersAfter filesAfter
+  ends o e = (rw e, (rw e, rw e))
+
+  pub by-tables : (r : Refusal) → verdictOf (tableFault boxes rows []) ≡ Stopped r → Ends (Refused r) users files
+  unfolding headingsOf headingFault
+  by-tables r t = ends (some r) (stop _ (headingRooms boxes rows users files) (refused (tableFault boxes rows []) r t))
+
+  module _ (t : verdictOf (tableFault boxes rows []) ≡ Passed) where
+    rooms-left : headingFault boxes rows users files ≡ headingRooms boxes rows users files
+    unfolding headingFault
+    rooms-left = past _ (headingRooms boxes rows users files) (passed (tableFault boxes rows []) t)
+
+    pub by-rooms : (r : Refusal) → verdictOf (headingRooms boxes rows users files) ≡ Stopped r → Ends (Refused r) users files
+    unfolding headingsOf
+    by-rooms r v = ends (some r) (rooms-left ∙ refused (headingRooms boxes rows users files) r v)
+
+    pub by-none : verdictOf (headingRooms boxes rows users files) ≡ Passed
+        → Ends (Written (length (atoms boxes rows user)) (length (atoms boxes rows file)))
+        (written (atoms boxes rows user) users) (written (atoms boxes rows file) files)
+    unfolding headingsOf
+    by-none v = ends none (rooms-left ∙ passed (headingRooms boxes rows users files) v)

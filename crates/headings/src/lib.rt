@@ -1,0 +1,61 @@
+// The headings of the matrix: the atomic users, which are its rows, and the atomic files, which are its columns.
+ghost use mathlib.Core.Path.{_≡_};
+ghost use Prim.Native.Nat.{_≤_};
+ghost use lib.ListN.{length};
+ghost use Rattle.tables.specs.Buffers.{written, zeros};
+ghost use Rattle.headings.specs.Calls.{headingsOf, headingFault, usersAfter, filesAfter};
+use tables::BoxRow;
+use tables::Refusal;
+use tables::Verdict;
+use tables::atoms_of;
+use tables::check_room;
+
+// What the call answers: how many atomic users and atomic files there are.
+pub enum Headings {
+    Written(usize, usize),
+    Refused(Refusal),
+}
+
+// A number for each box that a picture can have.
+fn no_boxes() -> [u16; 256]
+    ensures { λ r. ⌜ r ≡ zeros 256 ⌝ }
+{
+    [0u16; 256]
+}
+
+// Writes the numbers into the first places.
+fn copy(numbers: &[u16], out: &mut [u16])
+    requires { ⌜ length (now numbers) ≤ length (now out) ⌝ }
+    ensures { λ _. ⌜ now (out .exit) ≡ written (now (numbers .entry)) (now (out .entry)) ⌝ }
+{
+    for i in 0..numbers.len() {
+        out[i] = numbers[i];
+    }
+}
+
+// Writes the atomic users and the atomic files, each by rising number, and answers how many. Checks 1 to 7 as on a picture without
+// arrows, then 9, for both buffers before a place is written.
+pub fn atomic_boxes(boxes: &[u8], rows: &[u16], users: &mut [u16], files: &mut [u16]) -> Headings
+    ensures { λ r. ⌜ r ≡ headingsOf (now (boxes .entry)) (now (rows .entry))
+        (headingFault (now (boxes .entry)) (now (rows .entry)) (now (users .entry)) (now (files .entry))) ⌝ }
+    ensures { λ _. ⌜ now (users .exit)
+        ≡ usersAfter (now (boxes .entry)) (now (rows .entry)) (now (users .entry)) (now (files .entry)) ⌝ }
+    ensures { λ _. ⌜ now (files .exit)
+        ≡ filesAfter (now (boxes .entry)) (now (rows .entry)) (now (users .entry)) (now (files .entry)) ⌝ }
+{
+    let tables = tables::check(boxes, rows, &rows[..0]);
+    if let Verdict::Refused(r) = tables {
+        return Headings::Refused(r);
+    }
+    let mut u = no_boxes();
+    let mut f = no_boxes();
+    let m = atoms_of(boxes, rows, BoxRow::USER, &mut u);
+    let n = atoms_of(boxes, rows, BoxRow::FILE, &mut f);
+    let rooms = check_room(11, users.len(), m).or_else(check_room(12, files.len(), n));
+    if let Verdict::Refused(r) = rooms {
+        return Headings::Refused(r);
+    }
+    copy(&u[..m], users);
+    copy(&f[..n], files);
+    Headings::Written(m, n)
+}
