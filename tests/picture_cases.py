@@ -335,8 +335,74 @@ def listed(picture, said, places):
     return words, [scratch, [0] * pairs if done else []], [places]
 
 
+# Headings, worked by hand: the boxes, the containments, the lent places of users and files, the answer, and what is written.
+HEADINGS = [
+    # no boxes, without and with places; one side only
+    ([], [], 0, 0, "written 0 0", [], []),
+    ([], [], 3, 3, "written 0 0", [], []),
+    ([0], [], 1, 0, "written 1 0", [0], []),
+    ([1], [], 0, 1, "written 0 1", [], [0]),
+    # B, with places that just suffice and with more; 9 for users, for files, for both
+    (*B[:2], 2, 1, "written 2 1", [0, 1], [3]),
+    (*B[:2], 5, 4, "written 2 1", [0, 1], [3]),
+    (*B[:2], 1, 1, "refused 9 11 2 0", [], []),
+    (*B[:2], 2, 0, "refused 9 12 1 0", [], []),
+    (*B[:2], 1, 0, "refused 9 11 2 0", [], []),
+    (*B[:2], 0, 9, "refused 9 11 2 0", [], []),
+    (*B[:2], 9, 0, "refused 9 12 1 0", [], []),
+    # box 1 is an empty group, box 4 an empty folder; box 2 holds box 0, by two rows
+    ([0, 0, 0, 1, 1], [2, 0, 2, 0], 2, 2, "written 2 2", [0, 1], [3, 4]),
+    # sides that take turns; groups in groups
+    ([1, 0, 1, 0, 1, 0], [4, 0, 5, 1], 2, 2, "written 2 2", [1, 3], [0, 2]),
+    ([0, 0, 0, 1], [0, 1, 1, 2], 9, 9, "written 1 1", [2], [3]),
+    (*J[:2], 2, 2, "written 2 2", [0, 1], [6, 7]),
+    # a box that contains itself is no atomic one, and the others are answered
+    ([0], [0, 0], 0, 0, "written 0 0", [], []),
+    ([0, 0, 1], [1, 1], 1, 1, "written 1 1", [0], [2]),
+    ([0, 0, 0, 1], [0, 1, 1, 2, 2, 0], 4, 4, "written 0 1", [], [3]),
+    # as many as there can be, and one place less
+    ([0] * 256, [], 256, 0, "written 256 0", [*range(256)], []),
+    ([0] * 256, [], 255, 0, "refused 9 11 256 0", [], []),
+    ([1] * 256, [], 0, 257, "written 0 256", [], [*range(256)]),
+    ([1] * 256, [], 0, 255, "refused 9 12 256 0", [], []),
+    ([0, 1] * 128, [], 128, 128, "written 128 128", [*range(0, 256, 2)], [*range(1, 256, 2)]),
+    ([0, 0], [1, 0] * 1024, 1, 0, "written 1 0", [0], []),
+    # 1 to 5, each before the next and before 9
+    ([0] * 257, [1], 0, 0, "refused 1 1 1 0", [], []),
+    ([0] * 257, [1, 0] * 1025, 0, 0, "refused 2 0 257 0", [], []),
+    ([2, 0], [1, 0] * 1025, 0, 0, "refused 2 1 1025 0", [], []),
+    ([0, 2], [0, 2], 0, 0, "refused 3 1 0 0", [], []),
+    ([0, 1], [0, 1, 1, 2], 0, 0, "refused 4 1 0 0", [], []),
+    ([0, 1], [2, 0], 9, 9, "refused 4 0 0 0", [], []),
+    ([0, 1], [0, 0, 1, 0], 0, 0, "refused 5 1 0 0", [], []),
+    ([0, 1], [0, 1], 9, 9, "refused 5 0 0 0", [], []),
+]
+
+
+def headed(boxes, rows, nu, nf):
+    """The line of the headings: checked as a picture without arrows, then for room, with no look at loops."""
+    users, files = (atoms(boxes, rows, side) for side in (0, 1))
+    short = [(9, k, need, 0) if have < need else None for k, have, need in ((11, nu, len(users)), (12, nf, len(files)))]
+    fault = first([refusal(boxes, rows, []), *short])
+    if fault:
+        return ["refused", *fault], [], [[], []]
+    return ["written", len(users), len(files)], [], [users, files]
+
+
+def headings():
+    """Those worked by hand, to which the model above is held, and the tables of the cases above with places that suffice."""
+    for *case, said, users, files in HEADINGS:
+        words, _, written = headed(*case)
+        assert (" ".join(map(str, words)), written) == (said, [users, files]), case
+        yield case
+    for boxes, rows, _, _ in CASES:
+        yield boxes, rows, 300, 300
+
+
 def cases():
     for k, case in enumerate(PICTURES):
         yield f"picture {k}", case, expected(*case)
     for k, (picture, mode, (scratch, out, work), said, places) in enumerate(LISTS):
         yield f"list {k}", (*picture, scratch, mode, 0, 0, work, out), [listed(picture, said, places)]
+    for k, case in enumerate(headings()):
+        yield f"headings {k}", case, [headed(*case)]

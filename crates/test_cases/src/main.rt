@@ -4,6 +4,8 @@
 //   p   a picture: its three tables, how many places of the scratch are lent, a mode, a user and a file, and how many places of
 //       the bytes and of the numbers are lent; for prepare, judge, one_entry and matrix
 //   l   the same for list, whose list is the numbers and whose work is the bytes
+//   h   the headings of a picture: its boxes and containments, and how many places of the users and of the files are lent; for
+//       atomic_boxes
 //   f   a block file, and how many places of the three tables are lent; for read, and for a block reader that moves on from
 //       the first block, from the last block and from behind it
 //   c   bytes, for their check
@@ -18,6 +20,7 @@ use answers::Reply;
 use blocks::Check;
 use blocks::Reading;
 use blocks::Seen;
+use headings::Headings;
 use libc::STDIN_FILENO;
 use libc::STDOUT_FILENO;
 use lists::Listed;
@@ -282,6 +285,19 @@ fn show_listed(l: Listed) {
     }
 }
 
+fn show_headings(h: Headings) {
+    match h {
+        Headings::Written(users, files) => {
+            io::write_all(STDOUT_FILENO, b"written");
+            print(users);
+            print(files);
+        }
+        Headings::Refused(r) => {
+            show_refusal(r);
+        }
+    }
+}
+
 fn show_reading(reading: Reading) {
     match reading {
         Reading::Tables(counts) => {
@@ -418,6 +434,26 @@ fn picture_case(letter: u8) {
     run_all(letter, &boxes[..b], &rows[..r], &arrows[..a], ask());
 }
 
+// Writes the headings into as many places of both buffers as the input says.
+fn show_atoms(boxes: &[u8], rows: &[u16], users: &mut [u16], files: &mut [u16]) {
+    let u = numbers_lent(users, number().value);
+    let f = numbers_lent(files, number().value);
+    show_headings(headings::atomic_boxes(boxes, rows, &mut users[..u], &mut files[..f]));
+    show_numbers(users);
+    show_numbers(files);
+    io::write_all(STDOUT_FILENO, b"\n");
+}
+
+fn heading_case() {
+    let mut boxes = bytes();
+    let mut rows = numbers();
+    let mut users = numbers();
+    let mut files = numbers();
+    let b = byte_table(&mut boxes);
+    let r = number_table(&mut rows);
+    show_atoms(&boxes[..b], &rows[..r], &mut users, &mut files);
+}
+
 // Reads a file into as many places of each table as the input says.
 fn show_file(file: &[u8], boxes: &mut [u8], rows: &mut [u16], arrows: &mut [u16]) {
     let b = bytes_lent(boxes, number().value);
@@ -477,6 +513,9 @@ fn case() {
         }
         b'f' => {
             file_case();
+        }
+        b'h' => {
+            heading_case();
         }
         _ => {
             picture_case(label[0]);
