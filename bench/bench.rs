@@ -13,8 +13,6 @@
 //! would pick just those runs.)
 
 mod pictures;
-#[path = "../tests/rights.rs"]
-mod rights;
 #[cfg(model)]
 #[path = "../tests/standin.rs"]
 #[allow(dead_code)]
@@ -22,6 +20,7 @@ mod standin;
 mod twin;
 
 use pictures::Picture;
+use rights::lent;
 use std::collections::HashSet;
 use std::hint::black_box;
 use std::time::Instant;
@@ -132,28 +131,32 @@ impl Case {
     }
 
     fn library(&self, call: Call, b: &mut Buffers) -> Outcome {
-        let p = rights::Picture {
+        let p = lent::Tables {
             boxes: &self.picture.boxes,
             containments: &self.picture.rows,
             arrows: &self.picture.arrows,
         };
         let mode = self.picture.mode;
         let entry = |answer| match answer {
-            rights::Answer::Granted { arrow } => [0, arrow, 0],
-            rights::Answer::Denied { arrow } => [1, arrow, 0],
-            rights::Answer::DeniedByDefault => [2, 0, 0],
-            rights::Answer::Unclear { positive, negative } => [3, positive, negative],
+            rights::Answer::Denied { arrow } => [0, arrow as u64, 0],
+            rights::Answer::Granted { arrow } => [1, arrow as u64, 0],
+            rights::Answer::Unclear { positive, negative } => [2, positive as u64, negative as u64],
+            rights::Answer::DeniedByDefault => [3, 0, 0],
         };
         let outcome = match call {
-            Fill => rights::entry(p, 65535, self.head, mode, &mut b.scratch).map(entry),
-            Entry => rights::entry(p, self.user, self.head, mode, &mut b.scratch).map(entry),
-            Judge => rights::judge(p, &mut b.scratch).map(|()| [0; 3]),
-            Matrix => rights::matrix(p, mode, &mut b.scratch, &mut b.bytes, &mut b.numbers)
+            Fill => p.entry(65535, self.head, mode, &mut b.scratch).map(entry),
+            Entry => p
+                .entry(self.user, self.head, mode, &mut b.scratch)
+                .map(entry),
+            Judge => p.judge(&mut b.scratch).map(|()| [0; 3]),
+            Matrix => p
+                .matrix(mode, &mut b.scratch, &mut b.bytes, &mut b.numbers)
                 .map(|()| [0; 3]),
-            List => rights::list(p, mode, &mut b.scratch, &mut b.list, &mut b.work)
-                .map(|count| [count, 0, 0]),
-            Read => rights::read(&self.file, &mut b.boxes, &mut b.rows, &mut b.arrows)
-                .map(|c| [c.boxes, c.containments, c.arrows]),
+            List => p
+                .list(mode, &mut b.scratch, &mut b.list, &mut b.work)
+                .map(|count| [count as u64, 0, 0]),
+            Read => lent::read(&self.file, &mut b.boxes, &mut b.rows, &mut b.arrows)
+                .map(|c| [c.boxes, c.containments, c.arrows].map(|x| x as u64)),
         };
         outcome.map_err(|refusal| refusal.numbers())
     }
@@ -162,10 +165,10 @@ impl Case {
         let t = self.picture.tables();
         let mode = self.picture.mode;
         let entry = |answer| match answer {
-            twin::Entry::Granted(k) => [0, k as u64, 0],
-            twin::Entry::Denied(k) => [1, k as u64, 0],
-            twin::Entry::Default => [2, 0, 0],
-            twin::Entry::Unclear(p, n) => [3, p as u64, n as u64],
+            twin::Entry::Denied(k) => [0, k as u64, 0],
+            twin::Entry::Granted(k) => [1, k as u64, 0],
+            twin::Entry::Unclear(p, n) => [2, p as u64, n as u64],
+            twin::Entry::Default => [3, 0, 0],
         };
         let outcome = match call {
             Fill => twin::entry(t, 65535, self.head, mode, &mut b.scratch).map(entry),

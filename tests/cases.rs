@@ -1,10 +1,10 @@
 //! The lettered pictures A to J, the three traps, the limits and some orders of refusals, with
-//! expectations written by hand from document 01. Each is put to the library through the wrapper
-//! and to the model.
+//! expectations written by hand from document 01. Each is put to the library through the Rust
+//! package and to the model.
 
 use super::checker::{self, Answer, Known, Lists, Tables};
 use super::compare_answer;
-use super::rights::{self, Counts, Picture};
+use rights::lent::{self, Counts};
 
 /// Number and three numbers of a refusal.
 type Refused = (u32, [u64; 3]);
@@ -254,6 +254,114 @@ const REFUSED: &[(&str, &[u8], &[u16], &[u16], Refused)] = &[
     ("sign 2", &[0, 1], &[], &[0, 1, 7, 2], (7, [0, 0, 0])),
 ];
 
+/// A call for the atomic boxes. Its buffers hold nines before.
+struct AtomsCase {
+    name: &'static str,
+    boxes: &'static [u8],
+    rows: &'static [u16],
+    /// How many atomic users and files, or the refusal.
+    result: Result<[usize; 2], Refused>,
+    /// The buffers afterwards.
+    users: &'static [u16],
+    files: &'static [u16],
+}
+
+const BOXES_B: &[u8] = &[0, 0, 0, 1];
+const ROWS_B: &[u16] = &[2, 0, 2, 1];
+
+const ATOMS: &[AtomsCase] = &[
+    AtomsCase {
+        name: "atoms of A",
+        boxes: &[],
+        rows: &[],
+        result: Ok([0, 0]),
+        users: &[],
+        files: &[],
+    },
+    AtomsCase {
+        name: "atoms of B, places beyond them",
+        boxes: BOXES_B,
+        rows: ROWS_B,
+        result: Ok([2, 1]),
+        users: &[0, 1, 9],
+        files: &[3, 9],
+    },
+    AtomsCase {
+        name: "atoms of B, a place short for the users",
+        boxes: BOXES_B,
+        rows: ROWS_B,
+        result: Err((9, [11, 2, 0])),
+        users: &[9],
+        files: &[],
+    },
+    AtomsCase {
+        name: "atoms of B, a place short for the files",
+        boxes: BOXES_B,
+        rows: ROWS_B,
+        result: Err((9, [12, 1, 0])),
+        users: &[9, 9],
+        files: &[],
+    },
+    AtomsCase {
+        name: "atoms of H: a box that contains itself is the outer one of a row, and no fault here",
+        boxes: &[0],
+        rows: &[0, 0],
+        result: Ok([0, 0]),
+        users: &[9],
+        files: &[],
+    },
+    AtomsCase {
+        name: "atoms of J",
+        boxes: &[0, 0, 0, 0, 0, 0, 1, 1, 1, 1, 1, 1],
+        rows: &[
+            2, 0, 2, 5, 3, 0, 4, 3, 4, 1, 5, 1, 8, 7, 9, 8, 9, 6, 10, 6, 11, 10, 11, 7,
+        ],
+        result: Ok([2, 2]),
+        users: &[0, 1],
+        files: &[6, 7],
+    },
+    AtomsCase {
+        name: "atoms of both sides in turns; box 4 is an empty group",
+        boxes: &[1, 0, 1, 0, 0, 1],
+        rows: &[5, 0, 5, 0],
+        result: Ok([3, 2]),
+        users: &[1, 3, 4],
+        files: &[0, 2],
+    },
+    AtomsCase {
+        name: "atoms: ragged containments",
+        boxes: &[2],
+        rows: &[0, 0, 0],
+        result: Err((1, [1, 3, 0])),
+        users: &[9, 9],
+        files: &[9, 9],
+    },
+    AtomsCase {
+        name: "atoms: a box byte",
+        boxes: &[0, 2],
+        rows: &[9, 9],
+        result: Err((3, [1, 0, 0])),
+        users: &[],
+        files: &[],
+    },
+    AtomsCase {
+        name: "atoms: 4 in row 1 before 5 in row 0",
+        boxes: &[0, 1],
+        rows: &[0, 1, 0, 2],
+        result: Err((4, [1, 0, 0])),
+        users: &[9, 9],
+        files: &[9, 9],
+    },
+    AtomsCase {
+        name: "atoms: across sides, before 9",
+        boxes: &[0, 1],
+        rows: &[0, 1],
+        result: Err((5, [0, 0, 0])),
+        users: &[],
+        files: &[],
+    },
+];
+
 /// Published values of FNV-1a with 32 bits.
 const FNV: &[(&[u8], u32)] = &[
     (b"", 0x811c_9dc5),
@@ -349,7 +457,7 @@ fn one_case(case: &Case, report: &mut Report) {
         arrows: case.arrows.to_vec(),
     };
     let known = Known::new(&tables);
-    let picture = Picture {
+    let picture = lent::Tables {
         boxes,
         containments: rows,
         arrows: case.arrows,
@@ -358,14 +466,14 @@ fn one_case(case: &Case, report: &mut Report) {
     let mut scratch = vec![9; needed];
 
     let what = format!("{}: judge", case.name);
-    let got = rights::judge(picture, &mut scratch);
+    let got = picture.judge(&mut scratch);
     report.same(&what, numbers(&got), case.judge);
     let model = checker::judge(&known, &vec![9; needed]);
     report.same(&what, model_numbers(&model.result), case.judge);
 
     for &(user, file, want) in case.entries {
         let what = format!("{}: entry {user}, {file}", case.name);
-        let got = rights::entry(picture, user, file, 0, &mut scratch);
+        let got = picture.entry(user, file, 0, &mut scratch);
         report.same(&what, got.ok().map(compare_answer), Some(want));
         let model = checker::entry(&known, user, file, 0, &vec![9; needed]);
         report.same(&what, model.result.ok(), Some(want));
@@ -374,7 +482,7 @@ fn one_case(case: &Case, report: &mut Report) {
     let what = format!("{}: matrix", case.name);
     let pairs = case.matrix.map_or(0, |(bytes, _)| bytes.len());
     let (mut bytes, mut arrows) = (vec![9; pairs], vec![9; pairs]);
-    let got = rights::matrix(picture, 0, &mut scratch, &mut bytes, &mut arrows);
+    let got = picture.matrix(0, &mut scratch, &mut bytes, &mut arrows);
     let model = checker::matrix(
         &known,
         0,
@@ -398,7 +506,7 @@ fn one_case(case: &Case, report: &mut Report) {
     let what = format!("{}: list", case.name);
     let places = case.arrows.chunks(4).filter(|row| row[2] == 0).count();
     let (mut list, mut work) = (vec![9; places], vec![9; pairs]);
-    let got = rights::list(picture, 0, &mut scratch, &mut list, &mut work);
+    let got = picture.list(0, &mut scratch, &mut list, &mut work);
     let model = checker::list(
         &known,
         0,
@@ -413,7 +521,7 @@ fn one_case(case: &Case, report: &mut Report) {
         }
         List::OneOf(lists) => {
             report.same(&what, numbers(&got), None);
-            let count = got.map_or(0, |count| count as usize).min(places);
+            let count = got.unwrap_or(0).min(places);
             report.same(&what, lists.contains(&&list[..count]), true);
             report.same(&what, work, vec![0; pairs]);
             report.same(&what, model_numbers(&model.result), None);
@@ -437,64 +545,64 @@ fn one_case(case: &Case, report: &mut Report) {
 fn limits(report: &mut Report) {
     for (n, want) in [(256, None), (257, Some((2, [0, 257, 0])))] {
         let boxes = vec![1; n];
-        let picture = Picture {
+        let picture = lent::Tables {
             boxes: &boxes,
             containments: &[],
             arrows: &[],
         };
-        let got = rights::judge(picture, &mut vec![9; 65_536]);
+        let got = picture.judge(&mut vec![9; 65_536]);
         report.same("limit of boxes", numbers(&got), want);
     }
     for (count, want) in [(1024, None), (1025, Some((2, [1, 1025, 0])))] {
-        let picture = Picture {
+        let picture = lent::Tables {
             boxes: &[0, 0],
             containments: &[0, 1].repeat(count),
             arrows: &[],
         };
-        let got = rights::judge(picture, &mut [9; 4]);
+        let got = picture.judge(&mut [9; 4]);
         report.same("limit of containments", numbers(&got), want);
     }
     for (count, want) in [(512, None), (513, Some((2, [2, 513, 0])))] {
-        let picture = Picture {
+        let picture = lent::Tables {
             boxes: &[0, 1],
             containments: &[],
             arrows: &[0, 1, 7, 1].repeat(count),
         };
-        let got = rights::judge(picture, &mut [9; 4]);
+        let got = picture.judge(&mut [9; 4]);
         report.same("limit of arrows", numbers(&got), want);
     }
     // The last row of a full table counts.
-    let picture = Picture {
+    let picture = lent::Tables {
         boxes: &[0, 0, 0, 1],
         containments: &[[0, 1].repeat(1023), vec![2, 0]].concat(),
         arrows: &[[1, 3, 7, 1].repeat(511), vec![2, 3, 6, 0]].concat(),
     };
     let mut scratch = [9; 16];
-    let got = rights::entry(picture, 1, 3, 6, &mut scratch);
+    let got = picture.entry(1, 3, 6, &mut scratch);
     let want = Some(Answer::Denied(511));
     report.same("arrow 511", got.ok().map(compare_answer), want);
     let want = [0, 1, 0, 0, 0, 0, 0, 0, 1, 1, 0, 0, 0, 0, 0, 0];
     report.same("containment 1023", scratch, want);
     // A scratch of one byte less than 256 boxes need.
     let boxes = vec![0; 256];
-    let picture = Picture {
+    let picture = lent::Tables {
         boxes: &boxes,
         containments: &[],
         arrows: &[],
     };
-    let got = rights::judge(picture, &mut vec![9; 65_535]);
+    let got = picture.judge(&mut vec![9; 65_535]);
     report.same("short scratch", numbers(&got), Some((9, [0, 65_536, 0])));
 }
 
 fn refused(report: &mut Report) {
     for &(what, boxes, rows, arrows, want) in REFUSED {
-        let picture = Picture {
+        let picture = lent::Tables {
             boxes,
             containments: rows,
             arrows,
         };
         // A mode that isn't there and no scratch: both come later.
-        let got = rights::matrix(picture, 8, &mut [], &mut [], &mut []);
+        let got = picture.matrix(8, &mut [], &mut [], &mut []);
         report.same(what, numbers(&got), Some(want));
         let known = Known::new(&Tables {
             boxes: boxes.to_vec(),
@@ -504,26 +612,78 @@ fn refused(report: &mut Report) {
         report.same(what, model_numbers(&known.sound()), Some(want));
     }
     // 8 before 9 before 10 before 11.
-    let loop_h = Picture {
+    let loop_h = lent::Tables {
         boxes: &[0],
         containments: &[0, 0],
         arrows: &[],
     };
-    let got = rights::entry(loop_h, 5, 6, 8, &mut []);
+    let got = loop_h.entry(5, 6, 8, &mut []);
     report.same("8 first", numbers(&got), Some((8, [8, 0, 0])));
-    let got = rights::entry(loop_h, 5, 6, 7, &mut []);
+    let got = loop_h.entry(5, 6, 7, &mut []);
     report.same("9 next", numbers(&got), Some((9, [0, 1, 0])));
     let mut scratch = [9, 9];
-    let got = rights::entry(loop_h, 5, 6, 7, &mut scratch);
+    let got = loop_h.entry(5, 6, 7, &mut scratch);
     report.same("10 next", numbers(&got), Some((10, [0, 0, 0])));
     report.same("10 fills the scratch", scratch, [1, 9]);
-    let group = Picture {
+    let group = lent::Tables {
         boxes: &[0, 0, 1],
         containments: &[1, 0],
         arrows: &[],
     };
-    let got = rights::entry(group, 1, 2, 7, &mut [9; 9]);
+    let got = group.entry(1, 2, 7, &mut [9; 9]);
     report.same("a group is no user", numbers(&got), Some((11, [1, 2, 0])));
+}
+
+fn atoms(report: &mut Report) {
+    for case in ATOMS {
+        // Arrows are no part of the call, however wrong.
+        let picture = lent::Tables {
+            boxes: case.boxes,
+            containments: case.rows,
+            arrows: &[9, 9, 9],
+        };
+        let (mut users, mut files) = (vec![9; case.users.len()], vec![9; case.files.len()]);
+        let model = checker::atoms(
+            &Tables {
+                boxes: case.boxes.to_vec(),
+                rows: case.rows.to_vec(),
+                arrows: vec![9, 9, 9],
+            },
+            &users,
+            &files,
+        );
+        let got = picture.atoms(&mut users, &mut files);
+        let got = got.map(|counts| [counts.users, counts.files]);
+        let result = got.map_err(|refusal| refusal.numbers());
+        let want = (case.result, case.users, case.files);
+        report.same(case.name, (result, &users[..], &files[..]), want);
+        let result = model.result.map_err(|r| (r.number, r.places));
+        report.same(
+            case.name,
+            (result, &model.users[..], &model.files[..]),
+            want,
+        );
+    }
+}
+
+fn limits_of_atoms(report: &mut Report) {
+    for (n, want) in [(256, None), (257, Some((2, [0, 257, 0])))] {
+        let picture = lent::Tables {
+            boxes: &vec![0; n],
+            ..lent::Tables::default()
+        };
+        let got = picture.atoms(&mut [9; 256], &mut []);
+        report.same("atoms: limit of boxes", numbers(&got), want);
+    }
+    for (count, want) in [(1024, None), (1025, Some((2, [1, 1025, 0])))] {
+        let picture = lent::Tables {
+            boxes: &[0, 0],
+            containments: &[0, 1].repeat(count),
+            ..lent::Tables::default()
+        };
+        let got = picture.atoms(&mut [9], &mut []);
+        report.same("atoms: limit of containments", numbers(&got), want);
+    }
 }
 
 fn files(report: &mut Report) {
@@ -534,7 +694,7 @@ fn files(report: &mut Report) {
     let read = |file: &[u8], lengths: [usize; 3]| {
         let [boxes, rows, arrows] = lengths;
         let (mut boxes, mut rows, mut arrows) = (vec![9; boxes], vec![9; rows], vec![9; arrows]);
-        let got = rights::read(file, &mut boxes, &mut rows, &mut arrows);
+        let got = lent::read(file, &mut boxes, &mut rows, &mut arrows);
         (got, boxes, rows, arrows)
     };
     let counts = Counts {
@@ -580,6 +740,9 @@ pub fn run() -> Report {
     }
     limits(&mut report);
     refused(&mut report);
+    atoms(&mut report);
+    limits_of_atoms(&mut report);
     files(&mut report);
+    report.same("version", rights::version(), (1, 0, 0));
     report
 }

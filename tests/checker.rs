@@ -640,6 +640,53 @@ pub fn list_will_do(
 }
 
 // ---------------------------------------------------------------------------------------------
+// Atomic boxes
+
+/// The atomic users and the atomic files of a picture, arrows left aside, by rising number: the
+/// boxes of each side that are the outer one of no row. Checks 1 to 5, as far as they are about
+/// boxes and containments.
+pub fn atoms_of(t: &Tables) -> Result<[Vec<u16>; 2], Refusal> {
+    table_checks(&Tables {
+        arrows: Vec::new(),
+        ..t.clone()
+    })?;
+    let outer: Vec<u16> = t.rows.chunks(2).map(|row| row[0]).collect();
+    let of_side = |side: u8| -> Vec<u16> {
+        let boxes = (0u16..).zip(&t.boxes);
+        boxes
+            .filter(|(number, byte)| **byte == side && !outer.contains(number))
+            .map(|(number, _)| number)
+            .collect()
+    };
+    Ok([of_side(0), of_side(1)])
+}
+
+pub struct AtomsEnd {
+    pub result: Result<[usize; 2], Refusal>,
+    pub users: Vec<u16>,
+    pub files: Vec<u16>,
+}
+
+pub fn atoms(t: &Tables, users: &[u16], files: &[u16]) -> AtomsEnd {
+    let mut end = AtomsEnd {
+        result: Ok([0; 2]),
+        users: users.to_vec(),
+        files: files.to_vec(),
+    };
+    end.result = atoms_into(t, &mut end);
+    end
+}
+
+fn atoms_into(t: &Tables, end: &mut AtomsEnd) -> Result<[usize; 2], Refusal> {
+    let [users, files] = atoms_of(t)?;
+    long_enough(11, end.users.len(), users.len())?;
+    long_enough(12, end.files.len(), files.len())?;
+    end.users[..users.len()].copy_from_slice(&users);
+    end.files[..files.len()].copy_from_slice(&files);
+    Ok([users.len(), files.len()])
+}
+
+// ---------------------------------------------------------------------------------------------
 // Block files
 
 pub fn fnv(bytes: &[u8]) -> u32 {

@@ -12,12 +12,13 @@
 mod cases;
 mod checker;
 mod generator;
-mod rights;
+mod owned;
 #[cfg(model)]
 mod standin;
 
 use checker::{Answer, Known, Lists, Tables};
 use generator::Random;
+use rights::lent;
 use std::fmt::Debug;
 use std::io::{Read, Write};
 use std::panic::{catch_unwind, AssertUnwindSafe};
@@ -146,7 +147,7 @@ fn words(r: &mut Random, length: usize) -> Lent<u16> {
     Lent::new(r, length, |value| value as u16)
 }
 
-/// The wrapper's answer as one of the model.
+/// The package's answer as one of the model.
 fn compare_answer(answer: rights::Answer) -> Answer {
     match answer {
         rights::Answer::Granted { arrow } => Answer::Granted(arrow as usize),
@@ -172,8 +173,8 @@ struct Trial<'a> {
 }
 
 impl Trial<'_> {
-    fn lent_tables(&self) -> rights::Picture<'_> {
-        rights::Picture {
+    fn lent_tables(&self) -> lent::Tables<'_> {
+        lent::Tables {
             boxes: &self.tables.boxes,
             containments: &self.tables.rows,
             arrows: &self.tables.arrows,
@@ -210,7 +211,7 @@ impl Trial<'_> {
     fn judge(&mut self) -> Result<(), String> {
         let lengths = self.lengths(|p| vec![p.n * p.n]);
         let mut scratch = bytes(&mut self.r, lengths[0]);
-        let got = rights::judge(self.lent_tables(), scratch.lend());
+        let got = self.lent_tables().judge(scratch.lend());
         let want = checker::judge(self.known, scratch.before());
         self.tally.clear_pictures += want.result.is_ok() as u64;
         self.same("judge", got, want.result)?;
@@ -220,7 +221,7 @@ impl Trial<'_> {
     fn entry(&mut self, user: u16, file: u16, mode: u16) -> Result<(), String> {
         let lengths = self.lengths(|p| vec![p.n * p.n]);
         let mut scratch = bytes(&mut self.r, lengths[0]);
-        let got = rights::entry(self.lent_tables(), user, file, mode, scratch.lend());
+        let got = self.lent_tables().entry(user, file, mode, scratch.lend());
         let want = checker::entry(self.known, user, file, mode, scratch.before());
         match want.result {
             Ok(Answer::Granted(_)) => self.tally.granted += 1,
@@ -239,13 +240,9 @@ impl Trial<'_> {
         let mut scratch = bytes(&mut self.r, lengths[0]);
         let mut cells = bytes(&mut self.r, lengths[1]);
         let mut numbers = words(&mut self.r, lengths[2]);
-        let got = rights::matrix(
-            self.lent_tables(),
-            mode,
-            scratch.lend(),
-            cells.lend(),
-            numbers.lend(),
-        );
+        let got = self
+            .lent_tables()
+            .matrix(mode, scratch.lend(), cells.lend(), numbers.lend());
         let want = checker::matrix(
             self.known,
             mode,
@@ -265,13 +262,9 @@ impl Trial<'_> {
         let mut scratch = bytes(&mut self.r, lengths[0]);
         let mut list = words(&mut self.r, lengths[1]);
         let mut work = bytes(&mut self.r, lengths[2]);
-        let got = rights::list(
-            self.lent_tables(),
-            mode,
-            scratch.lend(),
-            list.lend(),
-            work.lend(),
-        );
+        let got = self
+            .lent_tables()
+            .list(mode, scratch.lend(), list.lend(), work.lend());
         let want = checker::list(
             self.known,
             mode,
@@ -292,7 +285,6 @@ impl Trial<'_> {
             Err(_) => list.ends_as(&format!("{call}: list"), &want.list)?,
             Ok(count) => {
                 list.guards_kept(&format!("{call}: list"))?;
-                let count = count as usize;
                 self.tally.lists += 1;
                 self.tally.listed_arrows += count as u64;
                 checker::list_will_do(self.known, mode, list.before(), list.after(), count)
@@ -325,6 +317,20 @@ impl Trial<'_> {
         }
     }
 
+    fn atoms(&mut self) -> Result<(), String> {
+        let lengths = match checker::atoms_of(self.tables) {
+            Ok([users, files]) => generator::lengths(&mut self.r, &[users.len(), files.len()]),
+            Err(_) => (0..2).map(|_| self.r.below(40)).collect(),
+        };
+        let mut users = words(&mut self.r, lengths[0]);
+        let mut files = words(&mut self.r, lengths[1]);
+        let got = self.lent_tables().atoms(users.lend(), files.lend());
+        let want = checker::atoms(self.tables, users.before(), files.before());
+        self.same("atoms", got.map(|c| [c.users, c.files]), want.result)?;
+        users.ends_as("atoms: users", &want.users)?;
+        files.ends_as("atoms: files", &want.files)
+    }
+
     fn read(&mut self, file: &[u8]) -> Result<(), String> {
         let lengths = match checker::tables_in(file) {
             Ok(t) => {
@@ -336,11 +342,10 @@ impl Trial<'_> {
         let mut boxes = bytes(&mut self.r, lengths[0]);
         let mut rows = words(&mut self.r, lengths[1]);
         let mut arrows = words(&mut self.r, lengths[2]);
-        let got = rights::read(file, boxes.lend(), rows.lend(), arrows.lend());
+        let got = lent::read(file, boxes.lend(), rows.lend(), arrows.lend());
         let want = checker::read(file, boxes.before(), rows.before(), arrows.before());
-        let counts = |c: rights::Counts| [c.boxes, c.containments, c.arrows];
-        let wanted = want.result.map(|counts| counts.map(|count| count as u64));
-        self.same("read", got.map(counts), wanted)?;
+        let counts = |c: lent::Counts| [c.boxes, c.containments, c.arrows];
+        self.same("read", got.map(counts), want.result)?;
         boxes.ends_as("read: boxes", &want.boxes)?;
         rows.ends_as("read: containments", &want.rows)?;
         arrows.ends_as("read: arrows", &want.arrows)
@@ -349,6 +354,7 @@ impl Trial<'_> {
     /// Every call, the mode calls for each mode that comes up and one more.
     fn all_calls(&mut self) -> Result<(), String> {
         self.judge()?;
+        self.atoms()?;
         let (mut users, mut files, mut modes) = (Vec::new(), Vec::new(), Vec::new());
         if let Known::Sound(p) = self.known {
             users = p.users.clone();
@@ -391,7 +397,8 @@ impl Trial<'_> {
         if *std::hint::black_box(&file) != copy {
             return Err("read: the file was written to".to_string());
         }
-        Ok(())
+        owned::compare(self.tables, self.known, modes[0])?;
+        owned::compare_read(&file)
     }
 }
 

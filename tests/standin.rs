@@ -4,9 +4,25 @@
 //! It can also be told to be wrong in one of many ways, so that the comparison can be shown to
 //! notice each of them.
 
-use super::rights::{Reply, DENIED, DENIED_BY_DEFAULT, DONE, GRANTED, REFUSED, UNCLEAR};
 use std::slice::{from_raw_parts, from_raw_parts_mut};
 use std::sync::atomic::{AtomicUsize, Ordering::Relaxed};
+
+/// What a call answers, and its kinds, as `include/rights.h` has them.
+#[repr(C)]
+pub struct Reply {
+    kind: u32,
+    number: u32,
+    a: u64,
+    b: u64,
+    c: u64,
+}
+
+const DENIED: u32 = 0;
+const GRANTED: u32 = 1;
+const UNCLEAR: u32 = 2;
+const DENIED_BY_DEFAULT: u32 = 3;
+const REFUSED: u32 = 4;
+const DONE: u32 = 5;
 
 /// Lists the ways to be wrong once, as an enum and as a table of names.
 macro_rules! ways {
@@ -79,6 +95,12 @@ ways! {
     LastRowMissed: "the 1,024th containment is missed",
     LastBoxMissed: "the 256th box is refused",
     NineAtExact: "a work buffer of the exact length is too short",
+    AtomsExchanged: "atomic users and files are exchanged",
+    AtomsGroups: "boxes around others are counted as atomic",
+    AtomsWrittenOnRefusal: "atomic users are written before 9 is known for the files",
+    AtomsBeyond: "places beyond the atomic files are cleaned",
+    AtomsBuffer: "9 names buffer 11 for the atomic files too",
+    AtomsLoops: "atoms are refused for a box that contains itself",
     ReadFnvOne: "the check multiplies before it mixes",
     ReadHeadFirst: "16 before 15",
     ReadKindsAnyOrder: "kinds may fall",
@@ -733,6 +755,47 @@ fn list(t: &Tables, mode: u16, scratch: &mut [u8], list: &mut [u16], work: &mut 
     reply(DONE, count, 0, 0)
 }
 
+fn atoms(t: &Tables, users: &mut [u16], files: &mut [u16]) -> Reply {
+    if let Some(refused) = t.fault() {
+        return refused;
+    }
+    let (mut left, mut right) = (t.atoms(0), t.atoms(1));
+    if is(Wrong::AtomsExchanged) {
+        (left, right) = (right, left);
+    }
+    if is(Wrong::AtomsGroups) {
+        left = (0..t.n()).filter(|&b| t.boxes[b] == 0).collect();
+    }
+    if is(Wrong::AtomsLoops) {
+        let mut scratch = vec![0; t.n() * t.n()];
+        t.fill(&mut scratch);
+        if let Some(refused) = t.looped(&scratch) {
+            return refused;
+        }
+    }
+    let write = |atoms: &[usize], places: &mut [u16]| {
+        for (place, &b) in places.iter_mut().zip(atoms) {
+            *place = b as u16;
+        }
+    };
+    if users.len() < left.len() {
+        return refusal(9, 11, left.len(), 0);
+    }
+    if is(Wrong::AtomsWrittenOnRefusal) {
+        write(&left, users);
+    }
+    if files.len() < right.len() {
+        let buffer = if is(Wrong::AtomsBuffer) { 11 } else { 12 };
+        return refusal(9, buffer, right.len(), 0);
+    }
+    if is(Wrong::AtomsBeyond) {
+        files.fill(0);
+    }
+    write(&left, users);
+    write(&right, files);
+    reply(DONE, left.len(), right.len(), 0)
+}
+
 fn check_of(bytes: &[u8]) -> u32 {
     bytes.iter().fold(0x811c_9dc5, |check: u32, &byte| {
         if is(Wrong::ReadFnvOne) {
@@ -860,7 +923,12 @@ fn read(file: &[u8], boxes: &mut [u8], rows: &mut [u16], arrows: &mut [u16]) -> 
     refused.unwrap_or(reply(DONE, counts[1], counts[2], counts[3]))
 }
 
-// The boundary. SAFETY of all five: the caller lends every pointer with its true length.
+// The boundary. SAFETY of all: the caller lends every pointer with its true length.
+
+#[no_mangle]
+pub extern "C" fn rights_version() -> u32 {
+    0x01_00_00
+}
 
 #[no_mangle]
 pub unsafe extern "C" fn rights_judge(
@@ -961,6 +1029,29 @@ pub unsafe extern "C" fn rights_list(
         from_raw_parts_mut(scratch, scratch_len),
         from_raw_parts_mut(list_places, list_len),
         from_raw_parts_mut(work, work_len),
+    )
+}
+
+#[no_mangle]
+pub unsafe extern "C" fn rights_atoms(
+    boxes: *const u8,
+    boxes_len: usize,
+    rows: *const u16,
+    rows_len: usize,
+    users: *mut u16,
+    users_len: usize,
+    files: *mut u16,
+    files_len: usize,
+) -> Reply {
+    let t = Tables {
+        boxes: from_raw_parts(boxes, boxes_len),
+        rows: from_raw_parts(rows, rows_len),
+        arrows: &[],
+    };
+    atoms(
+        &t,
+        from_raw_parts_mut(users, users_len),
+        from_raw_parts_mut(files, files_len),
     )
 }
 

@@ -1,0 +1,125 @@
+//! Which refusal the calls on a picture answer with, and what refusals print.
+
+use rights::lent::Tables;
+use rights::{Arrow, Buffer, Mode, Picture, Refusal, Side, Sign, Table};
+
+fn arrow(tail: u16, head: u16, mode: u16, sign: Sign) -> Arrow {
+    let mode = Mode::new(mode).unwrap();
+    Arrow {
+        tail,
+        head,
+        mode,
+        sign,
+    }
+}
+
+/// The refusal of every call on the picture, which must be the same.
+fn refused(picture: &Picture) -> Refusal {
+    let mode = Mode::new(0).unwrap();
+    let refusal = picture.judge().unwrap_err();
+    assert_eq!(picture.entry(0, 0, mode), Err(refusal));
+    assert_eq!(picture.matrix(mode), Err(refusal));
+    assert_eq!(picture.list(mode), Err(refusal));
+    refusal
+}
+
+#[test]
+fn too_many_rows_come_first() {
+    let table = Table::Boxes;
+    let mut picture = Picture {
+        boxes: vec![Side::User; 100_000],
+        ..Picture::default()
+    };
+    let count = picture.boxes.len();
+    assert_eq!(refused(&picture), Refusal::TooManyRows { table, count });
+    assert_eq!(picture.atoms(), Err(Refusal::TooManyRows { table, count }));
+
+    // The containment alone is refused by 4, and so are the atoms; 513 arrows are refused by 2.
+    picture.boxes = vec![Side::User, Side::File];
+    picture.containments = vec![(0, 2)];
+    picture.arrows = vec![arrow(0, 1, 0, Sign::Positive); 513];
+    let (table, count) = (Table::Arrows, 513);
+    assert_eq!(refused(&picture), Refusal::TooManyRows { table, count });
+    assert_eq!(picture.atoms(), Err(Refusal::NoSuchBox { row: 0 }));
+}
+
+#[test]
+fn faults_of_rows() {
+    let mut picture = Picture {
+        boxes: vec![Side::User, Side::File],
+        containments: vec![(0, 1)],
+        arrows: vec![arrow(1, 0, 0, Sign::Negative)],
+    };
+    assert_eq!(refused(&picture), Refusal::AcrossSides { row: 0 });
+    picture.containments = vec![(1, 1)];
+    assert_eq!(refused(&picture), Refusal::ArrowEnds { row: 0 });
+    picture.arrows.clear();
+    assert_eq!(refused(&picture), Refusal::ContainsItself { box_number: 1 });
+    let atoms = picture.atoms().unwrap();
+    assert_eq!((atoms.users, atoms.files), (vec![0], vec![]));
+}
+
+#[test]
+fn unclear_pairs() {
+    let signs = [Sign::Positive, Sign::Negative];
+    let picture = Picture {
+        boxes: vec![Side::User, Side::File],
+        containments: vec![],
+        arrows: signs.map(|sign| arrow(0, 1, 7, sign)).to_vec(),
+    };
+    let (mode, user, file) = (7, 0, 1);
+    let unclear = Err(Refusal::UnclearPair { mode, user, file });
+    assert_eq!(picture.judge(), unclear);
+    assert_eq!(picture.list(Mode::new(7).unwrap()).map(|_| ()), unclear);
+    assert_eq!(picture.list(Mode::new(0).unwrap()), Ok(vec![]));
+    let matrix = picture.matrix(Mode::new(7).unwrap()).unwrap();
+    assert_eq!(matrix.cell(0, 1), Some(rights::Cell::Unclear));
+}
+
+#[test]
+fn a_picture_without_pairs() {
+    let picture = Picture {
+        boxes: vec![Side::User; 3],
+        ..Picture::default()
+    };
+    let matrix = picture.matrix(Mode::new(0).unwrap()).unwrap();
+    assert_eq!(matrix.users(), [0, 1, 2]);
+    assert!(matrix.rows().all(|(_, cells)| cells.is_empty()));
+    assert_eq!(Picture::default().judge(), Ok(()));
+}
+
+#[test]
+fn buffers_of_the_caller() {
+    let tables = Tables {
+        boxes: &[0, 1],
+        ..Tables::default()
+    };
+    let short = |buffer, needed| Err(Refusal::BufferShort { buffer, needed });
+    assert_eq!(tables.judge(&mut [9; 3]), short(Buffer::Scratch, 4));
+    let matrix = tables.matrix(0, &mut [9; 4], &mut [9], &mut []);
+    assert_eq!(matrix, short(Buffer::MatrixNumbers, 1));
+    let atoms = |users, files| tables.atoms(users, files).map(|_| ());
+    assert_eq!(atoms(&mut [], &mut []), short(Buffer::Users, 1));
+    assert_eq!(atoms(&mut [9], &mut []), short(Buffer::Files, 1));
+}
+
+#[test]
+fn what_they_print() {
+    let failed: Box<dyn std::error::Error> = Box::new(Mode::new(8).unwrap_err());
+    assert_eq!(failed.to_string(), "refusal 8: mode 8 is above 7");
+    let (table, count) = (Table::Boxes, 257);
+    assert_eq!(
+        Refusal::TooManyRows { table, count }.to_string(),
+        "refusal 2: 257 boxes are more than there may be"
+    );
+    let (buffer, needed) = (Buffer::MatrixBytes, 4);
+    assert_eq!(
+        Refusal::BufferShort { buffer, needed }.to_string(),
+        "refusal 9: buffer matrix bytes is too short, 4 places are needed"
+    );
+    let (user, file) = (2, 6);
+    assert_eq!(
+        Refusal::NotAtomic { user, file }.to_string(),
+        "refusal 11: user 2 or file 6 is no atomic box of its side"
+    );
+}

@@ -1,0 +1,118 @@
+//! The Rust package's pictures that own their rows, beside the model: whatever buffers a call needs
+//! are there, so only faults of the picture and the question refuse it.
+
+use super::checker::{self, Known, Tables};
+use super::{compare_answer, compare_refusal};
+use rights::{lent, Cell, Mode, Picture};
+use std::fmt::Debug;
+
+fn same<T: PartialEq + Debug>(call: &str, got: T, want: T) -> Result<(), String> {
+    if got == want {
+        Ok(())
+    } else {
+        let place = format!("a picture's {call}");
+        Err(format!("{place}: answered {got:?}, should be {want:?}"))
+    }
+}
+
+fn lend(t: &Tables) -> lent::Tables<'_> {
+    lent::Tables {
+        boxes: &t.boxes,
+        containments: &t.rows,
+        arrows: &t.arrows,
+    }
+}
+
+/// The calls on the picture of these tables, those of a mode for one mode.
+pub fn compare(tables: &Tables, known: &Known, asked: u16) -> Result<(), String> {
+    let picture = Picture::try_from(lend(tables)).map_err(compare_refusal);
+    let want = known.sound().map(|_| ());
+    same("tables", picture.as_ref().map(|_| ()).map_err(|r| *r), want)?;
+    let mode = Mode::new(asked).map_err(compare_refusal);
+    let (Ok(picture), Ok(model), Ok(mode)) = (picture, known.sound(), mode) else {
+        return Ok(());
+    };
+    let scratch = vec![9; model.n * model.n];
+    let want = checker::judge(known, &scratch).result;
+    same("judge", picture.judge().map_err(compare_refusal), want)?;
+    let atoms = picture.atoms().map_err(compare_refusal);
+    let want = checker::atoms_of(tables);
+    same("atoms", atoms.map(|atoms| [atoms.users, atoms.files]), want)?;
+    matrix(&picture, known, model, mode)?;
+    list(&picture, known, model, mode)?;
+    if let (Some(&user), Some(&file)) = (model.users.last(), model.files.first()) {
+        let (user, file) = (user as u16, file as u16);
+        let got = picture.entry(user, file, mode).map(compare_answer);
+        let want = checker::entry(known, user, file, asked, &scratch).result;
+        same("entry", got.map_err(compare_refusal), want)?;
+    }
+    Ok(())
+}
+
+fn matrix(
+    picture: &Picture,
+    known: &Known,
+    model: &checker::Picture,
+    mode: Mode,
+) -> Result<(), String> {
+    let (n, pairs) = (model.n, model.pairs());
+    let (bytes, numbers) = (vec![9; pairs], vec![9; pairs]);
+    let want = checker::matrix(known, mode.number(), &vec![9; n * n], &bytes, &numbers);
+    let got = match picture.matrix(mode) {
+        Ok(got) => got,
+        Err(refusal) => return same("matrix", Err(compare_refusal(refusal)), want.result),
+    };
+    same("matrix", Ok(()), want.result)?;
+    let number = |atoms: &[u16]| atoms.iter().map(|&b| b as usize).collect::<Vec<_>>();
+    same("matrix users", number(got.users()), model.users.clone())?;
+    same("matrix files", number(got.files()), model.files.clone())?;
+    let row_users: Vec<u16> = got.rows().map(|(user, _)| user).collect();
+    same("matrix rows", &row_users[..], got.users())?;
+    let in_rows: Vec<Cell> = got.rows().flat_map(|(_, row)| row.to_vec()).collect();
+    for (place, cell) in in_rows.iter().enumerate() {
+        let (user, file) = model.pair(place);
+        let by_numbers = got.cell(user as u16, file as u16);
+        same("matrix cell", by_numbers, Some(*cell))?;
+        let plain = match *cell {
+            Cell::Granted { arrow } => (1, arrow),
+            Cell::Denied { arrow } => (0, arrow),
+            Cell::DeniedByDefault => (0, checker::NO_ARROW),
+            Cell::Unclear => (2, checker::NO_ARROW),
+        };
+        let want = (want.bytes[place], want.numbers[place]);
+        same(&format!("matrix at {user}, {file}"), plain, want)?;
+    }
+    same("count of matrix cells", in_rows.len(), pairs)
+}
+
+fn list(
+    picture: &Picture,
+    known: &Known,
+    model: &checker::Picture,
+    mode: Mode,
+) -> Result<(), String> {
+    let (n, pairs) = (model.n, model.pairs());
+    let places = vec![9; model.of_mode(mode.number()).len()];
+    let want = checker::list(
+        known,
+        mode.number(),
+        &vec![9; n * n],
+        &places,
+        &vec![9; pairs],
+    );
+    match picture.list(mode) {
+        Err(refusal) => same("list", Err(compare_refusal(refusal)), want.result),
+        Ok(list) => {
+            same("list", Ok(()), want.result)?;
+            checker::list_will_do(known, mode.number(), &list, &list, list.len())
+                .map_err(|why| format!("a picture's list: {why}"))
+        }
+    }
+}
+
+/// The picture in a file, or its refusal.
+pub fn compare_read(file: &[u8]) -> Result<(), String> {
+    let want =
+        checker::tables_in(file).and_then(|t| Picture::try_from(lend(&t)).map_err(compare_refusal));
+    same("file", Picture::read(file).map_err(compare_refusal), want)
+}
