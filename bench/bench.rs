@@ -35,6 +35,8 @@ enum Call {
     Judge,
     Matrix,
     List,
+    /// Users go into the list's buffer and files into the rows', which both suffice.
+    Atoms,
     Read,
 }
 
@@ -48,12 +50,13 @@ impl Call {
             Judge => "judge",
             Matrix => "matrix",
             List => "list",
+            Atoms => "atoms",
             Read => "read",
         }
     }
 
     fn of(name: &str) -> Option<Call> {
-        [Fill, Entry, Judge, Matrix, List, Read]
+        [Fill, Entry, Judge, Matrix, List, Atoms, Read]
             .into_iter()
             .find(|c| c.name() == name)
     }
@@ -155,6 +158,9 @@ impl Case {
             List => p
                 .list(mode, &mut b.scratch, &mut b.list, &mut b.work)
                 .map(|count| [count as u64, 0, 0]),
+            Atoms => p
+                .atoms(&mut b.list, &mut b.rows)
+                .map(|c| [c.users as u64, c.files as u64, 0]),
             Read => lent::read(&self.file, &mut b.boxes, &mut b.rows, &mut b.arrows)
                 .map(|c| [c.boxes, c.containments, c.arrows].map(|x| x as u64)),
         };
@@ -179,6 +185,9 @@ impl Case {
             }
             List => twin::list(t, mode, &mut b.scratch, &mut b.list, &mut b.work)
                 .map(|count| [count as u64, 0, 0]),
+            Atoms => {
+                twin::atoms(t, &mut b.list, &mut b.rows).map(|[u, f]| [u as u64, f as u64, 0])
+            }
             Read => twin::read(&self.file, &mut b.boxes, &mut b.rows, &mut b.arrows)
                 .map(|c| [c.boxes, c.rows, c.arrows].map(|x| x as u64)),
         };
@@ -306,7 +315,7 @@ const CASES: &[(&str, Build, usize, &[Call])] = &[
         "typical",
         || pictures::typical(512),
         0,
-        &[Fill, Entry, Judge, Matrix, List, Read],
+        &[Fill, Entry, Judge, Matrix, List, Atoms, Read],
     ),
     (
         "every-64",

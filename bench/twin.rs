@@ -442,6 +442,19 @@ fn pair_count(t: Tables) -> usize {
     atoms_of(t.boxes, t.rows, 0, &mut atoms) * atoms_of(t.boxes, t.rows, 1, &mut atoms)
 }
 
+/// Checks 1 to 7 as without arrows, 9, then the atomic users and files.
+pub fn atoms(t: Tables, users: &mut [u16], files: &mut [u16]) -> Result<[usize; 2], Refusal> {
+    check(Tables { arrows: &[], ..t })?;
+    let mut atoms = [[0; BOXES]; 2];
+    let u = atoms_of(t.boxes, t.rows, 0, &mut atoms[0]);
+    let f = atoms_of(t.boxes, t.rows, 1, &mut atoms[1]);
+    check_room(11, users.len(), u)?;
+    check_room(12, files.len(), f)?;
+    users[..u].copy_from_slice(&atoms[0][..u]);
+    files[..f].copy_from_slice(&atoms[1][..f]);
+    Ok([u, f])
+}
+
 pub fn judge(t: Tables, scratch: &mut [u8]) -> Result<(), Refusal> {
     prepare(t, scratch)?;
     with_all(t, scratch, |all| {
