@@ -19,23 +19,31 @@ at-each l =
     (λ k h. build-at (λ k. getD l k 0) (length l) k (rw build-length at h))
 
 abbrev Inv-loop : tie.InvT-loop
-Inv-loop numbers out₀ i₀ i-end out i = (i ≤ length numbers) × (out ≡ written (build (λ k. getD numbers k 0) i) out₀) × (length out ≡ length out₀)
+Inv-loop numbers out₀ i₀ i-end out i =
+    (out ≡ written (build (λ k. getD numbers k 0) i) out₀) × (i ≤ length numbers) × (length out ≡ length out₀)
 
 abbrev μ-loop : tie.MeasureT-loop
 μ-loop numbers out₀ i₀ i-end out i = length numbers - i
 
 loop-holds : tie.Need-loop-holds Inv-loop μ-loop
-loop-holds c = (search needs, built-none _ _, refl)
+loop-holds c = (built-none _ _, search needs, refl)
 
 loop-again : tie.Need-loop-again Inv-loop μ-loop
-loop-again c = let at = c .before .before in
-    let a = at .before .args in
-    (search needs, built-more (λ k. getD (a .numbers .now) k 0) (a .out .now) (at .loop .i) (at .loop .out) (at .loop .inv .1) _ (omega arith) refl, simp length-set (at .loop .inv .2))
+loop-again c =
+    let at-loop = c .before .before in
+    let a = at-loop .before .args in
+    let l = at-loop .loop in (
+      built-more (λ k. getD (a .numbers .now) k 0) (a .out .now) (l .i) (l .out) (l .inv .0) _ (omega arith) refl,
+      search needs,
+      simp length-set (l .inv .2),
+    )
 
 returns : tie.Need-returns Inv-loop μ-loop
-returns c = let at = c .before in
-    let e : at .loop .i ≡ length (at .before .args .numbers .now) = omega arith in
-    (rw e at (at .loop .inv .1)) ∙ ap (λ (l : List ℕ). written l (at .before .args .out .now)) (at-each (at .before .args .numbers .now))
+returns c =
+    let at-loop = c .before in
+    let a = at-loop .before .args in
+    let e : at-loop .loop .i ≡ length (a .numbers .now) = omega arith in
+    (rw e at (at-loop .loop .inv .0)) ∙ ap (λ (l : List ℕ). written l (a .out .now)) (at-each (a .numbers .now))
 
 pub copy-spec : {M : Type 1} → statement M
 copy-spec =
