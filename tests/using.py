@@ -1,0 +1,51 @@
+#!/usr/bin/env python3
+"""Compiles the two programs that docs/USING.md shows, runs them on samples B and J, and holds the matrix that they print against
+the stored listings.
+
+    using.py     in the repository's root, after target/staticlib/librights_c.a and target/librights.rlib are built
+"""
+
+import pathlib
+import re
+import subprocess
+import sys
+
+ROOT = pathlib.Path(__file__).resolve().parent.parent
+TARGET = ROOT / "target"
+COMPILE = {
+    "c": ["cc", "-std=c99", "-Wall", "-Wextra", "-Werror", "-Iinclude", "-o", "target/using-c", "target/using.c",
+          "target/staticlib/librights_c.a"],
+    "rust": ["rustc", "--edition", "2021", "--extern", "rights=target/librights.rlib", "-o", "target/using-rust",
+             "target/using.rust"],
+}
+
+
+def matrix(name):
+    """The matrix of mode 0 as the programs print it, from the sample's listing."""
+    rows = [line.split() for line in (ROOT / "samples" / f"{name}.txt").read_text().splitlines()]
+    word = {"pos": "granted", "neg": "denied"}
+    return [f"user {row[1]} file {row[2]}: {word[row[3]]}" for row in rows if row[0] == "0"]
+
+
+def main():
+    page = (ROOT / "docs" / "USING.md").read_text()
+    wrong = 0
+    for language, command in COMPILE.items():
+        (program,) = re.findall(rf"```{language}\n(.*?)```", page, re.S)
+        (TARGET / f"using.{language}").write_text(program)
+        subprocess.run(command, cwd=ROOT, check=True)
+        for name in ["B", "J"]:
+            file = (ROOT / "samples" / f"{name}.blk").read_bytes()
+            ran = subprocess.run([TARGET / f"using-{language}"], input=file, capture_output=True, timeout=30)
+            printed = ran.stdout.decode().splitlines()
+            pairs = [line for line in printed if line.startswith("user")]
+            # B has a list; J has none, and the pair 0, 7 is named
+            ends = printed[-1].startswith("arrow") if name == "B" else "7" in (ran.stderr.decode() or printed[-1])
+            if pairs != matrix(name) or not ends:
+                wrong += 1
+                print(f"{language}, {name}: {ran.stdout.decode()}{ran.stderr.decode()}")
+    print(f"using: 2 programs on 2 samples, {wrong} wrong")
+    sys.exit(wrong > 0)
+
+
+main()
