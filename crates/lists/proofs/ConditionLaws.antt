@@ -8,8 +8,7 @@ use Prim.Native.Nat.{ℕ, _<_, _≤_}
 use native.Mathlib.Omega.{arith}
 use lib.Dec.{T}
 use lib.ListN.{length}
-use Rattle.tables.specs.Search.{orElse}
-use Rattle.tables.specs.Buffers.{written, zeros}
+use Rattle.tables.specs.Buffers.{written}
 use Rattle.tables.specs.Atoms.{pairCount}
 use Rattle.tables.specs.Refusals.{noOrder}
 use Rattle.tables.specs.Faults.{tableFault}
@@ -17,8 +16,8 @@ use Rattle.tables.specs.declared.Refusal.{Refusal}
 use Rattle.answers.specs.Meaning.{modeArrows}
 use Rattle.answers.specs.Pairs.{userAt, fileAt}
 use Rattle.lists.specs.Order.{distinct, meets, reached, granted, right, honest, coversAll, qualifies, FirstMissed}
-use Rattle.lists.specs.Greedy.{orderFault}
-use Rattle.lists.specs.Calls.{listEarly, listLate, Answered, Outcome}
+use Rattle.lists.specs.Greedy.{greedy, orderFault}
+use Rattle.lists.specs.Calls.{listEarly, listBefore, listAnswer, listAfter, workAfter}
 use Rattle.lists.specs.Condition.{Pair, Reaches, Honest, IsGranted, ReachesAll, SomeReachesAll}
 use Rattle.lists.specs.Condition.{FirstUnreached, WrittenList, Condition3}
 use Rattle.lists.specs.declared.Listed.{Listed}
@@ -31,8 +30,9 @@ use Rattle.tables.proofs.PartLaws.{part-is, wrote-length}
 use Rattle.answers.proofs.PairLaws.{userAt-atom, fileAt-atom, pair-place, pair-before}
 use Rattle.answers.proofs.ModeLaws.{answer-at}
 use Rattle.lists.proofs.GreedyLaws.{honest-own, honest-right, honest-is}
-use Rattle.lists.proofs.OrderLaws.{covers-is, covers-at, order-none, order-some, order-missed}
+use Rattle.lists.proofs.OrderLaws.{covers-is, covers-at, greedy-qualifies, order-none, order-some, order-missed}
 use Rattle.lists.proofs.GrowLaws.{own-room}
+use Rattle.lists.proofs.CallLaws.{answered-list, answered-none}
 use Rattle.lists.proofs.EndLaws.{rooms}
 
 module _ (boxes rows arrows : List ℕ) (m : ℕ) where
@@ -43,7 +43,7 @@ module _ (boxes rows arrows : List ℕ) (m : ℕ) where
       → (u f : ℕ) → Pair boxes rows arrows u f → P u f
   by-place P h u f a = let p = pair-place boxes rows u f (a .0) (a .1) in rw (p .2, p .3) at (h (p .0) (p .1))
 
-  pair-at : (p : ℕ) → p < pairCount boxes rows → Pair boxes rows arrows (userAt boxes rows p) (fileAt boxes rows p)
+  pub pair-at : (p : ℕ) → p < pairCount boxes rows → Pair boxes rows arrows (userAt boxes rows p) (fileAt boxes rows p)
   pair-at p b = (userAt-atom boxes rows p b, fileAt-atom boxes rows p b)
 
   -- the pair at a place is granted; it is reached by a list
@@ -51,12 +51,12 @@ module _ (boxes rows arrows : List ℕ) (m : ℕ) where
   unfolding granted
   granted-at p = let e = answer-at boxes rows arrows m p in (λ t. rw e at t, λ t. rw e t)
 
-  reached-at : (l : List ℕ) (p : ℕ)
+  pub reached-at : (l : List ℕ) (p : ℕ)
       → T (reached boxes rows arrows l p) ↔ Reaches boxes rows arrows l (userAt boxes rows p) (fileAt boxes rows p)
   unfolding reached meets
   reached-at l p = (λ t. t, λ t. t)
 
-  honest-pairs : (l : List ℕ) → T (honest boxes rows arrows m l) ↔ Honest boxes rows arrows m l
+  pub honest-pairs : (l : List ℕ) → T (honest boxes rows arrows m l) ↔ Honest boxes rows arrows m l
   unfolding meets right
   honest-pairs l = (
     λ h. (
@@ -100,10 +100,12 @@ module _ (boxes rows arrows : List ℕ) (m : ℕ) where
 
   -- ---- what is written
 
-  -- checks 1 to 9 leave a place for each arrow of the mode
-  room-for : (s out work : List ℕ) → listEarly boxes rows arrows m s out work ≡ none → length (modeArrows arrows m) ≤ length out
-  unfolding listEarly
-  room-for s out work e = rooms boxes rows arrows m s out work (both-none (tableFault boxes rows arrows) _ e .1) .out-room
+  -- checks 1 to 12 leave a place for each arrow of the mode
+  pub room-for : (s out work : List ℕ) → listBefore boxes rows arrows m s out work ≡ none → length (modeArrows arrows m) ≤ length out
+  unfolding listEarly listBefore
+  room-for s out work e =
+      rooms boxes rows arrows m s out work
+      (both-none (tableFault boxes rows arrows) _ (both-none (listEarly boxes rows arrows m s out work) _ e .0) .1) .out-room
 
   list-there : (l out out′ : List ℕ) → length (modeArrows arrows m) ≤ length out → out′ ≡ written l out
       → T (qualifies boxes rows arrows m l)
@@ -124,46 +126,52 @@ module _ (boxes rows arrows : List ℕ) (m : ℕ) where
         beyond = λ p g. rw w (written-rest l out p g);
       }
 
-not-both : {r : Listed} {n : ℕ} {x : Refusal} → r ≡ Written n → r ≡ Refused x → ⊥
+pub not-both : {r : Listed} {n : ℕ} {x : Refusal} → r ≡ Written n → r ≡ Refused x → ⊥
 not-both e i = let z : _≡_ {A = ℕ} 0 1 = cc in omega arith
 
--- the third condition of acceptance: of what the call promises, wherever checks 1 to 12 find no fault
-pub third-condition : {boxes rows arrows : List ℕ} {m : ℕ} {s out work : List ℕ} {r : Listed} {s′ out′ work′ : List ℕ}
-    → Outcome boxes rows arrows m s out work r s′ out′ work′
-    → orElse (listEarly boxes rows arrows m s out work) (listLate boxes rows arrows m) ≡ none
-    → Condition3 boxes rows arrows m out work r out′ work′
-third-condition {boxes} {rows} {arrows} {m} {s} {out} {work} {r} {s′} {out′} {work′} o passed =
-    go (orderFault boxes rows arrows m) refl (rw passed at (o .answered))
-  where
-    zero-work : work′ ≡ written (zeros (pairCount boxes rows)) work
-    zero-work = rw passed at (o .work-after)
+-- the third condition of acceptance holds of what the call answers and leaves, wherever checks 1 to 12 find no fault
+module _ (boxes rows arrows : List ℕ) (m : ℕ) (s out work : List ℕ) where
+  abbrev before : Option Refusal
+  before = listBefore boxes rows arrows m s out work
 
-    go : (x : Option Refusal) → orderFault boxes rows arrows m ≡ x → Answered boxes rows arrows m none x r out out′
-        → Condition3 boxes rows arrows m out work r out′ work′
-    go none e a =
-        let some-list = order-pairs boxes rows arrows m .0 e in
-        let room = room-for boxes rows arrows m s out work (both-none (listEarly boxes rows arrows m s out work) _ passed .0) in
-        record {
-          writes = (λ w. some-list, λ l. (length (a .0), a .1));
-          written-list = λ n i.
-              let k : length (a .0) ≡ n = cc in
-              subst (λ (j : ℕ). WrittenList boxes rows arrows m j out out′) k
-              (list-there boxes rows arrows m (a .0) out out′ room (a .2) (a .3));
-          no-order = (λ w. absurd (not-both (a .1) (w .2)), λ n. absurd (n some-list));
-          names = λ u f i. absurd (not-both (a .1) i);
-          blanked = λ u f i. absurd (not-both (a .1) i);
-          work-after = zero-work;
-        }
-    go (some x) e a =
-        let no-list : SomeReachesAll boxes rows arrows m → ⊥ = λ l. some-none (sym e ∙ order-pairs boxes rows arrows m .1 l) in
-        let pair = order-some boxes rows arrows m x e in
-        record {
-          writes = (λ w. absurd (not-both (w .1) (a .0)), λ l. absurd (no-list l));
-          written-list = λ n i. absurd (not-both i (a .0));
-          no-order = (λ w. no-list, λ n. (pair .0, pair .1, a .0 ∙ ap Refused (pair .2)));
-          names = λ u f i.
-              let k : x ≡ noOrder m u f = cc in
-              missed-pair boxes rows arrows m u f (order-missed boxes rows arrows m u f .0 (e ∙ ap some k));
-          blanked = λ u f i. a .1;
-          work-after = zero-work;
-        }
+  abbrev Holds : Option Refusal → Type 0
+  Holds fault =
+      Condition3 boxes rows arrows m out work
+      (listAnswer boxes rows arrows m fault) (listAfter boxes rows arrows m fault out) (workAfter boxes rows arrows m fault work)
+
+  pub third-condition : before ≡ none → Holds before
+  unfolding workAfter
+  third-condition passed = rw passed (go (orderFault boxes rows arrows m) refl)
+    where
+      go : (x : Option Refusal) → orderFault boxes rows arrows m ≡ x → Holds none
+      go none e =
+          let list = greedy boxes rows arrows m in
+          let some-list = order-pairs boxes rows arrows m .0 e in
+          let a = answered-list boxes rows arrows m e out in
+          let w =
+          list-there boxes rows arrows m list out (listAfter boxes rows arrows m none out) (room-for boxes rows arrows m s out work passed)
+          (sym (a .1)) (greedy-qualifies boxes rows arrows m e) in
+          record {
+            writes = (λ z. some-list, λ z. (length list, sym (a .0)));
+            written-list = λ n i.
+                let k : length list ≡ n = cc (a .0) in
+                subst (λ (j : ℕ). WrittenList boxes rows arrows m j out (listAfter boxes rows arrows m none out)) k w;
+            no-order = (λ z. absurd (not-both (sym (a .0)) (z .2)), λ n. absurd (n some-list));
+            names = λ u f i. absurd (not-both (sym (a .0)) i);
+            blanked = λ u f i. absurd (not-both (sym (a .0)) i);
+            work-after = refl;
+          }
+      go (some x) e =
+          let no-list : SomeReachesAll boxes rows arrows m → ⊥ = λ l. some-none (sym e ∙ order-pairs boxes rows arrows m .1 l) in
+          let pair = order-some boxes rows arrows m x e in
+          let a = answered-none boxes rows arrows m x e out in
+          record {
+            writes = (λ z. absurd (not-both (z .1) (sym (a .0))), λ l. absurd (no-list l));
+            written-list = λ n i. absurd (not-both i (sym (a .0)));
+            no-order = (λ z. no-list, λ n. (pair .0, pair .1, sym (a .0) ∙ ap Refused (pair .2)));
+            names = λ u f i.
+                let k : x ≡ noOrder m u f = cc (a .0) in
+                missed-pair boxes rows arrows m u f (order-missed boxes rows arrows m u f .0 (e ∙ ap some k));
+            blanked = λ u f i. sym (a .1);
+            work-after = refl;
+          }

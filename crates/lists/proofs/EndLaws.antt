@@ -10,8 +10,9 @@ use Rattle.tables.specs.Refusals.{verdictOf, either}
 use Rattle.tables.specs.Faults.{tableFault, modeFault, roomFault}
 use Rattle.tables.specs.declared.Refusal.{Refusal}
 use Rattle.containment.specs.Contains.{loopFault}
-use Rattle.containment.specs.Scratch.{scratchFault, filled}
-use Rattle.lists.specs.Calls.{listRoom, listEarly, listLate, Outcome}
+use Rattle.answers.specs.Pairs.{unclearFault}
+use Rattle.containment.specs.Scratch.{scratchFault, filled, scratchAfter}
+use Rattle.lists.specs.Calls.{listRoom, listEarly, listBefore, listedOf, listAnswer, listAfter, workAfter}
 use Rattle.lists.specs.Steps.{Listing}
 use Rattle.lists.specs.declared.Listed.{Listed}
 use Rattle.lists.specs.declared.Listed.the-variants.{Refused}
@@ -46,27 +47,38 @@ module _ (boxes rows arrows : List ℕ) (m : ℕ) (s out work : List ℕ) where
   unfolding listEarly
   early-rest e = past _ _ e
 
+  -- what the call answers, and the scratch, the list places and the work bytes at the end
+  abbrev pub ListEnds : Listed → List ℕ → List ℕ → List ℕ → Type 0
+  ListEnds r s′ out′ work′ =
+      (r ≡ listAnswer boxes rows arrows m (listBefore boxes rows arrows m s out work))
+      × ((s′ ≡ scratchAfter (listEarly boxes rows arrows m s out work) boxes rows s)
+      × ((out′ ≡ listAfter boxes rows arrows m (listBefore boxes rows arrows m s out work) out)
+      × (work′ ≡ workAfter boxes rows arrows m (listBefore boxes rows arrows m s out work) work)))
+
+  -- refused by checks 1 to 12, with the scratch as it is then
+  ends-refused : (x : Refusal) → listBefore boxes rows arrows m s out work ≡ some x → (s′ : List ℕ)
+      → s′ ≡ scratchAfter (listEarly boxes rows arrows m s out work) boxes rows s → ListEnds (Refused x) s′ out work
+  unfolding listAnswer listedOf listAfter workAfter
+  ends-refused x f s′ e = (rw (f, stop (some x) _ refl), (e, (rw f, rw f)))
+
   -- refused by checks 1 to 9
-  pub end-early : (x : Refusal) → listEarly boxes rows arrows m s out work ≡ some x → Outcome boxes rows arrows m s out work (Refused x) s out work
-  end-early x e =
-      let f = stop _ (listLate boxes rows arrows m) e in
-      record { answered = rw f (refl, refl); scratch-after = rw e; work-after = rw f }
+  pub end-early : (x : Refusal) → listEarly boxes rows arrows m s out work ≡ some x → ListEnds (Refused x) s out work
+  unfolding listBefore
+  end-early x e = ends-refused x (stop _ _ e) s (rw e)
 
   module _ (e : listEarly boxes rows arrows m s out work ≡ none) where
     -- refused by check 10
-    pub end-loops : (x : Refusal) → loopFault boxes rows ≡ some x → Outcome boxes rows arrows m s out work (Refused x) (filled (length boxes) rows s) out work
-    unfolding listLate
-    end-loops x l =
-        let f = past _ (listLate boxes rows arrows m) e ∙ stop _ _ l in
-        record { answered = rw f (refl, refl); scratch-after = rw e; work-after = rw f }
+    pub end-loops : (x : Refusal) → loopFault boxes rows ≡ some x → ListEnds (Refused x) (filled (length boxes) rows s) out work
+    unfolding listBefore
+    end-loops x l = ends-refused x (past _ _ e ∙ stop _ _ l) (filled (length boxes) rows s) (rw e)
 
     -- check 12 and what follows it
     pub end-listing : loopFault boxes rows ≡ none → (r : Listed) (out′ work′ : List ℕ) → Listing boxes rows arrows m out work r out′ work′
-        → Outcome boxes rows arrows m s out work r (filled (length boxes) rows s) out′ work′
-    unfolding listLate
+        → ListEnds r (filled (length boxes) rows s) out′ work′
+    unfolding listBefore
     end-listing l r out′ work′ g =
-        let f = past _ (listLate boxes rows arrows m) e ∙ past _ _ l in
-        record { answered = rw f (g .answered); scratch-after = rw e; work-after = rw f (g .work-after) }
+        let f : listBefore boxes rows arrows m s out work ≡ unclearFault boxes rows arrows m = past _ _ e ∙ past _ _ l in
+        (rw f (g .answered), (rw e, (rw f (g .list-after), rw f (g .work-after))))
 
   -- where checks 8 and 9 pass, the mode is one and there is room
   pub rooms : rest ≡ none → Rooms

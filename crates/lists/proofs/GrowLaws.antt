@@ -2,12 +2,13 @@
 use mathlib.Core.Path.{_≡_, refl, sym, ap, ap₂, _∙_}
 use mathlib.Core.Bool.{Bool, true, false, not, cond, _&&_, _||_}
 use mathlib.Core.List.{List, [], _∷_, _++_}
+use mathlib.Core.Option.{none, some}
 use Prim.Native.Nat.{ℕ, _+_, _<_, _≤_}
 use native.Mathlib.Decide.{decLt, ℕ-discrete}
 use native.Mathlib.Omega.{arith}
 use borrow.Author.Tests.{eq-eqb, ne-eqb}
 use lib.Dec.{T, eqb, ltb, lt→ltb}
-use lib.ListN.{length, getD, length-append}
+use lib.ListN.{length, getD}
 use lib.Seq.{ext-getD}
 use Rattle.tables.specs.Search.{select, bit}
 use Rattle.tables.specs.Buffers.{build, written, zeros}
@@ -17,16 +18,16 @@ use Rattle.answers.specs.Meaning.{positive, negative, hasMode, isGranted, isUnc
 use Rattle.answers.specs.Pairs.{answerAt}
 use Rattle.answers.specs.declared.Entry.{Entry}
 use Rattle.lists.specs.Order.{anyOf, gives, ofMode, meets, reached, granted, right}
-use Rattle.lists.specs.Greedy.{new, fits, addable, leftBy}
+use Rattle.lists.specs.Greedy.{new, fits, addable, next, leftBy}
 use Rattle.lists.specs.Steps.{stops, follows, followsAt, marked, Behind, leftIn, Clear, workOf}
-use Rattle.tables.proofs.Tests.{and-T, T-and, T-true}
+use Rattle.tables.proofs.Tests.{T-and, T-true}
 use Rattle.tables.proofs.Bits.{bit-is}
 use Rattle.tables.proofs.SearchLaws.{first-same, every-same}
 use Rattle.tables.proofs.BufferLaws.{written-length, written-at, written-rest, build-length, build-at, build-same, zeros-length, zeros-at}
-use Rattle.tables.proofs.SelectLaws.{select-found, select-has, select-within}
+use Rattle.tables.proofs.SelectLaws.{select-found, select-within, selected-lowest, selected-nothing}
 use Rattle.answers.proofs.ModeLaws.{mode-select}
-use Rattle.lists.proofs.CountLaws.{anyOf-snoc, room}
-use Rattle.lists.proofs.GreedyLaws.{Grown, grown-more, honest-own, addable-own, ofMode-there}
+use Rattle.lists.proofs.CountLaws.{anyOf-snoc}
+use Rattle.lists.proofs.GreedyLaws.{Grown, grown-room, addable-own, ofMode-there, ofMode-has}
 use Rattle.lists.proofs.StepLaws.{stops-same, stops-open}
 
 -- ---- places written twice
@@ -191,20 +192,12 @@ module _ (boxes rows arrows : List ℕ) (m : ℕ) where
         let f = select-found (hasMode arrows m) (arrowCount arrows) t (rw i at h) in
         rw i (T-and (ltb (getD (select (hasMode arrows m) (arrowCount arrows)) t 0) (arrowCount arrows)) _ (lt→ltb _ (arrowCount arrows) (f .0)) (f .1))
 
-    own-has : (k : ℕ) → T (ofMode arrows m k) → (t : ℕ) × (t < length own) × (getD own t 0 ≡ k)
-    unfolding ofMode
-    own-has k o =
-        let i = e ∙ mode-select arrows m in
-        rw i (select-has (hasMode arrows m) (arrowCount arrows) k (ofMode-there arrows m k o) (and-T (ltb k (arrowCount arrows)) (hasMode arrows m k) o .1))
-
     -- a list with no arrow twice is no longer
     pub own-room : (l : List ℕ) → Grown boxes rows arrows m l → length l ≤ length own
-    unfolding ofMode
     own-room l g =
         let i = e ∙ mode-select arrows m in
-        let r = room (ofMode arrows m) (arrowCount arrows) l (ofMode-there arrows m) (honest-own boxes rows arrows m l (g .is-honest)) (g .once) in
-        let s = select-within (ofMode arrows m) (hasMode arrows m) (arrowCount arrows) (λ k h o. and-T (ltb k (arrowCount arrows)) (hasMode arrows m k) o .1) in
-        omega (arith, ap length i)
+        let s = select-within (ofMode arrows m) (hasMode arrows m) (arrowCount arrows) (λ k h. ofMode-has arrows m k) in
+        omega (arith, ap length i, grown-room boxes rows arrows m l g)
 
     -- ---- the turns of the loop that grows the list
 
@@ -221,18 +214,26 @@ module _ (boxes rows arrows : List ℕ) (m : ℕ) where
       followsAt-addable t h =
           follows-addable (touch (getD own t 0)) (getD own t 0) (λ p. same (getD own t 0) p (own-there t h)) l w c (own-mode t h)
 
-      -- the arrow that was picked is added
-      pub grown-next : (t : ℕ) → t < length own → T (Next t) → Grown boxes rows arrows m l → Grown boxes rows arrows m (l ++ (getD own t 0 ∷ []))
-      grown-next t h f g = grown-more boxes rows arrows m l (getD own t 0) g (rw (followsAt-addable t h) at f)
+      only : (k : ℕ) → T (addable boxes rows arrows m l k) → T (hasMode arrows m k)
+      only k a = ofMode-has arrows m k (addable-own boxes rows arrows m l k a)
 
-      pub room-next : (t : ℕ) → t < length own → T (Next t) → Grown boxes rows arrows m l → length l < length own
-      room-next t h f g = omega (arith, length-append l (getD own t 0 ∷ []), own-room (l ++ (getD own t 0 ∷ [])) (grown-next t h f g))
+      -- the first that follows is next, and where none follows none is
+      pub follows-next : (t : ℕ) → t < length own → T (Next t) → ((i : ℕ) → i < t → T (Next i) → ⊥)
+          → next boxes rows arrows m l ≡ some (getD own t 0)
+      unfolding next
+      follows-next t h f b =
+          let i = e ∙ mode-select arrows m in
+          let a = rw (followsAt-addable t h) at f in
+          rw i
+          (selected-lowest (hasMode arrows m) (addable boxes rows arrows m l) only (arrowCount arrows) t (rw i at h) (rw i at a)
+          (λ j q u. b j q (rw (followsAt-addable j (omega arith), i) u)))
 
-      -- none was picked: nothing can be added
-      pub none-next : (t : ℕ) → length own ≤ t → ((k : ℕ) → k < t → T (Next k) → ⊥) → (k : ℕ) → T (addable boxes rows arrows m l k) → ⊥
-      none-next t g n k a =
-          let i = own-has k (addable-own boxes rows arrows m l k a) in
-          n (i .0) (omega (arith, i .1)) (rw (followsAt-addable (i .0) (i .1), i .2) a)
+      pub follows-none : (t : ℕ) → length own ≤ t → ((i : ℕ) → i < t → T (Next i) → ⊥) → next boxes rows arrows m l ≡ none
+      unfolding next
+      follows-none t g b =
+          let i = e ∙ mode-select arrows m in
+          selected-nothing (hasMode arrows m) (addable boxes rows arrows m l) only (arrowCount arrows)
+          (λ j q u. let h : j < length own = rw i q in b j (omega arith) (rw (followsAt-addable j h, i) u))
 
 -- ---- the pointers stay behind while pairs are marked
 

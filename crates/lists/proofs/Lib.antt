@@ -12,3 +12,4 @@ pub mod CallLaws
 pub mod ReadyLaws
 pub mod EndLaws
 pub mod ConditionLaws
+pub mod FixedLaws

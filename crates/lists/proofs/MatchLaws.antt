@@ -8,7 +8,7 @@ use mathlib.Core.Option.{some}
 use Prim.Native.Nat.{ℕ, _<_}
 use lib.Dec.{T}
 use Rattle.lists.specs.Order.{anyOf, allOf, firstOf}
-use Rattle.tables.proofs.Tests.{T?, or-T, and-T, T-true, not-false}
+use Rattle.tables.proofs.Tests.{T?, or-T, and-T, T-or₁, T-or₂, T-true, not-false}
 use Rattle.tables.proofs.SearchLaws.{some-none}
 
 -- ---- the first of a list with one more in front, and of one with one more at the end
@@ -42,6 +42,12 @@ firstOf-snoc t (i ∷ l) k j e = go (T? (t i)) (firstOf-snoc t l k j)
         ⊎-elim (λ g. inl (firstOf-miss t i l h ∙ g)) (λ r. inr (r .0, r .1, λ z. ⊎-elim h (r .2) (or-T (t i) (anyOf t l) z)))
         (ih (sym (firstOf-miss t i (l ++ (k ∷ [])) h) ∙ e))
 
+firstOf-last : (t : ℕ → Bool) (l : List ℕ) (k : ℕ) → (T (anyOf t l) → ⊥) → T (t k) → firstOf t (l ++ (k ∷ [])) ≡ some k
+unfolding anyOf
+firstOf-last t [] k n h = firstOf-hit t k [] h
+firstOf-last t (i ∷ l) k n h =
+    firstOf-miss t i (l ++ (k ∷ [])) (λ r. n (T-or₁ (t i) (anyOf t l) r)) ∙ firstOf-last t l k (λ r. n (T-or₂ (t i) (anyOf t l) r)) h
+
 module _ (n : ℕ) (R Right : ℕ → ℕ → Bool) where
   -- each pair that the list reaches gets the right answer from the first arrow in it that reaches the pair
   abbrev pub Honest : List ℕ → Type 0
@@ -58,6 +64,10 @@ module _ (n : ℕ) (R Right : ℕ → ℕ → Bool) where
   pub honest-snoc : (l : List ℕ) (k : ℕ) → Honest l → Fits l k → Honest (l ++ (k ∷ []))
   honest-snoc l k h s p j b e =
       ⊎-elim (h p j b) (λ r. subst (λ (i : ℕ). T (Right p i)) (r .0) (s p b (r .1) (r .2))) (firstOf-snoc (R p) l k j e)
+
+  -- and only such an arrow does
+  pub honest-fits : (l : List ℕ) (k : ℕ) → Honest (l ++ (k ∷ [])) → Fits l k
+  honest-fits l k h p b r z = h p k b (firstOf-last (R p) l k z r)
 
   -- ---- a list to which nothing can be added reaches all that any honest list reaches
 

@@ -1,5 +1,5 @@
--- The third condition: a list is written exactly when some honest list reaches every granted pair, and refusal 13 names the first
--- granted pair that no honest list whatever reaches, whatever honest list to which nothing can be added was found. Assumes nothing.
+-- The third condition, over places: the list that is written qualifies, there is one exactly when some honest list reaches every
+-- granted pair, and refusal 13 names the first granted pair that no honest list whatever reaches. Assumes nothing.
 use mathlib.Core.Path.{_≡_, sym, ap}
 use mathlib.Core.Logic.{_↔_}
 use mathlib.Core.Bool.{Bool, not, _&&_, _||_}
@@ -15,11 +15,11 @@ use Rattle.answers.specs.Pairs.{userAt, fileAt}
 use Rattle.lists.specs.Order.{distinct, ofMode, meets, reached, granted, right, honest, coversAll, qualifies, FirstMissed}
 use Rattle.lists.specs.Greedy.{greedy, leftBy, orderFault}
 use Rattle.tables.proofs.TableLaws.{not-not}
-use Rattle.tables.proofs.Tests.{and-T, T-and, T-same, T-true, not-false}
-use Rattle.tables.proofs.SearchLaws.{first-same, first-none, first-some, first-is, first-nothing, every-at, every-is}
+use Rattle.tables.proofs.Tests.{and-T, T-and, T-true, not-false}
+use Rattle.tables.proofs.SearchLaws.{first-none, first-some, first-is, first-nothing, every-at, every-is}
 use Rattle.tables.proofs.SearchLaws.{given-none, given-some, given-true, given-false}
-use Rattle.lists.proofs.MatchLaws.{Full, maximal}
-use Rattle.lists.proofs.GreedyLaws.{implies, implied, honest-own, honest-right, Grown, greedy-grown, greedy-full}
+use Rattle.lists.proofs.MatchLaws.{maximal}
+use Rattle.lists.proofs.GreedyLaws.{implies, implied, honest-own, honest-right, greedy-grown, greedy-full}
 
 module _ (boxes rows arrows : List ℕ) (m : ℕ) where
   abbrev pairs : ℕ
@@ -60,34 +60,21 @@ module _ (boxes rows arrows : List ℕ) (m : ℕ) where
   unfolding leftBy
   left-none l e = covers-is l (λ p b g. unless-left l p g (given-none (left l p) (place p) (first-none _ pairs e p b)))
 
-  -- a list to which nothing can be added reaches all that an honest list reaches
-  abbrev pub IsFull : List ℕ → Type 0
-  IsFull g = Full pairs (meets boxes rows arrows) (right boxes rows arrows m) (ofMode arrows m) g
-
-  pub most : (g : List ℕ) → IsFull g → (l : List ℕ) → T (honest boxes rows arrows m l)
-      → (p : ℕ) → p < pairs → T (reached boxes rows arrows l p) → T (reached boxes rows arrows g p)
+  -- the list reaches all that an honest list reaches, since nothing can be added to it
+  pub most : (l : List ℕ) → T (honest boxes rows arrows m l)
+      → (p : ℕ) → p < pairs → T (reached boxes rows arrows l p) → T (reached boxes rows arrows best p)
   unfolding reached
-  most g f l h =
-      maximal pairs (meets boxes rows arrows) (right boxes rows arrows m) (ofMode arrows m) g f l
+  most l h =
+      maximal pairs (meets boxes rows arrows) (right boxes rows arrows m) (ofMode arrows m) best (greedy-full boxes rows arrows m) l
       (honest-own boxes rows arrows m l h) (honest-right boxes rows arrows m l h)
 
-  -- so whichever such list the code finds, the pair that refusal 13 names is the same
-  pub settled : (g : List ℕ) → T (honest boxes rows arrows m g) → IsFull g → leftBy boxes rows arrows m g ≡ orderFault boxes rows arrows m
-  unfolding leftBy orderFault
-  settled g h f =
-      first-same _ _ pairs
-      (λ p b.
-      let same =
-      T-same (reached boxes rows arrows g p) (reached boxes rows arrows best p)
-      (most best (greedy-full boxes rows arrows m) g h p b)
-      (most g f best (greedy-grown boxes rows arrows m .is-honest) p b) in
-      rw same)
-
-  -- and if there is none, the list qualifies
-  pub qualified : (g : List ℕ) → Grown boxes rows arrows m g → leftBy boxes rows arrows m g ≡ none → T (qualifies boxes rows arrows m g)
-  unfolding qualifies
-  qualified g w e =
-      T-and (honest boxes rows arrows m g) _ (w .is-honest) (T-and (distinct g) (coversAll boxes rows arrows m g) (w .once) (left-none g e))
+  -- where 13 is not said, it qualifies
+  pub greedy-qualifies : orderFault boxes rows arrows m ≡ none → T (qualifies boxes rows arrows m best)
+  unfolding qualifies orderFault
+  greedy-qualifies e =
+      let g = greedy-grown boxes rows arrows m in
+      T-and (honest boxes rows arrows m best) _ (g .is-honest)
+      (T-and (distinct best) (coversAll boxes rows arrows m best) (g .once) (left-none best e))
 
   -- ---- what refusal 13 says
 
@@ -105,7 +92,7 @@ module _ (boxes rows arrows : List ℕ) (m : ℕ) where
         (λ t.
         let d = and-T (granted boxes rows arrows m p) _ t in
         T-not (reached boxes rows arrows best p) (d .1)
-        (most best (greedy-full boxes rows arrows m) (s .0) (s .1) p b (covers-at (s .0) (s .2) p b (d .0)))))),
+        (most (s .0) (s .1) p b (covers-at (s .0) (s .2) p b (d .0)))))),
   )
 
   -- it names a pair in the mode
@@ -132,7 +119,7 @@ module _ (boxes rows arrows : List ℕ) (m : ℕ) where
             user-is = ap (λ (r : Refusal). r .second) (s .1);
             file-is = ap (λ (r : Refusal). r .third) (s .1);
             is-granted = d .0;
-            missed = λ l h r. T-not (reached boxes rows arrows best p) (d .1) (most best (greedy-full boxes rows arrows m) l h p (w .1) r);
+            missed = λ l h r. T-not (reached boxes rows arrows best p) (d .1) (most l h p (w .1) r);
             before = λ q l g. (
               best,
               greedy-grown boxes rows arrows m .is-honest,
@@ -157,5 +144,5 @@ module _ (boxes rows arrows : List ℕ) (m : ℕ) where
                 let d = and-T (granted boxes rows arrows m q) _ t in
                 let b = w .before q l (d .0) in
                 T-not (reached boxes rows arrows best q) (d .1)
-                (most best (greedy-full boxes rows arrows m) (b .0) (b .1) q (omega (arith, w .there)) (b .2)))),
+                (most (b .0) (b .1) q (omega (arith, w .there)) (b .2)))),
           )

@@ -1,10 +1,7 @@
--- The call for the list of a mode, whole: checks 1 to 10, 12, 13, what is answered, and what the lent places hold at the end.
--- Assumes nothing.
-use mathlib.Core.Path.{_≡_}
+-- The call for the list of a mode, whole: which refusal, which answer, and what the lent places hold at the end. Assumes nothing.
 use mathlib.Core.List.{List}
 use mathlib.Core.Option.{Option, none, some}
 use Prim.Native.Nat.{ℕ}
-use lib.Dec.{T}
 use lib.ListN.{length, replicate}
 use Rattle.tables.specs.Search.{orElse}
 use Rattle.tables.specs.Buffers.{written, zeros}
@@ -15,9 +12,8 @@ use Rattle.tables.specs.declared.Refusal.{Refusal}
 use Rattle.containment.specs.Contains.{loopFault}
 use Rattle.answers.specs.Meaning.{modeArrows}
 use Rattle.answers.specs.Pairs.{unclearFault}
-use Rattle.containment.specs.Scratch.{scratchFault, scratchAfter}
-use Rattle.lists.specs.Order.{qualifies}
-use Rattle.lists.specs.Greedy.{orderFault}
+use Rattle.containment.specs.Scratch.{scratchFault}
+use Rattle.lists.specs.Greedy.{greedy, orderFault}
 use Rattle.lists.specs.declared.Listed.{Listed}
 use Rattle.lists.specs.declared.Listed.the-variants.{Written, Refused}
 
@@ -30,7 +26,7 @@ module _ (boxes rows arrows : List ℕ) (m : ℕ) where
   abbrev pub listRoom : ℕ
   listRoom = length (modeArrows arrows m)
 
-  -- checks 1 to 9, by the scratch, the list and the work bytes
+  -- checks 1 to 9, by the scratch, the list and the work bytes as they were lent
   unfoldable pub listEarly : List ℕ → List ℕ → List ℕ → Option Refusal
   listEarly s out work =
       orElse (tableFault boxes rows arrows)
@@ -38,18 +34,26 @@ module _ (boxes rows arrows : List ℕ) (m : ℕ) where
       (orElse (scratchFault (length boxes) s)
       (orElse (roomFault 3 (length out) listRoom) (roomFault 4 (length work) (pairCount boxes rows)))))
 
-  -- 10, and 12 in this mode
-  unfoldable pub listLate : Option Refusal
-  listLate = orElse (loopFault boxes rows) (unclearFault boxes rows arrows m)
+  -- checks 1 to 12, before which nothing is written to the list and the work bytes; 12 is about this mode
+  unfoldable pub listBefore : List ℕ → List ℕ → List ℕ → Option Refusal
+  listBefore s out work = orElse (listEarly s out work) (orElse (loopFault boxes rows) (unclearFault boxes rows arrows m))
 
-  -- what is answered, and the list places before and after, by the fault of checks 1 to 12 and by that of 13, if any
-  abbrev pub Answered : Option Refusal → Option Refusal → Listed → List ℕ → List ℕ → Type 0
-  Answered (some x) o r out out′ = (r ≡ Refused x) × (out′ ≡ out)
-  Answered none (some x) r out out′ = (r ≡ Refused x) × (out′ ≡ written (blanks listRoom) out)
-  Answered none none r out out′ = (l : List ℕ) × (r ≡ Written (length l)) × (out′ ≡ written l out) × T (qualifies boxes rows arrows m l)
+  -- the answer, by the fault of the whole call, if any: how many places the list takes
+  unfoldable pub listedOf : Option Refusal → Listed
+  listedOf none = Written (length (greedy boxes rows arrows m))
+  listedOf (some r) = Refused r
 
-  -- the call: its answer r, and the scratch, the list and the work bytes before and after. Which qualifying list is written is open.
-  pub record Outcome (s out work : List ℕ) (r : Listed) (s′ out′ work′ : List ℕ) : Type 0 where
-    pub answered : Answered (orElse (listEarly s out work) listLate) (orderFault boxes rows arrows m) r out out′
-    pub scratch-after : s′ ≡ scratchAfter (listEarly s out work) boxes rows s
-    pub work-after : work′ ≡ unlessRefused (orElse (listEarly s out work) listLate) (written (zeros (pairCount boxes rows)) work) work
+  -- what goes into the list places once checks 1 to 12 have passed, by the fault of 13, if any: the list, or 65,535 in each needed place
+  unfoldable pub placesOf : Option Refusal → List ℕ
+  placesOf none = greedy boxes rows arrows m
+  placesOf (some r) = blanks listRoom
+
+  -- the answer, and the list places and work bytes at the end, by the fault of checks 1 to 12, if any: that leaves both as they were
+  unfoldable pub listAnswer : Option Refusal → Listed
+  listAnswer fault = listedOf (orElse fault (orderFault boxes rows arrows m))
+
+  unfoldable pub listAfter : Option Refusal → List ℕ → List ℕ
+  listAfter fault out = unlessRefused fault (written (placesOf (orderFault boxes rows arrows m)) out) out
+
+  unfoldable pub workAfter : Option Refusal → List ℕ → List ℕ
+  workAfter fault work = unlessRefused fault (written (zeros (pairCount boxes rows)) work) work

@@ -7,7 +7,7 @@ use mathlib.Core.Option.{Option, none, some}
 use Prim.Native.Nat.{ℕ, _*_}
 use lib.ListN.{length, replicate}
 use Rattle.tables.specs.Search.{orElse, given, first, lowest, every, select}
-use Rattle.tables.specs.Buffers.{build}
+use Rattle.tables.specs.Buffers.{build, written}
 use Rattle.tables.specs.Rows.{sideOf, onSide}
 use Rattle.tables.specs.Atoms.{outer, atom, atoms, pairCount}
 use Rattle.tables.specs.Refusals.{inItself, unclearPair, noOrder}
@@ -27,8 +27,10 @@ use Rattle.answers.specs.declared.Reply.{Reply}
 use Rattle.answers.specs.declared.Reply.the-variants.{Answered, Refused}
 use Rattle.lists.specs.Order.{anyOf, allOf, firstOf, passes, distinct, gives, ofMode}
 use Rattle.lists.specs.Order.{meets, reached, granted, right, honest, coversAll, qualifies}
-use Rattle.lists.specs.Greedy.{new, fits, addable, grow, greedy, leftBy, orderFault}
-use Rattle.lists.specs.Calls.{listEarly, listLate}
+use Rattle.lists.specs.Greedy.{followed, new, fits, addable, next, listTo, greedy, leftBy, orderFault}
+use Rattle.lists.specs.Calls.{blanks, listRoom, listEarly, listBefore, listedOf, placesOf, listAnswer, listAfter}
+use Rattle.lists.specs.declared.Listed.{Listed}
+use Rattle.lists.specs.declared.Listed.the-variants.{Written, Refused as ListRefused}
 
 -- a picture and what the calls answer, with buffers that suffice
 pub record Case : Type 0 where
@@ -40,8 +42,9 @@ pub record Case : Type 0 where
   -- the matrix
   pub bytes : List ℕ
   pub numbers : List ℕ
-  -- the refusal of the call for a list, if any
-  pub listed : Option Refusal
+  -- the answer of the call for a list, and the list places at the end, of which each of the needed ones held 7
+  pub listed : Listed
+  pub places : List ℕ
   -- some lists, and whether they qualify
   pub lists : List (List ℕ × Bool)
 
@@ -57,7 +60,8 @@ table =
       entries = [];
       bytes = [];
       numbers = [];
-      listed = none;
+      listed = Written 0;
+      places = [];
       lists = ([], true) ∷ [];
     }
     -- B: an arrow from a user overrides one from its group
@@ -67,7 +71,8 @@ table =
       entries = (0, 3, Answered (Granted 0)) ∷ (1, 3, Answered (Denied 1)) ∷ [];
       bytes = 1 ∷ 0 ∷ [];
       numbers = 0 ∷ 1 ∷ [];
-      listed = none;
+      listed = Written 2;
+      places = 0 ∷ 1 ∷ [];
       lists = (0 ∷ 1 ∷ [], true) ∷ (0 ∷ [], true) ∷ (1 ∷ 0 ∷ [], false) ∷ (0 ∷ 0 ∷ [], false) ∷ ([], false) ∷ [];
     }
     -- C: both signs between the same two boxes
@@ -77,7 +82,8 @@ table =
       entries = (0, 1, Answered (Unclear 0 1)) ∷ [];
       bytes = 2 ∷ [];
       numbers = default ∷ [];
-      listed = some (unclearPair 0 0 1);
+      listed = ListRefused (unclearPair 0 0 1);
+      places = 7 ∷ 7 ∷ [];
       lists = [];
     }
     -- D: a user in two groups
@@ -87,7 +93,8 @@ table =
       entries = (0, 3, Answered (Unclear 0 1)) ∷ [];
       bytes = 2 ∷ [];
       numbers = default ∷ [];
-      listed = some (unclearPair 0 0 3);
+      listed = ListRefused (unclearPair 0 0 3);
+      places = 7 ∷ 7 ∷ [];
       lists = [];
     }
     -- E: D, settled by an arrow from the user
@@ -97,7 +104,8 @@ table =
       entries = (0, 3, Answered (Granted 2)) ∷ [];
       bytes = 1 ∷ [];
       numbers = 2 ∷ [];
-      listed = none;
+      listed = Written 1;
+      places = 0 ∷ 7 ∷ 7 ∷ [];
       lists = (2 ∷ [], true) ∷ (1 ∷ 2 ∷ [], false) ∷ [];
     }
     -- F: one arrow is deeper by its tail, the other by its head
@@ -107,7 +115,8 @@ table =
       entries = (0, 2, Answered (Unclear 0 1)) ∷ [];
       bytes = 2 ∷ [];
       numbers = default ∷ [];
-      listed = some (unclearPair 0 0 2);
+      listed = ListRefused (unclearPair 0 0 2);
+      places = 7 ∷ 7 ∷ [];
       lists = [];
     }
     -- G: no arrow
@@ -117,7 +126,8 @@ table =
       entries = (0, 1, Answered Default) ∷ [];
       bytes = 0 ∷ [];
       numbers = default ∷ [];
-      listed = none;
+      listed = Written 0;
+      places = [];
       lists = ([], true) ∷ [];
     }
     -- H: a box contains itself
@@ -127,7 +137,8 @@ table =
       entries = (0, 0, Refused (inItself 0)) ∷ [];
       bytes = [];
       numbers = [];
-      listed = some (inItself 0);
+      listed = ListRefused (inItself 0);
+      places = [];
       lists = [];
     }
     -- I: two arrows of one sign, and the lower number is shown
@@ -137,7 +148,8 @@ table =
       entries = (0, 2, Answered (Granted 0)) ∷ [];
       bytes = 1 ∷ [];
       numbers = 0 ∷ [];
-      listed = none;
+      listed = Written 1;
+      places = 0 ∷ 7 ∷ [];
       lists = (0 ∷ [], true) ∷ [];
     }
     -- J: the ring, clear and without a list
@@ -149,7 +161,8 @@ table =
           ∷ (1, 6, Answered (Granted 2)) ∷ (1, 7, Answered (Denied 3)) ∷ [];
       bytes = 0 ∷ 1 ∷ 1 ∷ 0 ∷ [];
       numbers = 1 ∷ 0 ∷ 2 ∷ 3 ∷ [];
-      listed = some (noOrder 0 0 7);
+      listed = ListRefused (noOrder 0 0 7);
+      places = default ∷ default ∷ default ∷ default ∷ [];
       lists = (0 ∷ 1 ∷ 2 ∷ 3 ∷ [], false) ∷ [];
     }
     ∷ []
@@ -161,6 +174,7 @@ compute c =
     let rows = c .picture .rows in
     let arrows = c .picture .arrows in
     let square = replicate {A = ℕ} (length boxes * length boxes) 0 in
+    let lent = replicate {A = ℕ} (listRoom boxes rows arrows 0) 7 in
     record {
       picture = c .picture;
       judged = judgeFault boxes rows arrows square;
@@ -169,9 +183,8 @@ compute c =
           (c .entries);
       bytes = matrixBytes boxes rows arrows 0;
       numbers = matrixNumbers boxes rows arrows 0;
-      listed =
-          orElse (listEarly boxes rows arrows 0 square arrows square)
-          (orElse (listLate boxes rows arrows 0) (orderFault boxes rows arrows 0));
+      listed = listAnswer boxes rows arrows 0 (listBefore boxes rows arrows 0 square lent square);
+      places = listAfter boxes rows arrows 0 (listBefore boxes rows arrows 0 square lent square) lent;
       lists = map (λ q. (q .0, qualifies boxes rows arrows 0 (q .0))) (c .lists);
     }
 
@@ -184,7 +197,7 @@ unfolding compute table picture-A picture-B picture-C picture-D picture-E pictur
     userAt fileAt firstPair answerAt byteAt numberAt matrixBytes matrixNumbers unclearFault anyUnclear
     askedFault entryEarly entryFault judgeFault replyOf
     anyOf allOf firstOf passes distinct gives ofMode meets reached granted right honest coversAll qualifies
-    new fits addable grow greedy leftBy orderFault listEarly listLate
+    new fits addable followed next listTo greedy leftBy orderFault blanks listEarly listBefore listedOf placesOf listAnswer listAfter written
 table-right = refl
 
 -- how many pairs and lists are asked about

@@ -1,5 +1,6 @@
--- Refusal 13 as a definition that computes: what the condition says of it is `order-none` and `order-missed`
--- (proofs/OrderLaws.antt). Assumes nothing.
+-- The list that is written (document 02, P3) and refusal 13, as definitions that compute: `fixed-order` (proofs/FixedLaws.antt) says
+-- that this is the list of specs/Fixed.antt, and `order-none` and `order-missed` (proofs/OrderLaws.antt) what 13 says.
+-- Assumes nothing.
 use mathlib.Core.Bool.{Bool, not, _&&_, _||_}
 use mathlib.Core.List.{List, [], _∷_, _++_}
 use mathlib.Core.Option.{Option, none, some}
@@ -12,29 +13,39 @@ use Rattle.tables.specs.declared.Refusal.{Refusal}
 use Rattle.answers.specs.Pairs.{userAt, fileAt}
 use Rattle.lists.specs.Order.{meets, reached, ofMode, granted, right}
 
+-- the list with this arrow at its end, if there is one
+unfoldable pub followed : List ℕ → Option ℕ → List ℕ
+followed l none = l
+followed l (some k) = l ++ (k ∷ [])
+
 module _ (boxes rows arrows : List ℕ) where
   -- arrow k would be the first in the list to reach the pair at place p
   unfoldable pub new : List ℕ → ℕ → ℕ → Bool
   new l k p = meets boxes rows arrows p k && not (reached boxes rows arrows l p)
 
   module _ (m : ℕ) where
-    -- arrow k may follow the list: each pair that it would be the first to reach gets the picture's answer
+    -- arrow k can follow while the list stays honest: each pair that it would be the first to reach gets the picture's answer
     unfoldable pub fits : List ℕ → ℕ → Bool
     fits l k = every (λ p. not (new l k p) || right boxes rows arrows m p k) (pairCount boxes rows)
 
-    -- it may follow, and there is such a pair
+    -- it can follow, and reaches a pair that nothing earlier reached
     unfoldable pub addable : List ℕ → ℕ → Bool
     addable l k = ofMode arrows m k && (fits l k && not (every (λ p. not (new l k p)) (pairCount boxes rows)))
 
-    -- the lowest such arrow is added, at most n times
-    unfoldable pub grow : ℕ → List ℕ → List ℕ
-    grow zero l = l
-    grow (suc n) l = elim (lowest (addable l) (arrowCount arrows)) [ none ↦ l | some k ↦ grow n (l ++ (k ∷ [])) ]
+    -- the lowest-numbered such arrow
+    unfoldable pub next : List ℕ → Option ℕ
+    next l = lowest (addable l) (arrowCount arrows)
 
+    -- the first n places of the list: at each stands the next arrow, and the list ends when there is none
+    unfoldable pub listTo : ℕ → List ℕ
+    listTo zero = []
+    listTo (suc n) = let l = listTo n in followed l (next l)
+
+    -- the list, which has no more places than there are arrows
     unfoldable pub greedy : List ℕ
-    greedy = grow (arrowCount arrows) []
+    greedy = listTo (arrowCount arrows)
 
-    -- the first granted pair that the list does not reach
+    -- the first granted pair that a list does not reach
     unfoldable pub leftBy : List ℕ → Option Refusal
     leftBy l =
         first (λ p. given (granted boxes rows arrows m p && not (reached boxes rows arrows l p)) (noOrder m (userAt boxes rows p) (fileAt boxes rows p)))

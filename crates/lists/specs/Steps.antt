@@ -7,19 +7,19 @@ use Prim.Native.Nat.{ℕ, _+_, _/_, _%_, _<_, _≤_}
 use lib.Dec.{T, eqb, ltb}
 use lib.ListN.{length, getD}
 use Rattle.tables.specs.Search.{first, given, every, bit}
-use Rattle.tables.specs.Buffers.{build, written, zeros}
+use Rattle.tables.specs.Buffers.{build, written}
 use Rattle.tables.specs.Rows.{user, file, arrowCount, arrowAt}
 use Rattle.tables.specs.Atoms.{pairCount}
-use Rattle.tables.specs.Refusals.{noOrder, unlessRefused}
+use Rattle.tables.specs.Refusals.{noOrder}
 use Rattle.tables.specs.declared.Refusal.{Refusal}
 use Rattle.answers.specs.Among.{Numbers}
 use Rattle.answers.specs.Meaning.{isUnclear}
 use Rattle.answers.specs.Pairs.{userAt, fileAt, answerAt, unclearFault}
 use Rattle.answers.specs.Table.{tailAround, headAround}
 use Rattle.answers.specs.declared.Grid.{Grid}
-use Rattle.lists.specs.Order.{meets, reached, granted, honest, distinct}
-use Rattle.lists.specs.Greedy.{addable, orderFault}
-use Rattle.lists.specs.Calls.{Answered}
+use Rattle.lists.specs.Order.{meets, reached, granted}
+use Rattle.lists.specs.Greedy.{greedy}
+use Rattle.lists.specs.Calls.{listAnswer, listAfter, workAfter}
 use Rattle.lists.specs.declared.Listed.{Listed}
 
 -- arrow k reaches the pair at place p, by the table: it reaches the user of the row and the file of the column
@@ -99,17 +99,14 @@ module _ (boxes rows arrows : List ℕ) (m : ℕ) where
   unfoldable pub workOf : List ℕ → List ℕ
   workOf l = build (λ p. bit (granted boxes rows arrows m p) + cond (reached boxes rows arrows l p) 2 0) (pairCount boxes rows)
 
-  -- the list that was found: honest, with no arrow twice, and nothing can be added to it
+  -- the list was found: so many places, the places themselves, and the work bytes that show it
   pub record Ordered (out work : List ℕ) (count : ℕ) (out′ work′ : List ℕ) : Type 0 where
-    pub list : List ℕ
-    pub counted : count ≡ length list
-    pub listed : out′ ≡ written list out
-    pub shown : work′ ≡ written (workOf list) work
-    pub is-honest : T (honest boxes rows arrows m list)
-    pub once : T (distinct list)
-    pub full : (k : ℕ) → T (addable boxes rows arrows m list k) → ⊥
+    pub counted : count ≡ length (greedy boxes rows arrows m)
+    pub listed : out′ ≡ written (greedy boxes rows arrows m) out
+    pub shown : work′ ≡ written (workOf (greedy boxes rows arrows m)) work
 
   -- check 12 and what follows it: the answer r, and the list and the work bytes before and after
   pub record Listing (out work : List ℕ) (r : Listed) (out′ work′ : List ℕ) : Type 0 where
-    pub answered : Answered boxes rows arrows m (unclearFault boxes rows arrows m) (orderFault boxes rows arrows m) r out out′
-    pub work-after : work′ ≡ unlessRefused (unclearFault boxes rows arrows m) (written (zeros (pairCount boxes rows)) work) work
+    pub answered : r ≡ listAnswer boxes rows arrows m (unclearFault boxes rows arrows m)
+    pub list-after : out′ ≡ listAfter boxes rows arrows m (unclearFault boxes rows arrows m) out
+    pub work-after : work′ ≡ workAfter boxes rows arrows m (unclearFault boxes rows arrows m) work

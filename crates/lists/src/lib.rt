@@ -12,12 +12,13 @@ ghost use Rattle.tables.specs.Rows.{arrowCount};
 ghost use Rattle.tables.specs.Atoms.{pairCount};
 ghost use Rattle.tables.specs.Steps.{SoundRows, SoundArrows};
 ghost use Rattle.tables.specs.Refusals.{refusal, verdictOf};
+ghost use Rattle.containment.specs.Scratch.{scratchAfter};
 ghost use Rattle.containment.specs.Steps.{Says};
 ghost use Rattle.answers.specs.Meaning.{modeArrows};
 ghost use Rattle.answers.specs.Pairs.{unclearFault};
 ghost use Rattle.answers.specs.Among.{FirstAt};
 ghost use Rattle.answers.specs.Table.{Placed, Tabled, Laid, tailAround};
-ghost use Rattle.lists.specs.Calls.{blanks, Outcome};
+ghost use Rattle.lists.specs.Calls.{blanks, listEarly, listBefore, listAnswer, listAfter, workAfter};
 ghost use Rattle.lists.specs.Steps.{Agrees, Drawn, touches, stops, NoStop, StopIn, markedTo, Behind, followsAt, ownSign, nothing};
 ghost use Rattle.lists.specs.Steps.{leftIn, Clear, workOf, Ordered, Listing};
 use answers::Grid;
@@ -244,8 +245,8 @@ fn no_places() -> [usize; 512]
     [0usize; 512]
 }
 
-// Finds an honest list with no arrow twice to which nothing can be added: the lowest arrow that may follow, until there is none.
-// The work bytes are those of the empty list. Costs a few steps for each pair and arrow.
+// Finds the list: at each place the lowest arrow that may follow, until there is none. The work bytes are those of the empty list.
+// Costs a few steps for each pair and arrow.
 fn order(
     boxes: &[u8],
     rows: &[u16],
@@ -418,7 +419,18 @@ pub fn list(
     out: &mut [u16],
     work: &mut [u8],
 ) -> Listed
-    ensures { λ r. ⌜ Outcome (now (boxes .entry)) (now (rows .entry)) (now (arrows .entry)) mode (now (scratch .entry)) (now (out .entry)) (now (work .entry)) r (now (scratch .exit)) (now (out .exit)) (now (work .exit)) ⌝ }
+    ensures { λ r. ⌜ r ≡ listAnswer (now (boxes .entry)) (now (rows .entry)) (now (arrows .entry)) mode
+        (listBefore (now (boxes .entry)) (now (rows .entry)) (now (arrows .entry)) mode
+        (now (scratch .entry)) (now (out .entry)) (now (work .entry))) ⌝ }
+    ensures { λ _. ⌜ now (scratch .exit)
+        ≡ scratchAfter (listEarly (now (boxes .entry)) (now (rows .entry)) (now (arrows .entry)) mode
+        (now (scratch .entry)) (now (out .entry)) (now (work .entry))) (now (boxes .entry)) (now (rows .entry)) (now (scratch .entry)) ⌝ }
+    ensures { λ _. ⌜ now (out .exit) ≡ listAfter (now (boxes .entry)) (now (rows .entry)) (now (arrows .entry)) mode
+        (listBefore (now (boxes .entry)) (now (rows .entry)) (now (arrows .entry)) mode
+        (now (scratch .entry)) (now (out .entry)) (now (work .entry))) (now (out .entry)) ⌝ }
+    ensures { λ _. ⌜ now (work .exit) ≡ workAfter (now (boxes .entry)) (now (rows .entry)) (now (arrows .entry)) mode
+        (listBefore (now (boxes .entry)) (now (rows .entry)) (now (arrows .entry)) mode
+        (now (scratch .entry)) (now (out .entry)) (now (work .entry))) (now (work .entry)) ⌝ }
 {
     let tables = tables::check(boxes, rows, arrows);
     if let Verdict::Refused(r) = tables {

@@ -6,12 +6,11 @@ ghost use Rattle.tables.specs.Refusals.{verdictOf};
 ghost use Rattle.containment.specs.Scratch.{scratchAfter, earlyFault};
 ghost use Rattle.answers.specs.Meaning.{answer};
 ghost use Rattle.answers.specs.Calls.{replyOf, entryEarly, entryFault, judgeFault, matrixEarly, matrixFault, bytesAfter, numbersAfter};
-ghost use Rattle.lists.specs.Calls.{Outcome};
+ghost use Rattle.lists.specs.Calls.{listEarly, listBefore, listAnswer, listAfter, workAfter};
 ghost use Rattle.headings.specs.Calls.{headingsOf, headingFault, usersAfter, filesAfter};
 ghost use Rattle.blocks.specs.Reads.{ReadDone};
 ghost use Rattle.rights_c.specs.Replies.{reply, doneReply, refusedReply, verdictReply, entryReply, askedReply};
 ghost use Rattle.rights_c.specs.Replies.{listReply, headingReply, readReply, version};
-ghost use Rattle.lists.specs.declared.Listed.{Listed};
 ghost use Rattle.blocks.specs.declared.Reading.{Reading};
 use answers::Entry;
 use blocks::Reading;
@@ -179,7 +178,18 @@ pub extern "C" fn rights_list(
     list: &mut [u16],
     work: &mut [u8],
 ) -> Reply
-    ensures { λ r. ⌜ ((l : Listed) × (r ≡ listReply l) × Outcome (now (boxes .entry)) (now (rows .entry)) (now (arrows .entry)) mode (now (scratch .entry)) (now (list .entry)) (now (work .entry)) l (now (scratch .exit)) (now (list .exit)) (now (work .exit))) ⌝ }
+    ensures { λ r. ⌜ r ≡ listReply (listAnswer (now (boxes .entry)) (now (rows .entry)) (now (arrows .entry)) mode
+        (listBefore (now (boxes .entry)) (now (rows .entry)) (now (arrows .entry)) mode
+        (now (scratch .entry)) (now (list .entry)) (now (work .entry)))) ⌝ }
+    ensures { λ _. ⌜ now (scratch .exit)
+        ≡ scratchAfter (listEarly (now (boxes .entry)) (now (rows .entry)) (now (arrows .entry)) mode
+        (now (scratch .entry)) (now (list .entry)) (now (work .entry))) (now (boxes .entry)) (now (rows .entry)) (now (scratch .entry)) ⌝ }
+    ensures { λ _. ⌜ now (list .exit) ≡ listAfter (now (boxes .entry)) (now (rows .entry)) (now (arrows .entry)) mode
+        (listBefore (now (boxes .entry)) (now (rows .entry)) (now (arrows .entry)) mode
+        (now (scratch .entry)) (now (list .entry)) (now (work .entry))) (now (list .entry)) ⌝ }
+    ensures { λ _. ⌜ now (work .exit) ≡ workAfter (now (boxes .entry)) (now (rows .entry)) (now (arrows .entry)) mode
+        (listBefore (now (boxes .entry)) (now (rows .entry)) (now (arrows .entry)) mode
+        (now (scratch .entry)) (now (list .entry)) (now (work .entry))) (now (work .entry)) ⌝ }
 {
     of_list(lists::list(boxes, rows, arrows, scratch, mode, list, work))
 }

@@ -1,4 +1,4 @@
--- `lists::order` meets its contract: the list so far is honest, has no arrow twice, and the work bytes show it. Assumes nothing.
+-- `lists::order` meets its contract: the first `count` places of the list are written, and the work bytes show them. Assumes nothing.
 use mathlib.Core.Path.{_≡_, sym, ap, ap₂, subst, _∙_}
 use Prim.Native.Nat.{ℕ, _-_, _<_}
 use native.Mathlib.Omega.{arith}
@@ -50,7 +50,7 @@ room c l =
     let at-loop = c .before .before .before .before in
     let start = at-loop .before .before .before .before .before .before .before .before .before .before in
     let a = start .args in
-    growing-room (a .boxes .now) (a .rows .now) (a .arrows .now) (a .mode) (touches (a .table .now) (a .g)) (a .own .now) (a .out .now) (a .work .now) (given start) (at-loop .loop .inv .0) (c .pick .result) l (picked c .holds l)
+    growing-room (a .boxes .now) (a .rows .now) (a .arrows .now) (a .mode) (touches (a .table .now) (a .g)) (a .own .now) (a .out .now) (a .work .now) (given start) (at-loop .loop .inv .0) (c .pick .result) l (picked c .holds l) (picked c .none-before)
 
 marks : (c : tie.After-mark Inv-loop μ-loop) →
     let at-pick = c .before .before .before .before .before .before .before in
@@ -136,7 +136,7 @@ loop-again c =
     let start = at-loop .before .before .before .before .before .before .before .before .before .before in
     let a = start .args in
     let k = at-pick .pick in
-    let n = growing-next (a .boxes .now) (a .rows .now) (a .arrows .now) (a .mode) (touches (a .table .now) (a .g)) (a .own .now) (a .out .now) (a .work .now) (given start) (at-loop .loop .inv .0) (k .result) (at-if1 .if1 .left) (picked at-pick .holds (at-if1 .if1 .left)) _ _ (k .ensures .1 .0) (k .ensures .1 .1) in
+    let n = growing-next (a .boxes .now) (a .rows .now) (a .arrows .now) (a .mode) (touches (a .table .now) (a .g)) (a .own .now) (a .out .now) (a .work .now) (given start) (at-loop .loop .inv .0) (k .result) (at-if1 .if1 .left) (picked at-pick .holds (at-if1 .if1 .left)) (picked at-pick .none-before) _ _ (k .ensures .1 .0) (k .ensures .1 .1) in
     (rw (marks (c .before .before)) n, k .kept .1 .1 .1 .1 .1 .0 ∙ at-loop .loop .inv .1, k .kept .1 .1 .1 .1 .1 .1 .0 ∙ at-loop .loop .inv .2)
 
 pub order-spec : {M : Type 1} → statement M
