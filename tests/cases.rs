@@ -1,6 +1,6 @@
-//! The lettered pictures A to J, the three traps, the limits and some orders of refusals, with
-//! expectations written by hand from document 01. Each is put to the library through the Rust
-//! package and to the model.
+//! The lettered pictures A to J, the three traps, lists, the limits and some orders of refusals,
+//! with expectations written by hand from documents 01 and 02. Each is put to the library through
+//! the Rust package and to the model.
 
 use super::checker::{self, Answer, Known, Lists, Tables};
 use super::compare_answer;
@@ -23,8 +23,7 @@ struct Case {
 
 enum List {
     Refused(Refused),
-    /// All lists without repeats that will do.
-    OneOf(&'static [&'static [u16]]),
+    Written(&'static [u16]),
 }
 
 const NONE: u16 = 65_535;
@@ -38,7 +37,7 @@ const CASES: &[Case] = &[
         judge: None,
         matrix: Some((&[], &[])),
         entries: &[],
-        list: List::OneOf(&[&[]]),
+        list: List::Written(&[]),
     },
     Case {
         name: "B: a person against the group; trap 1 would make it unclear",
@@ -48,7 +47,7 @@ const CASES: &[Case] = &[
         judge: None,
         matrix: Some((&[1, 0], &[0, 1])),
         entries: &[(0, 3, Answer::Granted(0)), (1, 3, Answer::Denied(1))],
-        list: List::OneOf(&[&[0], &[0, 1]]),
+        list: List::Written(&[0, 1]),
     },
     Case {
         name: "C: both signs between two boxes",
@@ -71,25 +70,14 @@ const CASES: &[Case] = &[
         list: List::Refused((12, [0, 0, 3])),
     },
     Case {
-        name: "E: D, settled by a single arrow",
+        name: "E: D, settled by a single arrow; the list holds arrow 0, not the certificate",
         boxes: &[0, 0, 0, 1],
         rows: &[1, 0, 2, 0],
         arrows: &[1, 3, 0, 1, 2, 3, 0, 0, 0, 3, 0, 1],
         judge: None,
         matrix: Some((&[1], &[2])),
         entries: &[(0, 3, Answer::Granted(2))],
-        list: List::OneOf(&[
-            &[0],
-            &[0, 1],
-            &[0, 2],
-            &[0, 1, 2],
-            &[0, 2, 1],
-            &[2],
-            &[2, 0],
-            &[2, 1],
-            &[2, 0, 1],
-            &[2, 1, 0],
-        ]),
+        list: List::Written(&[0]),
     },
     Case {
         name: "F: deeper by one end each",
@@ -109,7 +97,7 @@ const CASES: &[Case] = &[
         judge: None,
         matrix: Some((&[0], &[NONE])),
         entries: &[(0, 1, Answer::Default)],
-        list: List::OneOf(&[&[]]),
+        list: List::Written(&[]),
     },
     Case {
         name: "H: a box inside itself",
@@ -129,7 +117,7 @@ const CASES: &[Case] = &[
         judge: None,
         matrix: Some((&[1], &[0])),
         entries: &[(0, 2, Answer::Granted(0))],
-        list: List::OneOf(&[&[0], &[1], &[0, 1], &[1, 0]]),
+        list: List::Written(&[0]),
     },
     Case {
         name: "J: the ring; trap 3 would write a list",
@@ -167,7 +155,7 @@ const CASES: &[Case] = &[
         judge: Some((12, [7, 0, 1])),
         matrix: Some((&[0], &[NONE])),
         entries: &[(0, 1, Answer::Default)],
-        list: List::OneOf(&[&[]]),
+        list: List::Written(&[]),
     },
     Case {
         name: "two granted pairs that need two arrows",
@@ -177,7 +165,7 @@ const CASES: &[Case] = &[
         judge: None,
         matrix: Some((&[1, 1], &[0, 1])),
         entries: &[(0, 2, Answer::Granted(0)), (1, 2, Answer::Granted(1))],
-        list: List::OneOf(&[&[0, 1], &[1, 0]]),
+        list: List::Written(&[0, 1]),
     },
     Case {
         name: "unclear shows the positive arrow first, also the higher one",
@@ -197,7 +185,7 @@ const CASES: &[Case] = &[
         judge: None,
         matrix: Some((&[0, 1], &[NONE, 0])),
         entries: &[(0, 3, Answer::Default), (2, 3, Answer::Granted(0))],
-        list: List::OneOf(&[&[0]]),
+        list: List::Written(&[0]),
     },
     Case {
         name: "the lowest box on a loop, not below it",
@@ -208,6 +196,101 @@ const CASES: &[Case] = &[
         matrix: None,
         entries: &[],
         list: List::Refused((10, [1, 0, 0])),
+    },
+    Case {
+        name: "users only: no pairs",
+        boxes: &[0, 0],
+        rows: &[],
+        arrows: &[],
+        judge: None,
+        matrix: Some((&[], &[])),
+        entries: &[],
+        list: List::Written(&[]),
+    },
+    Case {
+        name: "B, its arrow rows swapped: the group's arrow is blocked by user 0 at first",
+        boxes: &[0, 0, 0, 1],
+        rows: &[2, 0, 2, 1],
+        arrows: &[2, 3, 0, 0, 0, 3, 0, 1],
+        judge: None,
+        matrix: Some((&[1, 0], &[1, 0])),
+        entries: &[(0, 3, Answer::Granted(1)), (1, 3, Answer::Denied(0))],
+        list: List::Written(&[1, 0]),
+    },
+    Case {
+        name: "one negative arrow, which no granted pair needs",
+        boxes: &[0, 1],
+        rows: &[],
+        arrows: &[0, 1, 0, 0],
+        judge: None,
+        matrix: Some((&[0], &[0])),
+        entries: &[(0, 1, Answer::Denied(0))],
+        list: List::Written(&[0]),
+    },
+    Case {
+        name: "repeated arrows: the lowest number only",
+        boxes: &[0, 0, 1],
+        rows: &[],
+        arrows: &[1, 2, 0, 0, 0, 2, 0, 1, 0, 2, 0, 1, 1, 2, 0, 0],
+        judge: None,
+        matrix: Some((&[1, 0], &[1, 0])),
+        entries: &[(0, 2, Answer::Granted(1)), (1, 2, Answer::Denied(0))],
+        list: List::Written(&[0, 1]),
+    },
+    Case {
+        // Arrow 0 from group 3 must wait for arrow 1, as it would deny user 0. Then it is the
+        // lowest that can follow, and stands before arrow 2, which could follow from the start.
+        name: "an arrow that was blocked stands behind a higher one and before another",
+        boxes: &[0, 0, 0, 0, 1],
+        rows: &[3, 0, 3, 1],
+        arrows: &[3, 4, 0, 0, 0, 4, 0, 1, 2, 4, 0, 1],
+        judge: None,
+        matrix: Some((&[1, 0, 1], &[1, 0, 2])),
+        entries: &[(1, 4, Answer::Denied(0)), (2, 4, Answer::Granted(2))],
+        list: List::Written(&[1, 0, 2]),
+    },
+    Case {
+        // Arrow 4 opens the ring. Arrow 0 is blocked by (1,7) until arrow 3 reaches that, and by
+        // then it reaches nothing new.
+        name: "J with a positive arrow from 0 to 7: arrow 0 never appears",
+        boxes: &[0, 0, 0, 0, 0, 0, 1, 1, 1, 1, 1, 1],
+        rows: &[
+            2, 0, 2, 5, 3, 0, 4, 3, 4, 1, 5, 1, 8, 7, 9, 8, 9, 6, 10, 6, 11, 10, 11, 7,
+        ],
+        arrows: &[2, 8, 0, 1, 3, 9, 0, 0, 4, 10, 0, 1, 5, 11, 0, 0, 0, 7, 0, 1],
+        judge: None,
+        matrix: Some((&[0, 1, 1, 0], &[1, 0, 2, 3])),
+        entries: &[(0, 7, Answer::Granted(0)), (1, 7, Answer::Denied(3))],
+        list: List::Written(&[4, 1, 2, 3]),
+    },
+    Case {
+        // J with a user in front and a file behind, joined by arrow 4, which can stand in a list.
+        name: "13 names the pair that is left, not the first granted one",
+        boxes: &[0, 0, 0, 0, 0, 0, 0, 1, 1, 1, 1, 1, 1, 1],
+        rows: &[
+            3, 1, 3, 6, 4, 1, 5, 4, 5, 2, 6, 2, 9, 8, 10, 9, 10, 7, 11, 7, 12, 11, 12, 8,
+        ],
+        arrows: &[
+            3, 9, 0, 1, 4, 10, 0, 0, 5, 11, 0, 1, 6, 12, 0, 0, 0, 13, 0, 1,
+        ],
+        judge: None,
+        matrix: Some((
+            &[0, 0, 1, 0, 1, 0, 1, 0, 0],
+            &[NONE, NONE, 4, 1, 0, NONE, 2, 3, NONE],
+        )),
+        entries: &[(0, 13, Answer::Granted(4)), (1, 8, Answer::Granted(0))],
+        list: List::Refused((13, [0, 1, 8])),
+    },
+    Case {
+        // Arrow 0 reaches both users, and arrows 1 and 2 only what it reached before.
+        name: "arrows that reach nothing new never appear",
+        boxes: &[0, 0, 0, 1],
+        rows: &[2, 0, 2, 1],
+        arrows: &[2, 3, 0, 1, 0, 3, 0, 1, 1, 3, 0, 1],
+        judge: None,
+        matrix: Some((&[1, 1], &[0, 0])),
+        entries: &[(0, 3, Answer::Granted(0)), (1, 3, Answer::Granted(0))],
+        list: List::Written(&[0]),
     },
 ];
 
@@ -449,20 +532,32 @@ fn model_numbers<T>(result: &Result<T, checker::Refusal>) -> Option<Refused> {
     result.as_ref().err().map(|r| (r.number, r.places))
 }
 
+impl Case {
+    fn lend(&self) -> lent::Tables<'static> {
+        lent::Tables {
+            boxes: self.boxes,
+            containments: self.rows,
+            arrows: self.arrows,
+        }
+    }
+
+    fn known(&self) -> Known {
+        Known::new(&Tables {
+            boxes: self.boxes.to_vec(),
+            rows: self.rows.to_vec(),
+            arrows: self.arrows.to_vec(),
+        })
+    }
+
+    /// How many pairs it has. Of the cases without a matrix none has any.
+    fn pairs(&self) -> usize {
+        self.matrix.map_or(0, |(bytes, _)| bytes.len())
+    }
+}
+
 fn one_case(case: &Case, report: &mut Report) {
-    let Case { boxes, rows, .. } = *case;
-    let tables = Tables {
-        boxes: boxes.to_vec(),
-        rows: rows.to_vec(),
-        arrows: case.arrows.to_vec(),
-    };
-    let known = Known::new(&tables);
-    let picture = lent::Tables {
-        boxes,
-        containments: rows,
-        arrows: case.arrows,
-    };
-    let needed = boxes.len() * boxes.len();
+    let (picture, known, pairs) = (case.lend(), case.known(), case.pairs());
+    let needed = case.boxes.len() * case.boxes.len();
     let mut scratch = vec![9; needed];
 
     let what = format!("{}: judge", case.name);
@@ -480,7 +575,6 @@ fn one_case(case: &Case, report: &mut Report) {
     }
 
     let what = format!("{}: matrix", case.name);
-    let pairs = case.matrix.map_or(0, |(bytes, _)| bytes.len());
     let (mut bytes, mut arrows) = (vec![9; pairs], vec![9; pairs]);
     let got = picture.matrix(0, &mut scratch, &mut bytes, &mut arrows);
     let model = checker::matrix(
@@ -503,41 +597,48 @@ fn one_case(case: &Case, report: &mut Report) {
         }
     }
 
+    one_list(case, 0, report);
+    one_list(case, 1, report);
+}
+
+/// The list of mode 0, with so many list places and work bytes more than needed.
+fn one_list(case: &Case, spare: usize, report: &mut Report) {
     let what = format!("{}: list", case.name);
+    let pairs = case.pairs();
     let places = case.arrows.chunks(4).filter(|row| row[2] == 0).count();
-    let (mut list, mut work) = (vec![9; places], vec![9; pairs]);
-    let got = picture.list(0, &mut scratch, &mut list, &mut work);
-    let model = checker::list(
-        &known,
-        0,
-        &vec![9; needed],
-        &vec![9; places],
-        &vec![9; pairs],
-    );
-    match case.list {
-        List::Refused(want) => {
-            report.same(&what, numbers(&got), Some(want));
-            report.same(&what, model_numbers(&model.result), Some(want));
-        }
-        List::OneOf(lists) => {
-            report.same(&what, numbers(&got), None);
-            let count = got.unwrap_or(0).min(places);
-            report.same(&what, lists.contains(&&list[..count]), true);
-            report.same(&what, work, vec![0; pairs]);
-            report.same(&what, model_numbers(&model.result), None);
-            // The model takes exactly the lists that stand in the table.
-            let Ok(p) = known.sound() else { return };
-            let mut tried: Vec<Vec<u16>> = vec![Vec::new()];
-            while let Some(list) = tried.pop() {
-                let will_do = Lists::new(p, 0).will_do(&list).is_ok();
-                report.same(&what, will_do, lists.contains(&&list[..]));
-                for k in p.of_mode(0) {
-                    if !list.contains(&(k as u16)) {
-                        tried.push([&list[..], &[k as u16]].concat());
-                    }
-                }
-            }
-        }
+    let mut scratch = vec![9; case.boxes.len() * case.boxes.len()];
+    let (mut list, mut work) = (vec![9; places + spare], vec![9; pairs + spare]);
+    let (mut want_list, mut want_work) = (list.clone(), work.clone());
+    let model = checker::list(&case.known(), 0, &scratch, &list, &work);
+    let got = case.lend().list(0, &mut scratch, &mut list, &mut work);
+
+    // The result, the first list places afterwards, and how many work bytes are 0 then.
+    let (result, first, zeros) = match case.list {
+        List::Written(list) => (Ok(list.len()), list.to_vec(), pairs),
+        List::Refused(refused @ (13, _)) => (Err(refused), vec![NONE; places], pairs),
+        List::Refused(refused) => (Err(refused), vec![], 0),
+    };
+    want_list[..first.len()].copy_from_slice(&first);
+    want_work[..zeros].fill(0);
+    let want = (result, want_list, want_work);
+    let got = got.map_err(|refusal| refusal.numbers());
+    report.same(&what, (got, list, work), want.clone());
+    let got = model.result.map_err(|r| (r.number, r.places));
+    report.same(&what, (got, model.list, model.work), want);
+}
+
+/// Document 01 says of case B: "One list that qualifies is 0, 1; another is 0. The list 1, 0
+/// doesn't."
+fn lists_of_b(report: &mut Report) {
+    let known = Known::new(&Tables {
+        boxes: BOXES_B.to_vec(),
+        rows: ROWS_B.to_vec(),
+        arrows: vec![0, 3, 0, 1, 2, 3, 0, 0],
+    });
+    let lists = Lists::new(known.sound().expect("B has no fault"), 0);
+    for (list, qualifies) in [(&[0, 1][..], true), (&[0], true), (&[1, 0], false)] {
+        let what = format!("B: list {list:?} qualifies");
+        report.same(&what, lists.leaves(list) == Ok(None), qualifies);
     }
 }
 
@@ -738,6 +839,7 @@ pub fn run() -> Report {
     for case in CASES {
         one_case(case, &mut report);
     }
+    lists_of_b(&mut report);
     limits(&mut report);
     refused(&mut report);
     atoms(&mut report);

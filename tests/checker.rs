@@ -1,8 +1,8 @@
-//! The independent model: document 01 in plain Rust, written from its text alone.
+//! The independent model: document 01 and the order of lists in document 02 (request P3) in plain
+//! Rust, written from their text alone.
 //!
 //! Each call is a pure function from what was lent (the tables and the contents of every buffer
-//! before the call) to the answer and the contents of every buffer after it. Only the list is left
-//! free by the document; for it the model says which lists will do.
+//! before the call) to the answer and the contents of every buffer after it.
 
 pub const MOST_BOXES: usize = 256;
 pub const MOST_CONTAINMENTS: usize = 1024;
@@ -337,6 +337,31 @@ impl<'a> Lists<'a> {
             .map(|place| self.picture.pair(place))
     }
 
+    /// The list of the mode, in document 02's words: "At each place stands the lowest-numbered arrow
+    /// of the mode that can follow while the list stays honest and that reaches a pair nothing
+    /// earlier reached. The list ends when there is none."
+    pub fn place_by_place(&self) -> Vec<u16> {
+        let mut list = Vec::new();
+        let mut reached = vec![false; self.granted.len()];
+        while let Some(k) = (0..self.arrows.len()).find(|&k| self.stands_next(k, &reached)) {
+            let (number, _, pairs) = &self.arrows[k];
+            list.push(*number as u16);
+            for &place in pairs {
+                reached[place] = true;
+            }
+        }
+        list
+    }
+
+    /// Whether an honest list that reaches these pairs stays honest with one more arrow, and
+    /// reaches one more pair.
+    fn stands_next(&self, k: usize, reached: &[bool]) -> bool {
+        let (_, positive, pairs) = &self.arrows[k];
+        let mut more = pairs.clone();
+        more.retain(|&place| !reached[place]);
+        !more.is_empty() && more.iter().all(|&place| self.granted[place] == *positive)
+    }
+
     /// The first granted pair that no honest list reaches.
     ///
     /// By rounds: an arrow is usable if every pair that it would answer wrongly is reached by an
@@ -370,33 +395,42 @@ impl<'a> Lists<'a> {
     }
 
     /// Tries every list without repeats (a repeated arrow is never the first to reach a pair, so
-    /// repeats change nothing). Answers whether one honest list reaches every granted pair, and
-    /// the first granted pair that none of them reaches.
-    pub fn by_every_list(&self) -> (bool, Option<(usize, usize)>) {
+    /// repeats change nothing).
+    pub fn by_every_list(&self) -> Tried {
         let mut by_some = vec![false; self.granted.len()];
         let mut one_reaches_all = false;
+        let mut first: Vec<usize> = Vec::new();
         let mut lists: Vec<Vec<usize>> = vec![Vec::new()];
         while let Some(list) = lists.pop() {
-            if let Some(reached) = self.walk(&list) {
-                one_reaches_all |= self.first_granted_outside(&reached).is_none();
-                for (all, one) in by_some.iter_mut().zip(&reached) {
-                    *all |= one;
-                }
+            for k in (0..self.arrows.len()).filter(|k| !list.contains(k)) {
+                lists.push([&list[..], &[k]].concat());
             }
-            for k in 0..self.arrows.len() {
-                if !list.contains(&k) {
-                    let mut longer = list.clone();
-                    longer.push(k);
-                    lists.push(longer);
-                }
+            let Some(reached) = self.walk(&list) else {
+                continue;
+            };
+            one_reaches_all |= self.first_granted_outside(&reached).is_none();
+            for (all, one) in by_some.iter_mut().zip(&reached) {
+                *all |= one;
+            }
+            if self.each_reaches_more(&list) && goes_before(&list, &first) {
+                first = list;
             }
         }
-        (one_reaches_all, self.first_granted_outside(&by_some))
+        Tried {
+            one_reaches_all,
+            missed: self.first_granted_outside(&by_some),
+            list: first.iter().map(|&k| self.arrows[k].0 as u16).collect(),
+        }
     }
 
-    /// Whether a written list will do: arrows of the mode, none twice, honest, and every granted
-    /// pair reached.
-    pub fn will_do(&self, list: &[u16]) -> Result<(), String> {
+    /// Whether each arrow of an honest list reaches a pair that nothing earlier in it reaches.
+    fn each_reaches_more(&self, list: &[usize]) -> bool {
+        (0..list.len()).all(|k| self.walk(&list[..k]) != self.walk(&list[..k + 1]))
+    }
+
+    /// The first granted pair that a list leaves. The list must hold arrows of the mode only, none
+    /// twice, and be honest.
+    pub fn leaves(&self, list: &[u16]) -> Result<Option<(usize, usize)>, String> {
         let mut places = Vec::new();
         for &number in list {
             let Some(place) = self
@@ -411,14 +445,30 @@ impl<'a> Lists<'a> {
             }
             places.push(place);
         }
-        let Some(reached) = self.walk(&places) else {
-            return Err("the list is not honest".to_string());
-        };
-        match self.first_granted_outside(&reached) {
-            Some((user, file)) => Err(format!("granted pair {user}, {file} is not reached")),
-            None => Ok(()),
+        match self.walk(&places) {
+            Some(reached) => Ok(self.first_granted_outside(&reached)),
+            None => Err("the list is not honest".to_string()),
         }
     }
+}
+
+/// What trying every list of a mode shows.
+#[derive(Debug, PartialEq, Eq)]
+pub struct Tried {
+    /// Whether one honest list reaches every granted pair.
+    pub one_reaches_all: bool,
+    /// The first granted pair that no honest list reaches.
+    pub missed: Option<(usize, usize)>,
+    /// Of the honest lists in which each arrow reaches a pair that nothing earlier reached, the one
+    /// that goes before all others.
+    pub list: Vec<u16>,
+}
+
+/// Whether a list goes before another: at the first place where they differ it has the lower arrow,
+/// or the other has ended.
+fn goes_before(a: &[usize], b: &[usize]) -> bool {
+    let ended = [usize::MAX];
+    a.iter().chain(&ended).lt(b.iter().chain(&ended))
 }
 
 // ---------------------------------------------------------------------------------------------
@@ -577,17 +627,16 @@ fn matrix_into(known: &Known, mode: u16, end: &mut MatrixEnd) -> Result<(), Refu
 }
 
 pub struct ListEnd {
-    /// On success the list is any that [`list_will_do`] accepts.
-    pub result: Result<(), Refusal>,
+    /// How many arrows stand in the list.
+    pub result: Result<usize, Refusal>,
     pub scratch: Vec<u8>,
-    /// The list buffer after a refusal; after success its contents from the count on.
     pub list: Vec<u16>,
     pub work: Vec<u8>,
 }
 
 pub fn list(known: &Known, mode: u16, scratch: &[u8], list: &[u16], work: &[u8]) -> ListEnd {
     let mut end = ListEnd {
-        result: Ok(()),
+        result: Ok(0),
         scratch: scratch.to_vec(),
         list: list.to_vec(),
         work: work.to_vec(),
@@ -596,7 +645,7 @@ pub fn list(known: &Known, mode: u16, scratch: &[u8], list: &[u16], work: &[u8])
     end
 }
 
-fn list_into(known: &Known, mode: u16, end: &mut ListEnd) -> Result<(), Refusal> {
+fn list_into(known: &Known, mode: u16, end: &mut ListEnd) -> Result<usize, Refusal> {
     let p = known.sound()?;
     known_mode(mode)?;
     let needed_list = p.of_mode(mode).len();
@@ -608,35 +657,14 @@ fn list_into(known: &Known, mode: u16, end: &mut ListEnd) -> Result<(), Refusal>
         return refuse(12, mode as usize, user, file);
     }
     end.work[..p.pairs()].fill(0);
-    if let Some((user, file)) = Lists::new(p, mode).first_missed() {
+    let lists = Lists::new(p, mode);
+    if let Some((user, file)) = lists.first_missed() {
         end.list[..needed_list].fill(NO_ARROW);
         return refuse(13, mode as usize, user, file);
     }
-    Ok(())
-}
-
-/// Whether the list buffer, as it was before and as it is after a call that answered `count`,
-/// holds a list that will do, with every place from the count on untouched.
-pub fn list_will_do(
-    known: &Known,
-    mode: u16,
-    before: &[u16],
-    after: &[u16],
-    count: usize,
-) -> Result<(), String> {
-    let p = known
-        .sound()
-        .map_err(|r| format!("a list in spite of refusal {}", r.number))?;
-    if count > p.of_mode(mode).len() {
-        return Err(format!(
-            "{count} arrows counted, more than the mode's {}",
-            p.of_mode(mode).len()
-        ));
-    }
-    if before[count..] != after[count..] {
-        return Err("a list place beyond the count was touched".to_string());
-    }
-    Lists::new(p, mode).will_do(&after[..count])
+    let written = lists.place_by_place();
+    end.list[..written.len()].copy_from_slice(&written);
+    Ok(written.len())
 }
 
 // ---------------------------------------------------------------------------------------------

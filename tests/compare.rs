@@ -16,7 +16,7 @@ mod owned;
 #[cfg(model)]
 mod standin;
 
-use checker::{Answer, Known, Lists, Tables};
+use checker::{Answer, Known, Lists, Tables, Tried};
 use generator::Random;
 use rights::lent;
 use std::fmt::Debug;
@@ -66,8 +66,8 @@ impl Tally {
             self.calls, self.granted, self.denied, self.default, self.unclear, self.clear_pictures
         );
         println!(
-            "lists written {} with {} arrows, no order {} (not at the first granted pair {}); \
-             every list tried {} times",
+            "lists written {} with {} arrows, each asked for twice; no order {} (not at the \
+             first granted pair {}); every list tried {} times",
             self.lists,
             self.listed_arrows,
             self.refusals[13],
@@ -278,24 +278,47 @@ impl Trial<'_> {
             let later = r.number == 13 && p.first_granted(mode) != Some(named);
             self.tally.later_no_order += later as u64;
         }
-        self.same(&call, got.map(|_| ()), want.result)?;
+        self.same(&call, got, want.result)?;
         scratch.ends_as(&format!("{call}: scratch"), &want.scratch)?;
+        list.ends_as(&format!("{call}: list"), &want.list)?;
         work.ends_as(&format!("{call}: work"), &want.work)?;
-        match got {
-            Err(_) => list.ends_as(&format!("{call}: list"), &want.list)?,
-            Ok(count) => {
-                list.guards_kept(&format!("{call}: list"))?;
-                self.tally.lists += 1;
-                self.tally.listed_arrows += count as u64;
-                checker::list_will_do(self.known, mode, list.before(), list.after(), count)
-                    .map_err(|why| format!("{call}: {why}"))?;
-            }
+        if let Ok(count) = got {
+            self.tally.lists += 1;
+            self.tally.listed_arrows += count as u64;
+            self.list_again(mode, &list.after()[..count])?;
         }
-        self.try_every_list(mode)
+        self.model_list(mode)
     }
 
-    /// On tiny pictures, that the model's own way to look for lists agrees with trying them all.
-    fn try_every_list(&mut self, mode: u16) -> Result<(), String> {
+    /// That the mode's list is the same once more, with buffers of other lengths that suffice and
+    /// other contents.
+    fn list_again(&mut self, mode: u16, first: &[u16]) -> Result<(), String> {
+        let Known::Sound(p) = self.known else {
+            return Ok(());
+        };
+        let needed = [p.n * p.n, p.of_mode(mode).len(), p.pairs()];
+        // Longer than any that suffice in `generator::lengths`.
+        let lengths = needed.map(|needed| needed + self.r.from_to(10, 15));
+        let mut scratch = bytes(&mut self.r, lengths[0]);
+        let mut list = words(&mut self.r, lengths[1]);
+        let mut work = bytes(&mut self.r, lengths[2]);
+        let got = self
+            .lent_tables()
+            .list(mode, scratch.lend(), list.lend(), work.lend())
+            .map(|count| list.after().get(..count));
+        if got == Ok(Some(first)) {
+            Ok(())
+        } else {
+            Err(format!(
+                "list of mode {mode}: {first:?}, but with other buffers {got:?}"
+            ))
+        }
+    }
+
+    /// That the model's list is honest and has no arrow twice, and that the first granted pair it
+    /// leaves is the first that no honest list reaches, which is found another way. On tiny modes
+    /// also that trying every list gives the same pair and the same list.
+    fn model_list(&mut self, mode: u16) -> Result<(), String> {
         let Known::Sound(p) = self.known else {
             return Ok(());
         };
@@ -303,16 +326,28 @@ impl Trial<'_> {
             return Ok(());
         }
         let lists = Lists::new(p, mode);
+        let (list, missed) = (lists.place_by_place(), lists.first_missed());
+        let left = lists.leaves(&list);
+        if left != Ok(missed) {
+            return Err(format!(
+                "model: list {list:?} of mode {mode} leaves {left:?}, should leave {missed:?}"
+            ));
+        }
         if !lists.is_tiny() {
             return Ok(());
         }
         self.tally.every_list_tried += 1;
-        let missed = lists.first_missed();
-        if lists.by_every_list() == (missed.is_none(), missed) {
+        let tried = lists.by_every_list();
+        let want = Tried {
+            one_reaches_all: missed.is_none(),
+            missed,
+            list,
+        };
+        if tried == want {
             Ok(())
         } else {
             Err(format!(
-                "model: trying every list of mode {mode} disagrees with {missed:?}"
+                "model: trying every list of mode {mode} gives {tried:?}, not {want:?}"
             ))
         }
     }

@@ -63,7 +63,7 @@ ways! {
     ListPositiveOnly: "negative arrows are never placed",
     ListTrialValues: "list places beyond the count are touched",
     ListAlwaysWritten: "no order is never said",
-    NoOrderTooEager: "no order if any arrow can't be placed",
+    NoOrderTooEager: "no order if any arrow is left out of the list",
     NoOrderFirstGranted: "13 names the first granted pair",
     NoOrderListKept: "13 leaves the list as it was",
     NoOrderListAll: "13 overwrites the list beyond the needed places",
@@ -89,6 +89,13 @@ ways! {
     TwelveByFile: "12 goes by file, then user",
     ListFirstPairOnly: "an arrow may follow if its first new pair fits",
     ListIgnoresReached: "an arrow is blocked by pairs reached before",
+    ListHighest: "at each place stands the highest arrow that can follow",
+    ListGoesOn: "the next arrow is looked for behind the last one, then from the lowest on",
+    ListEndsGranted: "the list ends once every granted pair is reached",
+    ListWithoutDenied: "arrows that are the first to reach denied pairs only are taken out of the list",
+    ListHighestRepeat: "of repeated arrows the highest number stands in the list",
+    ListNothingNew: "arrows that reach nothing new stand in the list too",
+    ListByLentWork: "the list depends on what the work bytes held",
     LongArrowNumbers: "arrow numbers are cut to a byte",
     LongMatrix: "pairs beyond place 255 are not written",
     LastArrowMissed: "the 512th arrow is missed",
@@ -615,6 +622,56 @@ fn matrix(
     reply(DONE, 0, 0, 0)
 }
 
+/// Whether an arrow that reaches these places can follow the chosen ones and reaches something new.
+/// A work byte is 0 or 1 for denied or granted, and 2 more once reached.
+fn can_follow(t: &Tables, k: usize, places: &[usize], work: &[u8], chosen: &[usize]) -> bool {
+    let other = !t.positive(k) as u8;
+    let fits = if is(Wrong::ListFirstPairOnly) {
+        places
+            .iter()
+            .find(|&&place| work[place] < 2)
+            .map(|&place| work[place])
+            != Some(other)
+    } else if is(Wrong::ListIgnoresReached) {
+        places.iter().all(|&place| work[place] % 2 != other)
+    } else {
+        places.iter().all(|&place| work[place] != other)
+    };
+    let new = if is(Wrong::ListNothingNew) {
+        !chosen.contains(&k)
+    } else {
+        places.iter().any(|&place| work[place] < 2)
+    };
+    fits && new
+        && (!is(Wrong::ListSinglePass) || chosen.iter().all(|&earlier| earlier <= k))
+        && (!is(Wrong::ListPositiveOnly) || t.positive(k))
+}
+
+/// The list: again and again the first of the arrows, given with the places they reach, that can
+/// follow. Marks the places reached.
+fn in_order(t: &Tables, arrows: &[(usize, Vec<usize>)], work: &mut [u8]) -> Vec<usize> {
+    let mut chosen = Vec::new();
+    let mut behind = 0;
+    loop {
+        if is(Wrong::ListEndsGranted) && !work.contains(&1) {
+            return chosen;
+        }
+        let from = if is(Wrong::ListGoesOn) { behind } else { 0 };
+        let next = (from..arrows.len())
+            .chain(0..from)
+            .find(|&i| can_follow(t, arrows[i].0, &arrows[i].1, work, &chosen));
+        let Some(i) = next else { return chosen };
+        chosen.push(arrows[i].0);
+        for &place in &arrows[i].1 {
+            work[place] |= 2;
+        }
+        if is(Wrong::ListOneArrow) {
+            return chosen;
+        }
+        behind = i + 1;
+    }
+}
+
 fn list(t: &Tables, mode: u16, scratch: &mut [u8], list: &mut [u16], work: &mut [u8]) -> Reply {
     if let Some(refused) = t.fault() {
         return refused;
@@ -658,7 +715,8 @@ fn list(t: &Tables, mode: u16, scratch: &mut [u8], list: &mut [u16], work: &mut 
     if is(Wrong::WorkCleanedBeyond) {
         work.fill(0);
     }
-    // A work byte is 0 or 1 for denied or granted, and 2 more once reached.
+    let highest = is(Wrong::ListHighest)
+        || is(Wrong::ListByLentWork) && work[..pairs].iter().any(|byte| byte % 2 == 1);
     let at = |place: usize| {
         let columns = world.files.len();
         (world.users[place / columns], world.files[place % columns])
@@ -667,44 +725,17 @@ fn list(t: &Tables, mode: u16, scratch: &mut [u8], list: &mut [u16], work: &mut 
         let (u, f) = at(place);
         work[place] = (world.cell(&of_mode, u, f).0 == GRANTED) as u8;
     }
-    let reached: Vec<(usize, Vec<usize>)> = of_mode
+    let mut reached: Vec<(usize, Vec<usize>)> = of_mode
         .iter()
         .map(|&k| {
             let hit = |place: &usize| world.reaches(k, at(*place).0, at(*place).1);
             (k, (0..pairs).filter(hit).collect())
         })
         .collect();
-    let mut chosen: Vec<usize> = Vec::new();
-    let mut from = 0;
-    loop {
-        // The lowest arrow that may follow and reaches something new.
-        let next = reached.iter().find(|(k, places)| {
-            let other = !t.positive(*k) as u8;
-            let fits = if is(Wrong::ListFirstPairOnly) {
-                places
-                    .iter()
-                    .find(|&&place| work[place] < 2)
-                    .map(|&place| work[place])
-                    != Some(other)
-            } else if is(Wrong::ListIgnoresReached) {
-                places.iter().all(|&place| work[place] % 2 != other)
-            } else {
-                places.iter().all(|&place| work[place] != other)
-            };
-            fits && places.iter().any(|&place| work[place] < 2)
-                && (!is(Wrong::ListSinglePass) || *k >= from)
-                && (!is(Wrong::ListPositiveOnly) || t.positive(*k))
-        });
-        let Some((k, places)) = next else { break };
-        from = *k;
-        chosen.push(*k);
-        for &place in places {
-            work[place] |= 2;
-        }
-        if is(Wrong::ListOneArrow) {
-            break;
-        }
+    if highest {
+        reached.reverse();
     }
+    let mut chosen = in_order(t, &reached, &mut work[..pairs]);
     let missed = (0..pairs).find(|&place| work[place] == 1);
     let first_granted = (0..pairs).find(|&place| work[place] % 2 == 1);
     if !is(Wrong::WorkDirty) {
@@ -737,6 +768,15 @@ fn list(t: &Tables, mode: u16, scratch: &mut [u8], list: &mut [u16], work: &mut 
         chosen = of_mode.clone();
         let depth = |b: usize| (0..t.n()).filter(|&o| world.inside(b, o)).count();
         chosen.sort_by_key(|&k| usize::MAX - depth(t.tail(k)) - depth(t.head(k)));
+    }
+    if is(Wrong::ListWithoutDenied) {
+        chosen.retain(|&k| t.positive(k));
+    }
+    if is(Wrong::ListHighestRepeat) {
+        let row = |k: usize| &t.arrows[4 * k..4 * k + 4];
+        for k in &mut chosen {
+            *k = *of_mode.iter().rfind(|&&m| row(m) == row(*k)).unwrap();
+        }
     }
     if is(Wrong::ListTwice) && chosen.len() < of_mode.len() {
         chosen.extend(chosen.last().copied());
