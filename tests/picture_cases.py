@@ -306,6 +306,12 @@ LISTS = [
     (B, 1, ENOUGH, "written 0", []),
     (B, 7, ENOUGH, "written 0", []),
     (B, 8, ENOUGH, "refused 8 8 0 0", []),
+    # B with its two arrows exchanged; E, whose certificate is 2; I; G without an arrow; one negative arrow
+    ((*B[:2], B[2][4:] + B[2][:4]), 0, ENOUGH, "written 2", [1, 0]),
+    (E, 0, ENOUGH, "written 1", [0]),
+    (I, 0, ENOUGH, "written 1", [0]),
+    (G, 0, ENOUGH, "written 0", []),
+    (([0, 1], [], [0, 1, 0, 0]), 0, ENOUGH, "written 1", [0]),
     # the ring J; J with an arrow to one granted pair, which lets the others follow; J beside a user with an arrow of its own
     (J, 0, ENOUGH, "refused 13 0 0 7", [65535] * 4),
     (J, 0, (144, 4, 4), "refused 13 0 0 7", [65535] * 4),

@@ -365,6 +365,17 @@ class Picture:
     def qualifying(self):
         return [order for order, pairs in self.lists() if pairs.issuperset(self.granted())]
 
+    def written(self):
+        """The list of document 02, P3: at each place the lowest-numbered arrow that can follow while the
+        list stays honest and that reaches a pair nothing earlier reached, until there is none."""
+        order = ()
+        while True:
+            longer = [order + (arrow,) for arrow in range(len(self.arrows))]
+            good = [more for more in longer if (self.reached(more) or set()) > self.reached(order)]
+            if not good:
+                return order
+            order = good[0]
+
     def out_of_reach(self):
         """The granted pairs that no honest list reaches."""
         pairs = set().union(*(pairs for _, pairs in self.lists()))
@@ -380,7 +391,7 @@ class Picture:
                     yield p, n, pair
 
     def compare(self):
-        """Holds the answers against document 01."""
+        """Holds the answers against document 01, and the list of B against document 02."""
         _, _, answers, judged = SAID[self.letter]
         mine = {} if self.looped else self.answers()
         agree = mine.keys() == answers.keys() and self.judged() == judged
@@ -388,12 +399,13 @@ class Picture:
         if self.letter == "B":
             good = self.qualifying()
             agree = agree and (0, 1) in good and (0,) in good and (1, 0) not in good
+            agree = agree and self.written() == (0, 1)
         if self.letter == "J":
             ring = {(0, 1), (1, 2), (2, 3), (3, 0)}
             agree = agree and {(p, n) for p, n, _ in self.steps()} == ring
             agree = agree and self.lists() == [((), set())] and self.out_of_reach()[0] == (0, 7)
         if not agree:
-            sys.exit(f"draw: the answers of {self.letter} are not those of document 01")
+            sys.exit(f"draw: the answers of {self.letter} are not those of documents 01 and 02")
 
     # -- labels --
 
@@ -607,11 +619,11 @@ def answers_of(picture):
         lines.append(f"**Matrix:** bytes {rows_of(bytes_, wide)}; arrows {rows_of(shown, wide)}")
     else:
         lines.append("**Matrix:** empty")
-    good = [", ".join(map(str, order)) or "the empty one" for order in picture.qualifying()]
+    order = picture.written()
     if refused:
         lines.append(f"**List:** {refused}")
-    elif good:
-        lines.append(f"**Lists that qualify:** {'; '.join(good)}")
+    elif order in picture.qualifying():
+        lines.append(f"**List:** {', '.join(map(str, order)) or 'empty'}")
     else:
         lines.append("**List:** refusal 13 with 0, {}, {}".format(*picture.out_of_reach()[0]))
     return lines
@@ -634,9 +646,10 @@ def page(pictures):
         "",
         "Above each picture stand its tables (boxes: 0 user side, 1 file side; containments: outer-inner;",
         "arrows: tail, head, mode, sign) and document 01 on what is drawn. Beside it: what judging says;",
-        "each pair (user, file) with its answer; the matrix, its rows parted by a stroke; and every list",
-        "without a repeat that qualifies, that is, each pair that it reaches gets the picture's answer from",
-        "the first arrow reaching it, and it reaches every granted pair. Last, document 01 on the answers.",
+        "each pair (user, file) with its answer; the matrix, its rows parted by a stroke; and the list in",
+        "the order that document 02 fixes (P3). Last, document 01 on the answers: a list qualifies if it has",
+        "no repeat, each pair that it reaches gets the picture's answer from the first arrow reaching it,",
+        "and it reaches every granted pair.",
     ]
     for picture in pictures:
         drawn, answered = SAID[picture.letter][:2]

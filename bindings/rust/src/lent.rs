@@ -166,8 +166,9 @@ impl Tables<'_> {
         reply.done()
     }
 
-    /// Writes a first-match list of a mode and answers how many places of `list` it takes. `list`
+    /// Writes the first-match list of a mode and answers how many places of `list` it takes. `list`
     /// needs a place for each arrow of the mode, `work` a byte for each pair, `scratch` n * n bytes.
+    /// Which arrow stands at each place: [`Picture::list`](crate::Picture::list).
     ///
     /// ```
     /// use rights::lent::Tables;
@@ -179,9 +180,7 @@ impl Tables<'_> {
     /// };
     /// let mut list = [0; 2];
     /// let count = picture.list(0, &mut [0; 16], &mut list, &mut [0; 2])?;
-    /// // One list that will do is 0, 1, another is 0; which of them is written is open.
-    /// assert_eq!(list[0], 0);
-    /// assert!(count == 1 || count == 2 && list[1] == 1);
+    /// assert_eq!(list[..count], [0, 1]);
     /// # Ok::<(), rights::Refusal>(())
     /// ```
     pub fn list(

@@ -176,11 +176,14 @@ impl Picture {
         Ok(Matrix::new(atoms, cells.collect()))
     }
 
-    /// A first-match list of a mode, for controllers that take the first line that reaches a pair
+    /// The first-match list of a mode, for controllers that take the first line that reaches a pair
     /// and deny what no line reaches. It holds numbers of the mode's arrows (places in
     /// [`Picture::arrows`]), none twice; each pair that it reaches gets the picture's answer from
-    /// the first arrow that reaches it, and every granted pair is reached. Which of several such
-    /// lists it is is open.
+    /// the first arrow that reaches it (the list is honest), and every granted pair is reached.
+    ///
+    /// At each place stands the lowest-numbered arrow that can follow while the list stays honest
+    /// and that reaches a pair nothing earlier reached; the list ends when there is none. So one
+    /// picture has one list, on every machine.
     ///
     /// Refused by [`Refusal::UnclearPair`] if the mode has an unclear pair, and by
     /// [`Refusal::NoOrder`] if there is no such list. In picture J there is none:
@@ -193,7 +196,7 @@ impl Picture {
     ///
     /// let file = std::fs::read("../../samples/B.blk").unwrap();
     /// let list = Picture::read(&file)?.list(Mode::new(0)?)?;
-    /// assert!(list == [0] || list == [0, 1]);
+    /// assert_eq!(list, [0, 1]);
     /// # Ok::<(), Refusal>(())
     /// ```
     pub fn list(&self, mode: Mode) -> Result<Vec<u16>, Refusal> {

@@ -18,7 +18,7 @@ use Rattle.lists.specs.declared.Listed.the-variants.{Written, Refused}
 use Rattle.tables.proofs.PartLaws.{part-is}
 use Rattle.tables.proofs.BufferLaws.{zeros-length}
 use Rattle.tables.proofs.Verdicts.{past, stop}
-use Rattle.lists.proofs.GreedyLaws.{greedy-grown}
+use Rattle.lists.proofs.NextLaws.{greedy-grown}
 use Rattle.lists.proofs.GrowLaws.{written-over, work-length, left-by, own-room}
 
 module _ (boxes rows arrows : List ℕ) (m : ℕ) where

@@ -1,9 +1,8 @@
 -- Document 02, P3: there is exactly one list in which the lowest-numbered arrow that can follow stands at each place (`fixed-order`),
 -- every call that writes a list writes that one (`fixed-list`), and so two calls on one picture write the same (`same-list`).
 -- Assumes nothing.
-use mathlib.Core.Path.{_≡_, refl, sym, ap, subst, _∙_}
+use mathlib.Core.Path.{_≡_, refl, sym, ap, _∙_}
 use mathlib.Core.Logic.{_↔_, ⊎-elim}
-use mathlib.Core.Bool.{Bool}
 use mathlib.Core.List.{List, [], _∷_, _++_}
 use mathlib.Core.Option.{Option, none, some}
 use Prim.Native.Nat.{ℕ, zero, suc, _<_, _≤_}
@@ -31,9 +30,9 @@ use Rattle.answers.proofs.PairLaws.{pair-place}
 use Rattle.lists.proofs.CountLaws.{anyOf-snoc}
 use Rattle.lists.proofs.MatchLaws.{honest-fits}
 use Rattle.lists.proofs.GreedyLaws.{honest-right, adds, addable-own, adds-new, addable-is, Grown, grown-none, grown-more}
-use Rattle.lists.proofs.GreedyLaws.{next-some, next-is, next-none, next-nothing, to-next, to-holds, to-grown, greedy-ends, greedy-is}
+use Rattle.lists.proofs.NextLaws.{next-some, next-is, next-none, next-nothing, to-next, to-holds, to-grown, greedy-ends, greedy-is}
 use Rattle.lists.proofs.CallLaws.{answered-list, answered-none}
-use Rattle.lists.proofs.ConditionLaws.{pair-at, reached-at, honest-pairs, not-both}
+use Rattle.lists.proofs.ConditionLaws.{pair-at, honest-pairs, not-both}
 
 module _ (boxes rows arrows : List ℕ) (m : ℕ) where
   -- ---- the tests say what the plain reading says
@@ -94,7 +93,7 @@ module _ (boxes rows arrows : List ℕ) (m : ℕ) where
       _ in
       record {
         at-each-place = both .1;
-        ends = λ k c. next-none boxes rows arrows m _ (greedy-ends boxes rows arrows m) k (plain-test _ k c);
+        ends = λ k c. absurd (next-none boxes rows arrows m _ (greedy-ends boxes rows arrows m) k (plain-test _ k c));
       }
 
   -- ---- and the only one
@@ -147,14 +146,14 @@ module _ (boxes rows arrows : List ℕ) (m : ℕ) where
   -- ---- the list that a call writes
 
   -- what a call answers and leaves in the list places, by what it was lent
-  abbrev answer : List ℕ → List ℕ → List ℕ → Listed
-  answer s out work = listAnswer boxes rows arrows m (listBefore boxes rows arrows m s out work)
+  abbrev answerTo : List ℕ → List ℕ → List ℕ → Listed
+  answerTo s out work = listAnswer boxes rows arrows m (listBefore boxes rows arrows m s out work)
 
-  abbrev places : List ℕ → List ℕ → List ℕ → List ℕ
-  places s out work = listAfter boxes rows arrows m (listBefore boxes rows arrows m s out work) out
+  abbrev placesAfter : List ℕ → List ℕ → List ℕ → List ℕ
+  placesAfter s out work = listAfter boxes rows arrows m (listBefore boxes rows arrows m s out work) out
 
   written-greedy : (s out work : List ℕ) → listBefore boxes rows arrows m s out work ≡ none
-      → (n : ℕ) → answer s out work ≡ Written n → take n (places s out work) ≡ greedy boxes rows arrows m
+      → (n : ℕ) → answerTo s out work ≡ Written n → take n (placesAfter s out work) ≡ greedy boxes rows arrows m
   written-greedy s out work passed n i = rw passed (go (orderFault boxes rows arrows m) refl (rw passed at i))
     where
       go : (x : Option Refusal) → orderFault boxes rows arrows m ≡ x → listAnswer boxes rows arrows m none ≡ Written n
@@ -167,14 +166,14 @@ module _ (boxes rows arrows : List ℕ) (m : ℕ) where
 
   -- wherever a list is written, it is the one in the fixed order
   pub fixed-list : (s out work : List ℕ) → listBefore boxes rows arrows m s out work ≡ none
-      → (n : ℕ) → answer s out work ≡ Written n → FixedOrder boxes rows arrows m (take n (places s out work))
+      → (n : ℕ) → answerTo s out work ≡ Written n → FixedOrder boxes rows arrows m (take n (placesAfter s out work))
   fixed-list s out work passed n i = rw (written-greedy s out work passed n i) greedy-fixed
 
   -- two calls that pass checks 1 to 12 answer the same and write the same list, whatever each was lent
   pub same-list : (s out work s′ out′ work′ : List ℕ)
       → listBefore boxes rows arrows m s out work ≡ none → listBefore boxes rows arrows m s′ out′ work′ ≡ none
-      → (answer s out work ≡ answer s′ out′ work′)
-      × ((n : ℕ) → answer s out work ≡ Written n → take n (places s out work) ≡ take n (places s′ out′ work′))
+      → (answerTo s out work ≡ answerTo s′ out′ work′)
+      × ((n : ℕ) → answerTo s out work ≡ Written n → take n (placesAfter s out work) ≡ take n (placesAfter s′ out′ work′))
   same-list s out work s′ out′ work′ p q =
-      let same : answer s out work ≡ answer s′ out′ work′ = rw (p, q) in
+      let same : answerTo s out work ≡ answerTo s′ out′ work′ = rw (p, q) in
       (same, λ n i. written-greedy s out work p n i ∙ sym (written-greedy s′ out′ work′ q n (sym same ∙ i)))

@@ -1,26 +1,22 @@
--- A list grown by arrows that may follow it stays honest and has no arrow twice. The list place after place (`listTo`), and its end.
+-- What the tests of lists say; a list grown by arrows that can be added stays honest and has no arrow twice.
 -- Assumes nothing.
-use mathlib.Core.Path.{_≡_, refl, sym, ap, subst, _∙_}
-use mathlib.Core.Logic.{_⊎_, inl, inr, ⊎-elim}
+use mathlib.Core.Path.{_≡_, refl, sym, subst}
 use mathlib.Core.Bool.{Bool, true, false, not, _&&_, _||_}
 use mathlib.Core.List.{List, [], _∷_, _++_}
 use mathlib.Core.Option.{Option, none, some}
-use Prim.Native.Nat.{ℕ, zero, suc, _+_, _<_, _≤_}
-use native.Mathlib.Nat.{eq-or-lt-of-le, le-of-suc-le-suc}
-use native.Mathlib.Numerals.{add-one}
+use Prim.Native.Nat.{ℕ, _+_, _<_, _≤_}
 use native.Mathlib.Omega.{arith}
 use lib.Dec.{T, T-not, not-T, ltb, ltb→lt}
-use lib.ListN.{length, length-append}
+use lib.ListN.{length}
 use Rattle.tables.specs.Search.{every, lowest, select}
 use Rattle.tables.specs.Rows.{arrowCount}
 use Rattle.tables.specs.Atoms.{pairCount}
 use Rattle.answers.specs.Meaning.{hasMode}
 use Rattle.lists.specs.Order.{anyOf, allOf, passes, distinct, firstOf, ofMode, meets, reached, right, honest}
-use Rattle.lists.specs.Greedy.{followed, new, fits, addable, next, listTo, greedy}
+use Rattle.lists.specs.Greedy.{new, fits, addable}
 use Rattle.tables.proofs.Tests.{T?, and-T, T-and}
 use Rattle.tables.proofs.SearchLaws.{lowest-some, lowest-none, every-at, every-is, some-none}
 use Rattle.tables.proofs.BufferLaws.{select-most}
-use Rattle.tables.proofs.SelectLaws.{lowest-is, lowest-nothing}
 use Rattle.lists.proofs.CountLaws.{allOf-snoc, distinct-snoc, anyOf-has, room}
 use Rattle.lists.proofs.MatchLaws.{Honest, Fits, Full, honest-none, honest-snoc}
 
@@ -143,7 +139,7 @@ module _ (boxes rows arrows : List ℕ) (m : ℕ) where
       (T-and (fits boxes rows arrows m l k) _ (fits-is l k f) (not-nowhere (new boxes rows arrows l k) pairs p b (is-new l k p r n)))
 
   -- no arrow can be added: the list is full
-  full : (l : List ℕ) → ((k : ℕ) → T (addable boxes rows arrows m l k) → ⊥) → Full pairs R Right (ofMode arrows m) l
+  pub full : (l : List ℕ) → ((k : ℕ) → T (addable boxes rows arrows m l k) → ⊥) → Full pairs R Right (ofMode arrows m) l
   full l none′ k o f p b r = go (T? (anyOf (R p) l))
     where
       go : Dec (T (anyOf (R p) l)) → T (anyOf (R p) l)
@@ -172,102 +168,9 @@ module _ (boxes rows arrows : List ℕ) (m : ℕ) where
         once = distinct-snoc l k (g .once) (λ h. n .3 (anyOf-has (R (n .0)) l k h (n .2)));
       }
 
-  -- ---- place after place
-
-  abbrev To : ℕ → List ℕ
-  To = listTo boxes rows arrows m
-
-  -- the arrow that is next can be added, and no lower one
-  pub next-some : (l : List ℕ) (k : ℕ) → next boxes rows arrows m l ≡ some k
-      → T (addable boxes rows arrows m l k) × ((j : ℕ) → j < k → T (addable boxes rows arrows m l j) → ⊥)
-  unfolding next
-  next-some l k e = let f = lowest-some (addable boxes rows arrows m l) (arrowCount arrows) k e in (f .1, f .2)
-
-  pub next-is : (l : List ℕ) (k : ℕ) → T (addable boxes rows arrows m l k)
-      → ((j : ℕ) → j < k → T (addable boxes rows arrows m l j) → ⊥) → next boxes rows arrows m l ≡ some k
-  unfolding next
-  next-is l k t b = lowest-is (addable boxes rows arrows m l) (arrowCount arrows) k (ofMode-there arrows m k (addable-own l k t)) t b
-
-  -- where none is next, none can be added
-  pub next-none : (l : List ℕ) → next boxes rows arrows m l ≡ none → (k : ℕ) → T (addable boxes rows arrows m l k) → ⊥
-  unfolding next
-  next-none l e k t =
-      lowest-none (addable boxes rows arrows m l) (arrowCount arrows) e k (ofMode-there arrows m k (addable-own l k t)) t
-
-  pub next-nothing : (l : List ℕ) → ((k : ℕ) → T (addable boxes rows arrows m l k) → ⊥) → next boxes rows arrows m l ≡ none
-  unfolding next
-  next-nothing l b = lowest-nothing (addable boxes rows arrows m l) (arrowCount arrows) (λ j h. b j)
-
-  -- one place more, and the end
-  pub to-next : (n k : ℕ) → next boxes rows arrows m (To n) ≡ some k → To (suc n) ≡ To n ++ (k ∷ [])
-  unfolding listTo followed
-  to-next n k e = rw e
-
-  to-end : (n : ℕ) → next boxes rows arrows m (To n) ≡ none → To (suc n) ≡ To n
-  unfolding listTo followed
-  to-end n e = rw e
-
-  -- a property that the next arrow keeps holds of the first n places
-  pub to-holds : (P : List ℕ → Type 0) → P [] → ((l : List ℕ) (k : ℕ) → P l → next boxes rows arrows m l ≡ some k → P (l ++ (k ∷ [])))
-      → (n : ℕ) → P (To n)
-  unfolding listTo followed
-  to-holds P z s zero = z
-  to-holds P z s (suc n) = go (next boxes rows arrows m (To n)) refl (to-holds P z s n)
-    where
-      go : (r : Option ℕ) → next boxes rows arrows m (To n) ≡ r → P (To n) → P (followed (To n) r)
-      go none e h = h
-      go (some k) e h = s (To n) k h e
-
-  -- the first n places are honest and have no arrow twice
-  pub to-grown : (n : ℕ) → Grown (To n)
-  to-grown = to-holds Grown grown-none (λ l k g e. grown-more l k g (next-some l k e .0))
-
-  -- so there are no more of them than arrows
+  -- so it is no longer than there are arrows
   pub grown-room : (l : List ℕ) → Grown l → length l ≤ length (select (ofMode arrows m) (arrowCount arrows))
   grown-room l g = room (ofMode arrows m) (arrowCount arrows) l (ofMode-there arrows m) (honest-own l (g .is-honest)) (g .once)
 
-  grown-most : (l : List ℕ) → Grown l → length l ≤ arrowCount arrows
+  pub grown-most : (l : List ℕ) → Grown l → length l ≤ arrowCount arrows
   grown-most l g = omega (arith, grown-room l g, select-most (ofMode arrows m) (arrowCount arrows))
-
-  -- there are n, unless the list ended before
-  to-length : (n : ℕ) → (next boxes rows arrows m (To n) ≡ none) ⊎ (length (To n) ≡ n)
-  unfolding listTo
-  to-length zero = inr refl
-  to-length (suc n) = go (next boxes rows arrows m (To n)) refl (to-length n)
-    where
-      go : (r : Option ℕ) → next boxes rows arrows m (To n) ≡ r → (next boxes rows arrows m (To n) ≡ none) ⊎ (length (To n) ≡ n)
-          → (next boxes rows arrows m (To (suc n)) ≡ none) ⊎ (length (To (suc n)) ≡ suc n)
-      go none e h = inl (ap (next boxes rows arrows m) (to-end n e) ∙ e)
-      go (some k) e h =
-          ⊎-elim (λ i. absurd (some-none (sym e ∙ i)))
-          (λ i. inr (ap length (to-next n k e) ∙ length-append (To n) (k ∷ []) ∙ ap (λ (j : ℕ). j + 1) i ∙ add-one n)) h
-
-  -- where it ended it stays
-  to-stays : (n : ℕ) → next boxes rows arrows m (To n) ≡ none → (c : ℕ) → n ≤ c → To c ≡ To n
-  to-stays n e zero h = let z : zero ≡ n = omega arith in ap To z
-  to-stays n e (suc c) h = ⊎-elim (λ i. sym (ap To i)) (λ l. more (to-stays n e c (le-of-suc-le-suc l))) (eq-or-lt-of-le h)
-    where
-      more : To c ≡ To n → To (suc c) ≡ To n
-      more i = to-end c (ap (next boxes rows arrows m) i ∙ e) ∙ i
-
-  -- the list has ended
-  pub greedy-ends : next boxes rows arrows m (greedy boxes rows arrows m) ≡ none
-  unfolding greedy
-  greedy-ends = ⊎-elim (λ e. e) (λ e. next-nothing (To (arrowCount arrows)) (λ k t. too-long k t e)) (to-length (arrowCount arrows))
-    where
-      too-long : (k : ℕ) → T (addable boxes rows arrows m (To (arrowCount arrows)) k) → length (To (arrowCount arrows)) ≡ arrowCount arrows → ⊥
-      too-long k t e =
-          let l = To (arrowCount arrows) in
-          omega (arith, length-append l (k ∷ []), grown-most (l ++ (k ∷ [])) (grown-more l k (to-grown (arrowCount arrows)) t))
-
-  -- so it is the first n places, where none is next after them
-  pub greedy-is : (n : ℕ) → length (To n) ≡ n → next boxes rows arrows m (To n) ≡ none → greedy boxes rows arrows m ≡ To n
-  unfolding greedy
-  greedy-is n i e = to-stays n e (arrowCount arrows) (omega (arith, grown-most (To n) (to-grown n)))
-
-  pub greedy-grown : Grown (greedy boxes rows arrows m)
-  unfolding greedy
-  greedy-grown = to-grown (arrowCount arrows)
-
-  pub greedy-full : Full pairs R Right (ofMode arrows m) (greedy boxes rows arrows m)
-  greedy-full = full (greedy boxes rows arrows m) (next-none (greedy boxes rows arrows m) greedy-ends)

@@ -3,6 +3,7 @@ pub mod CountLaws
 pub mod MatchLaws
 pub mod PlaceLaws
 pub mod GreedyLaws
+pub mod NextLaws
 pub mod OrderLaws
 pub mod StepLaws
 pub mod GrowLaws

@@ -19,7 +19,8 @@ use Rattle.tables.proofs.Tests.{and-T, T-and, T-true, not-false}
 use Rattle.tables.proofs.SearchLaws.{first-none, first-some, first-is, first-nothing, every-at, every-is}
 use Rattle.tables.proofs.SearchLaws.{given-none, given-some, given-true, given-false}
 use Rattle.lists.proofs.MatchLaws.{maximal}
-use Rattle.lists.proofs.GreedyLaws.{implies, implied, honest-own, honest-right, greedy-grown, greedy-full}
+use Rattle.lists.proofs.GreedyLaws.{implies, implied, honest-own, honest-right}
+use Rattle.lists.proofs.NextLaws.{greedy-grown, greedy-full}
 
 module _ (boxes rows arrows : List ℕ) (m : ℕ) where
   abbrev pairs : ℕ

@@ -15,7 +15,7 @@ use Rattle.lists.specs.Order.{meets}
 use Rattle.lists.specs.Greedy.{listTo}
 use Rattle.lists.specs.Steps.{followsAt, marked, Behind, ownSign, nothing, Clear, workOf, Ordered}
 use Rattle.tables.proofs.BufferLaws.{written-none, written-more, written-length}
-use Rattle.lists.proofs.GreedyLaws.{to-next, to-grown, greedy-is}
+use Rattle.lists.proofs.NextLaws.{to-next, to-grown, greedy-is}
 use Rattle.lists.proofs.GrowLaws.{work-length, own-room, own-there, follows-next, follows-none, mark-shown, mark-grew, behind-grew, behind-none}
 
 module _ (boxes rows arrows : List ℕ) (m : ℕ) (touch : ℕ → ℕ → Bool) (own out₀ work₀ : List ℕ) where

@@ -8,7 +8,7 @@ use lib.Dec.{T, eqb, ltb}
 use lib.ListN.{length, getD}
 use Rattle.tables.specs.Search.{first, given, every, bit}
 use Rattle.tables.specs.Buffers.{build, written}
-use Rattle.tables.specs.Rows.{user, file, arrowCount, arrowAt}
+use Rattle.tables.specs.Rows.{arrowCount, arrowAt}
 use Rattle.tables.specs.Atoms.{pairCount}
 use Rattle.tables.specs.Refusals.{noOrder}
 use Rattle.tables.specs.declared.Refusal.{Refusal}
