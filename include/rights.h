@@ -221,10 +221,10 @@ rights_reply rights_matrix(
  *   the picture's answer from the first arrow in the list that reaches the pair: a positive
  *   arrow gives granted, a negative one denied. At each place of the list that is written
  *   stands the lowest-numbered arrow of the mode that can follow while the list stays honest
- *   and that reaches a pair nothing earlier reached; the list ends when there is none. So one
- *   picture has one list, on every machine. It is honest, has no arrow twice, of repeated arrows
- *   only the lowest number, and reaches every granted pair. Arrows that only deny stand in it
- *   too, although what no arrow of it reaches is denied anyway.
+ *   and that reaches a pair nothing earlier reached; the list ends when there is none. So a mode
+ *   of one picture has one list, on every machine. It is honest, has no arrow twice, of repeated
+ *   arrows only the lowest number, and reaches every granted pair. Arrows that only deny stand in
+ *   it too.
  *   Asks     a mode 0 to 7; scratch of n * n bytes; list of a place for each arrow of the mode;
  *            work of a byte for each pair.
  *   Answers  DONE with a, the count of arrows in the list, or REFUSED by the first of 1 to 10,

@@ -182,8 +182,8 @@ impl Picture {
     /// the first arrow that reaches it (the list is honest), and every granted pair is reached.
     ///
     /// At each place stands the lowest-numbered arrow that can follow while the list stays honest
-    /// and that reaches a pair nothing earlier reached; the list ends when there is none. So one
-    /// picture has one list, on every machine.
+    /// and that reaches a pair nothing earlier reached; the list ends when there is none. So a mode
+    /// of one picture has one list, on every machine.
     ///
     /// Refused by [`Refusal::UnclearPair`] if the mode has an unclear pair, and by
     /// [`Refusal::NoOrder`] if there is no such list. In picture J there is none:
