@@ -3,6 +3,7 @@
 -- Assumes nothing.
 use mathlib.Core.Path.{_≡_, refl, sym, ap, _∙_}
 use mathlib.Core.Logic.{_↔_, ⊎-elim}
+use mathlib.Core.Bool.{Bool}
 use mathlib.Core.List.{List, [], _∷_, _++_}
 use mathlib.Core.Option.{Option, none, some}
 use Prim.Native.Nat.{ℕ, zero, suc, _<_, _≤_}
@@ -35,9 +36,30 @@ use Rattle.lists.proofs.CallLaws.{answered-list, answered-none}
 use Rattle.lists.proofs.ConditionLaws.{pair-at, honest-pairs, not-both}
 
 module _ (boxes rows arrows : List ℕ) (m : ℕ) where
+  abbrev Follows : List ℕ → ℕ → Type 0
+  Follows = CanFollow boxes rows arrows m
+
+  abbrev Low : List ℕ → ℕ → Type 0
+  Low = Lowest boxes rows arrows m
+
+  abbrev HonestOnce : List ℕ → Type 0
+  HonestOnce = Grown boxes rows arrows m
+
+  abbrev Can : List ℕ → ℕ → Bool
+  Can = addable boxes rows arrows m
+
+  abbrev Next : List ℕ → Option ℕ
+  Next = next boxes rows arrows m
+
+  abbrev To : ℕ → List ℕ
+  To = listTo boxes rows arrows m
+
+  abbrev list : List ℕ
+  list = greedy boxes rows arrows m
+
   -- ---- the tests say what the plain reading says
 
-  test-plain : (l : List ℕ) (k : ℕ) → Grown boxes rows arrows m l → T (addable boxes rows arrows m l k) → CanFollow boxes rows arrows m l k
+  test-plain : (l : List ℕ) (k : ℕ) → HonestOnce l → T (Can l k) → Follows l k
   unfolding meets
   test-plain l k g t =
       let n = adds-new boxes rows arrows m l k t in
@@ -51,7 +73,7 @@ module _ (boxes rows arrows : List ℕ) (m : ℕ) where
         nothing-earlier = n .3;
       }
 
-  plain-test : (l : List ℕ) (k : ℕ) → CanFollow boxes rows arrows m l k → T (addable boxes rows arrows m l k)
+  plain-test : (l : List ℕ) (k : ℕ) → Follows l k → T (Can l k)
   unfolding meets
   plain-test l k c =
       let p = pair-place boxes rows (c .user) (c .file) (c .is-pair .0) (c .is-pair .1) in
@@ -61,32 +83,32 @@ module _ (boxes rows arrows : List ℕ) (m : ℕ) where
       (honest-fits (pairCount boxes rows) (meets boxes rows arrows) (right boxes rows arrows m) l k (honest-right boxes rows arrows m (l ++ (k ∷ [])) h))
       (p .0) (p .1) (rw (p .2, p .3) (c .reaches)) n
 
-  next-lowest : (l : List ℕ) (k : ℕ) → Grown boxes rows arrows m l → next boxes rows arrows m l ≡ some k → Lowest boxes rows arrows m l k
+  next-lowest : (l : List ℕ) (k : ℕ) → HonestOnce l → Next l ≡ some k → Low l k
   next-lowest l k g e =
       let s = next-some boxes rows arrows m l k e in
       record { can-follow = test-plain l k g (s .0); none-lower = λ j h c. s .1 j h (plain-test l j c) }
 
-  lowest-next : (l : List ℕ) (k : ℕ) → Grown boxes rows arrows m l → Lowest boxes rows arrows m l k → next boxes rows arrows m l ≡ some k
+  lowest-next : (l : List ℕ) (k : ℕ) → HonestOnce l → Low l k → Next l ≡ some k
   lowest-next l k g w =
       next-is boxes rows arrows m l k (plain-test l k (w .can-follow)) (λ j h t. w .none-lower j h (test-plain l j g t))
 
   -- ---- the list is such a list
 
   abbrev InPlace : List ℕ → Type 0
-  InPlace l = (i : ℕ) → i < length l → Lowest boxes rows arrows m (take i l) (getD l i 0)
+  InPlace l = (i : ℕ) → i < length l → Low (take i l) (getD l i 0)
 
-  in-place-more : (l : List ℕ) (k : ℕ) → InPlace l → Lowest boxes rows arrows m l k → InPlace (l ++ (k ∷ []))
+  in-place-more : (l : List ℕ) (k : ℕ) → InPlace l → Low l k → InPlace (l ++ (k ∷ []))
   in-place-more l k a w i h =
       ⊎-elim
       (λ e. rw (take-at l (k ∷ []) i (sym e), ap (λ (j : ℕ). getD (l ++ (k ∷ [])) j 0) e ∙ getD-append-seam l k [] 0) w)
       (λ q. rw (take-append-le i l (k ∷ []) (omega arith), List·getD-append l (k ∷ []) 0 i q) (a i q))
       (below-suc (rw (length-append, add-one) at h))
 
-  greedy-fixed : FixedOrder boxes rows arrows m (greedy boxes rows arrows m)
+  greedy-fixed : FixedOrder boxes rows arrows m list
   unfolding greedy
   greedy-fixed =
       let both =
-      to-holds boxes rows arrows m (λ l. Grown boxes rows arrows m l × InPlace l)
+      to-holds boxes rows arrows m (λ l. HonestOnce l × InPlace l)
       (grown-none boxes rows arrows m, λ i h. absurd (omega arith))
       (λ l k b e.
       (grown-more boxes rows arrows m l k (b .0) (next-some boxes rows arrows m l k e .0), in-place-more l k (b .1) (next-lowest l k (b .0) e)))
@@ -99,24 +121,24 @@ module _ (boxes rows arrows : List ℕ) (m : ℕ) where
   -- ---- and the only one
 
   module _ (l : List ℕ) (o : FixedOrder boxes rows arrows m l) where
-    begins : (i : ℕ) → i ≤ length l → take i l ≡ listTo boxes rows arrows m i
+    begins : (i : ℕ) → i ≤ length l → take i l ≡ To i
     unfolding listTo
     begins zero h = refl
     begins (suc i) h = more (begins i (omega arith))
       where
-        more : take i l ≡ listTo boxes rows arrows m i → take (suc i) l ≡ listTo boxes rows arrows m (suc i)
+        more : take i l ≡ To i → take (suc i) l ≡ To (suc i)
         more e =
             take-suc l i 0 h
             ∙ ap (λ (x : List ℕ). x ++ (getD l i 0 ∷ [])) e
             ∙ sym (to-next boxes rows arrows m i (getD l i 0)
             (lowest-next _ (getD l i 0) (to-grown boxes rows arrows m i) (rw e at (o .at-each-place i h))))
 
-    only-one : l ≡ greedy boxes rows arrows m
+    only-one : l ≡ list
     only-one =
-        let e : l ≡ listTo boxes rows arrows m (length l) = sym (take-length l) ∙ begins (length l) (omega arith) in
-        let g : Grown boxes rows arrows m l = rw e (to-grown boxes rows arrows m (length l)) in
+        let e : l ≡ To (length l) = sym (take-length l) ∙ begins (length l) (omega arith) in
+        let g : HonestOnce l = rw e (to-grown boxes rows arrows m (length l)) in
         let n = next-nothing boxes rows arrows m l (λ k t. o .ends k (test-plain l k g t)) in
-        e ∙ sym (greedy-is boxes rows arrows m (length l) (sym (ap length e)) (sym (ap (next boxes rows arrows m) e) ∙ n))
+        e ∙ sym (greedy-is boxes rows arrows m (length l) (sym (ap length e)) (sym (ap Next e) ∙ n))
 
   -- there is exactly one list in the fixed order
   pub fixed-order : (l : List ℕ) → FixedOrder boxes rows arrows m l ↔ (l ≡ greedy boxes rows arrows m)
@@ -124,7 +146,7 @@ module _ (boxes rows arrows : List ℕ) (m : ℕ) where
 
   -- of repeated arrows only the lowest number stands in it
   same-arrow : (l : List ℕ) (j k : ℕ) → arrowAt arrows j ≡ arrowAt arrows k → T (ofMode arrows m j)
-      → T (addable boxes rows arrows m l k) → T (addable boxes rows arrows m l j)
+      → T (Can l k) → T (Can l j)
   unfolding meets right
   same-arrow l j k e o t =
       let n = adds-new boxes rows arrows m l k t in
@@ -153,15 +175,15 @@ module _ (boxes rows arrows : List ℕ) (m : ℕ) where
   placesAfter s out work = listAfter boxes rows arrows m (listBefore boxes rows arrows m s out work) out
 
   written-greedy : (s out work : List ℕ) → listBefore boxes rows arrows m s out work ≡ none
-      → (n : ℕ) → answerTo s out work ≡ Written n → take n (placesAfter s out work) ≡ greedy boxes rows arrows m
+      → (n : ℕ) → answerTo s out work ≡ Written n → take n (placesAfter s out work) ≡ list
   written-greedy s out work passed n i = rw passed (go (orderFault boxes rows arrows m) refl (rw passed at i))
     where
       go : (x : Option Refusal) → orderFault boxes rows arrows m ≡ x → listAnswer boxes rows arrows m none ≡ Written n
-          → take n (listAfter boxes rows arrows m none out) ≡ greedy boxes rows arrows m
+          → take n (listAfter boxes rows arrows m none out) ≡ list
       go none e w =
           let a = answered-list boxes rows arrows m e out in
-          let k : n ≡ length (greedy boxes rows arrows m) = cc (a .0) in
-          part-is (greedy boxes rows arrows m) out n _ (k, sym (a .1))
+          let k : n ≡ length list = cc (a .0) in
+          part-is list out n _ (k, sym (a .1))
       go (some x) e w = absurd (not-both w (sym (answered-none boxes rows arrows m x e out .0)))
 
   -- wherever a list is written, it is the one in the fixed order

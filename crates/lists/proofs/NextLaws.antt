@@ -2,6 +2,7 @@
 -- Assumes nothing.
 use mathlib.Core.Path.{_≡_, refl, sym, ap, _∙_}
 use mathlib.Core.Logic.{_⊎_, inl, inr, ⊎-elim}
+use mathlib.Core.Bool.{Bool}
 use mathlib.Core.List.{List, [], _∷_, _++_}
 use mathlib.Core.Option.{Option, none, some}
 use Prim.Native.Nat.{ℕ, zero, suc, _+_, _<_, _≤_}
@@ -20,51 +21,60 @@ use Rattle.lists.proofs.MatchLaws.{Full}
 use Rattle.lists.proofs.GreedyLaws.{ofMode-there, addable-own, full, Grown, grown-none, grown-more, grown-most}
 
 module _ (boxes rows arrows : List ℕ) (m : ℕ) where
+  abbrev Can : List ℕ → ℕ → Bool
+  Can = addable boxes rows arrows m
+
+  abbrev Next : List ℕ → Option ℕ
+  Next = next boxes rows arrows m
+
   abbrev To : ℕ → List ℕ
   To = listTo boxes rows arrows m
+
+  abbrev list : List ℕ
+  list = greedy boxes rows arrows m
 
   -- ---- which arrow is next
 
   -- the arrow that is next can be added, and no lower one
-  pub next-some : (l : List ℕ) (k : ℕ) → next boxes rows arrows m l ≡ some k
-      → T (addable boxes rows arrows m l k) × ((j : ℕ) → j < k → T (addable boxes rows arrows m l j) → ⊥)
+  pub next-some : (l : List ℕ) (k : ℕ) → Next l ≡ some k
+      → T (Can l k) × ((j : ℕ) → j < k → T (Can l j) → ⊥)
   unfolding next
-  next-some l k e = let f = lowest-some (addable boxes rows arrows m l) (arrowCount arrows) k e in (f .1, f .2)
+  next-some l k e = let f = lowest-some (Can l) (arrowCount arrows) k e in (f .1, f .2)
 
-  pub next-is : (l : List ℕ) (k : ℕ) → T (addable boxes rows arrows m l k)
-      → ((j : ℕ) → j < k → T (addable boxes rows arrows m l j) → ⊥) → next boxes rows arrows m l ≡ some k
+  pub next-is : (l : List ℕ) (k : ℕ) → T (Can l k)
+      → ((j : ℕ) → j < k → T (Can l j) → ⊥) → Next l ≡ some k
   unfolding next
-  next-is l k t b = lowest-is (addable boxes rows arrows m l) (arrowCount arrows) k (ofMode-there arrows m k (addable-own boxes rows arrows m l k t)) t b
+  next-is l k t b = lowest-is (Can l) (arrowCount arrows) k (ofMode-there arrows m k (addable-own boxes rows arrows m l k t)) t b
 
   -- where none is next, none can be added
-  pub next-none : (l : List ℕ) → next boxes rows arrows m l ≡ none → (k : ℕ) → T (addable boxes rows arrows m l k) → ⊥
+  pub next-none : (l : List ℕ) → Next l ≡ none → (k : ℕ) → T (Can l k) → ⊥
   unfolding next
   next-none l e k t =
-      lowest-none (addable boxes rows arrows m l) (arrowCount arrows) e k (ofMode-there arrows m k (addable-own boxes rows arrows m l k t)) t
+      lowest-none (Can l) (arrowCount arrows) e k (ofMode-there arrows m k (addable-own boxes rows arrows m l k t)) t
 
-  pub next-nothing : (l : List ℕ) → ((k : ℕ) → T (addable boxes rows arrows m l k) → ⊥) → next boxes rows arrows m l ≡ none
+  pub next-nothing : (l : List ℕ) → ((k : ℕ) → T (Can l k) → ⊥) → Next l ≡ none
   unfolding next
-  next-nothing l b = lowest-nothing (addable boxes rows arrows m l) (arrowCount arrows) (λ j h. b j)
+  next-nothing l b = lowest-nothing (Can l) (arrowCount arrows) (λ j h. b j)
 
   -- ---- the first n places
 
   -- one place more, and the end
-  pub to-next : (n k : ℕ) → next boxes rows arrows m (To n) ≡ some k → To (suc n) ≡ To n ++ (k ∷ [])
+  pub to-next : (n k : ℕ) → Next (To n) ≡ some k → To (suc n) ≡ To n ++ (k ∷ [])
   unfolding listTo followed
   to-next n k e = rw e
 
-  to-end : (n : ℕ) → next boxes rows arrows m (To n) ≡ none → To (suc n) ≡ To n
+  to-end : (n : ℕ) → Next (To n) ≡ none → To (suc n) ≡ To n
   unfolding listTo followed
   to-end n e = rw e
 
   -- a property that the next arrow keeps holds of the first n places
-  pub to-holds : (P : List ℕ → Type 0) → P [] → ((l : List ℕ) (k : ℕ) → P l → next boxes rows arrows m l ≡ some k → P (l ++ (k ∷ [])))
+  pub to-holds : (P : List ℕ → Type 0) → P [] → ((l : List ℕ) (k : ℕ) → P l → Next l ≡ some k → P (l ++ (k ∷ [])))
       → (n : ℕ) → P (To n)
   unfolding listTo followed
   to-holds P z s zero = z
-  to-holds P z s (suc n) = go (next boxes rows arrows m (To n)) refl (to-holds P z s n)
+  to-holds P z s (suc n) = go (Next (To n)) refl (to-holds P z s n)
     where
-      go : (r : Option ℕ) → next boxes rows arrows m (To n) ≡ r → P (To n) → P (followed (To n) r)
+      go : (r : Option ℕ) → Next (To n) ≡ r → P (To n) → P (followed (To n) r)
       go none e h = h
       go (some k) e h = s (To n) k h e
 
@@ -73,46 +83,46 @@ module _ (boxes rows arrows : List ℕ) (m : ℕ) where
   to-grown = to-holds (Grown boxes rows arrows m) (grown-none boxes rows arrows m) (λ l k g e. grown-more boxes rows arrows m l k g (next-some l k e .0))
 
   -- there are n, unless the list ended before
-  to-length : (n : ℕ) → (next boxes rows arrows m (To n) ≡ none) ⊎ (length (To n) ≡ n)
+  to-length : (n : ℕ) → (Next (To n) ≡ none) ⊎ (length (To n) ≡ n)
   unfolding listTo
   to-length zero = inr refl
-  to-length (suc n) = go (next boxes rows arrows m (To n)) refl (to-length n)
+  to-length (suc n) = go (Next (To n)) refl (to-length n)
     where
-      go : (r : Option ℕ) → next boxes rows arrows m (To n) ≡ r → (next boxes rows arrows m (To n) ≡ none) ⊎ (length (To n) ≡ n)
-          → (next boxes rows arrows m (To (suc n)) ≡ none) ⊎ (length (To (suc n)) ≡ suc n)
-      go none e h = inl (ap (next boxes rows arrows m) (to-end n e) ∙ e)
+      go : (r : Option ℕ) → Next (To n) ≡ r → (Next (To n) ≡ none) ⊎ (length (To n) ≡ n)
+          → (Next (To (suc n)) ≡ none) ⊎ (length (To (suc n)) ≡ suc n)
+      go none e h = inl (ap Next (to-end n e) ∙ e)
       go (some k) e h =
           ⊎-elim (λ i. absurd (some-none (sym e ∙ i)))
           (λ i. inr (ap length (to-next n k e) ∙ length-append (To n) (k ∷ []) ∙ ap (λ (j : ℕ). j + 1) i ∙ add-one n)) h
 
   -- where it ended it stays
-  to-stays : (n : ℕ) → next boxes rows arrows m (To n) ≡ none → (c : ℕ) → n ≤ c → To c ≡ To n
+  to-stays : (n : ℕ) → Next (To n) ≡ none → (c : ℕ) → n ≤ c → To c ≡ To n
   to-stays n e zero h = let z : zero ≡ n = omega arith in ap To z
   to-stays n e (suc c) h = ⊎-elim (λ i. sym (ap To i)) (λ l. more (to-stays n e c (le-of-suc-le-suc l))) (eq-or-lt-of-le h)
     where
       more : To c ≡ To n → To (suc c) ≡ To n
-      more i = to-end c (ap (next boxes rows arrows m) i ∙ e) ∙ i
+      more i = to-end c (ap Next i ∙ e) ∙ i
 
   -- ---- the list
 
   -- it has ended
-  pub greedy-ends : next boxes rows arrows m (greedy boxes rows arrows m) ≡ none
+  pub greedy-ends : Next list ≡ none
   unfolding greedy
   greedy-ends = ⊎-elim (λ e. e) (λ e. next-nothing (To (arrowCount arrows)) (λ k t. too-long k t e)) (to-length (arrowCount arrows))
     where
-      too-long : (k : ℕ) → T (addable boxes rows arrows m (To (arrowCount arrows)) k) → length (To (arrowCount arrows)) ≡ arrowCount arrows → ⊥
+      too-long : (k : ℕ) → T (Can (To (arrowCount arrows)) k) → length (To (arrowCount arrows)) ≡ arrowCount arrows → ⊥
       too-long k t e =
           let l = To (arrowCount arrows) in
           omega (arith, length-append l (k ∷ []), grown-most boxes rows arrows m (l ++ (k ∷ [])) (grown-more boxes rows arrows m l k (to-grown (arrowCount arrows)) t))
 
   -- so it is the first n places, where none is next after them
-  pub greedy-is : (n : ℕ) → length (To n) ≡ n → next boxes rows arrows m (To n) ≡ none → greedy boxes rows arrows m ≡ To n
+  pub greedy-is : (n : ℕ) → length (To n) ≡ n → Next (To n) ≡ none → list ≡ To n
   unfolding greedy
   greedy-is n i e = to-stays n e (arrowCount arrows) (omega (arith, grown-most boxes rows arrows m (To n) (to-grown n)))
 
-  pub greedy-grown : Grown boxes rows arrows m (greedy boxes rows arrows m)
+  pub greedy-grown : Grown boxes rows arrows m list
   unfolding greedy
   greedy-grown = to-grown (arrowCount arrows)
 
-  pub greedy-full : Full (pairCount boxes rows) (meets boxes rows arrows) (right boxes rows arrows m) (ofMode arrows m) (greedy boxes rows arrows m)
-  greedy-full = full boxes rows arrows m (greedy boxes rows arrows m) (next-none (greedy boxes rows arrows m) greedy-ends)
+  pub greedy-full : Full (pairCount boxes rows) (meets boxes rows arrows) (right boxes rows arrows m) (ofMode arrows m) list
+  greedy-full = full boxes rows arrows m list (next-none list greedy-ends)
