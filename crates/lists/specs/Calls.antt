@@ -34,7 +34,7 @@ module _ (boxes rows arrows : List ℕ) (m : ℕ) where
       (orElse (scratchFault (length boxes) s)
       (orElse (roomFault 3 (length out) listRoom) (roomFault 4 (length work) (pairCount boxes rows)))))
 
-  -- checks 1 to 12, before which nothing is written to the list and the work bytes; 12 is about this mode
+  -- checks 1 to 12, of which 12 is about this mode: nothing is written to the list and the work bytes before all have passed
   unfoldable pub listBefore : List ℕ → List ℕ → List ℕ → Option Refusal
   listBefore s out work = orElse (listEarly s out work) (orElse (loopFault boxes rows) (unclearFault boxes rows arrows m))
 

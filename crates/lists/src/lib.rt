@@ -407,9 +407,10 @@ fn mode_count(arrows: &[u16], mode: u16) -> usize
     mode_arrows(arrows, mode, &mut own)
 }
 
-// The first-match list of a mode (document 01, "What may be asked"): how many places of `out` hold it, or the refusal. Checks 1 to
-// 10, 12 in this mode, and 13. The scratch needs a byte for each pair of boxes, `out` a place for each arrow of the mode, and `work`
-// a byte for each pair. Costs a few steps for each pair and arrow of the mode, besides the answers of all pairs.
+// The first-match list of a mode (document 01, "What may be asked"), in the order of document 02, P3: how many places of `out` hold it,
+// or the refusal. Checks 1 to 10, 12 in this mode, and 13. The scratch needs a byte for each pair of boxes, `out` a place for each
+// arrow of the mode, and `work` a byte for each pair. Costs a few steps for each pair and arrow of the mode, besides the answers of all
+// pairs.
 pub fn list(
     boxes: &[u8],
     rows: &[u16],
