@@ -40,7 +40,7 @@ module _ (boxes rows arrows : List ℕ) (m : ℕ) where
 module _ (boxes rows arrows : List ℕ) (m : ℕ) (out work : List ℕ) (count : ℕ) (out′ work′ : List ℕ)
     (o : Ordered boxes rows arrows m out work count out′ work′) where
   -- what the work bytes leave is refusal 13
-  pub left-order : leftIn boxes rows m work′ ≡ orderFault boxes rows arrows m
+  left-order : leftIn boxes rows m work′ ≡ orderFault boxes rows arrows m
   unfolding orderFault
   left-order = ap (leftIn boxes rows m) (o .shown) ∙ left-by boxes rows arrows m (greedy boxes rows arrows m) work
 

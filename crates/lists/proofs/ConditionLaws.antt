@@ -51,7 +51,7 @@ module _ (boxes rows arrows : List ℕ) (m : ℕ) where
   unfolding granted
   granted-at p = let e = answer-at boxes rows arrows m p in (λ t. rw e at t, λ t. rw e t)
 
-  pub reached-at : (l : List ℕ) (p : ℕ)
+  reached-at : (l : List ℕ) (p : ℕ)
       → T (reached boxes rows arrows l p) ↔ Reaches boxes rows arrows l (userAt boxes rows p) (fileAt boxes rows p)
   unfolding reached meets
   reached-at l p = (λ t. t, λ t. t)
@@ -101,7 +101,7 @@ module _ (boxes rows arrows : List ℕ) (m : ℕ) where
   -- ---- what is written
 
   -- checks 1 to 12 leave a place for each arrow of the mode
-  pub room-for : (s out work : List ℕ) → listBefore boxes rows arrows m s out work ≡ none → length (modeArrows arrows m) ≤ length out
+  room-for : (s out work : List ℕ) → listBefore boxes rows arrows m s out work ≡ none → length (modeArrows arrows m) ≤ length out
   unfolding listEarly listBefore
   room-for s out work e =
       rooms boxes rows arrows m s out work

@@ -48,14 +48,8 @@ module _ (boxes rows arrows : List ℕ) (m : ℕ) where
   abbrev Can : List ℕ → ℕ → Bool
   Can = addable boxes rows arrows m
 
-  abbrev Next : List ℕ → Option ℕ
-  Next = next boxes rows arrows m
-
   abbrev To : ℕ → List ℕ
   To = listTo boxes rows arrows m
-
-  abbrev list : List ℕ
-  list = greedy boxes rows arrows m
 
   -- ---- the tests say what the plain reading says
 
@@ -83,12 +77,12 @@ module _ (boxes rows arrows : List ℕ) (m : ℕ) where
       (honest-fits (pairCount boxes rows) (meets boxes rows arrows) (right boxes rows arrows m) l k (honest-right boxes rows arrows m (l ++ (k ∷ [])) h))
       (p .0) (p .1) (rw (p .2, p .3) (c .reaches)) n
 
-  next-lowest : (l : List ℕ) (k : ℕ) → HonestOnce l → Next l ≡ some k → Low l k
+  next-lowest : (l : List ℕ) (k : ℕ) → HonestOnce l → next boxes rows arrows m l ≡ some k → Low l k
   next-lowest l k g e =
       let s = next-some boxes rows arrows m l k e in
       record { can-follow = test-plain l k g (s .0); none-lower = λ j h c. s .1 j h (plain-test l j c) }
 
-  lowest-next : (l : List ℕ) (k : ℕ) → HonestOnce l → Low l k → Next l ≡ some k
+  lowest-next : (l : List ℕ) (k : ℕ) → HonestOnce l → Low l k → next boxes rows arrows m l ≡ some k
   lowest-next l k g w =
       next-is boxes rows arrows m l k (plain-test l k (w .can-follow)) (λ j h t. w .none-lower j h (test-plain l j g t))
 
@@ -104,7 +98,7 @@ module _ (boxes rows arrows : List ℕ) (m : ℕ) where
       (λ q. rw (take-append-le i l (k ∷ []) (omega arith), List·getD-append l (k ∷ []) 0 i q) (a i q))
       (below-suc (rw (length-append, add-one) at h))
 
-  greedy-fixed : FixedOrder boxes rows arrows m list
+  greedy-fixed : FixedOrder boxes rows arrows m (greedy boxes rows arrows m)
   unfolding greedy
   greedy-fixed =
       let both =
@@ -133,12 +127,12 @@ module _ (boxes rows arrows : List ℕ) (m : ℕ) where
             ∙ sym (to-next boxes rows arrows m i (getD l i 0)
             (lowest-next _ (getD l i 0) (to-grown boxes rows arrows m i) (rw e at (o .at-each-place i h))))
 
-    only-one : l ≡ list
+    only-one : l ≡ greedy boxes rows arrows m
     only-one =
         let e : l ≡ To (length l) = sym (take-length l) ∙ begins (length l) (omega arith) in
         let g : HonestOnce l = rw e (to-grown boxes rows arrows m (length l)) in
         let n = next-nothing boxes rows arrows m l (λ k t. o .ends k (test-plain l k g t)) in
-        e ∙ sym (greedy-is boxes rows arrows m (length l) (sym (ap length e)) (sym (ap Next e) ∙ n))
+        e ∙ sym (greedy-is boxes rows arrows m (length l) (sym (ap length e)) (sym (ap (next boxes rows arrows m) e) ∙ n))
 
   -- there is exactly one list in the fixed order
   pub fixed-order : (l : List ℕ) → FixedOrder boxes rows arrows m l ↔ (l ≡ greedy boxes rows arrows m)
@@ -175,15 +169,15 @@ module _ (boxes rows arrows : List ℕ) (m : ℕ) where
   placesAfter s out work = listAfter boxes rows arrows m (listBefore boxes rows arrows m s out work) out
 
   written-greedy : (s out work : List ℕ) → listBefore boxes rows arrows m s out work ≡ none
-      → (n : ℕ) → answerTo s out work ≡ Written n → take n (placesAfter s out work) ≡ list
+      → (n : ℕ) → answerTo s out work ≡ Written n → take n (placesAfter s out work) ≡ greedy boxes rows arrows m
   written-greedy s out work passed n i = rw passed (go (orderFault boxes rows arrows m) refl (rw passed at i))
     where
       go : (x : Option Refusal) → orderFault boxes rows arrows m ≡ x → listAnswer boxes rows arrows m none ≡ Written n
-          → take n (listAfter boxes rows arrows m none out) ≡ list
+          → take n (listAfter boxes rows arrows m none out) ≡ greedy boxes rows arrows m
       go none e w =
           let a = answered-list boxes rows arrows m e out in
-          let k : n ≡ length list = cc (a .0) in
-          part-is list out n _ (k, sym (a .1))
+          let k : n ≡ length (greedy boxes rows arrows m) = cc (a .0) in
+          part-is (greedy boxes rows arrows m) out n _ (k, sym (a .1))
       go (some x) e w = absurd (not-both w (sym (answered-none boxes rows arrows m x e out .0)))
 
   -- wherever a list is written, it is the one in the fixed order

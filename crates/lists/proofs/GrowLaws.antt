@@ -185,7 +185,7 @@ module _ (boxes rows arrows : List ℕ) (m : ℕ) where
   -- ---- the arrows of the mode, by their places
 
   module _ (own : List ℕ) (e : own ≡ modeArrows arrows m) where
-    pub own-mode : (t : ℕ) → t < length own → T (ofMode arrows m (getD own t 0))
+    own-mode : (t : ℕ) → t < length own → T (ofMode arrows m (getD own t 0))
     unfolding ofMode
     own-mode t h =
         let i = e ∙ mode-select arrows m in
