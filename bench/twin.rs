@@ -159,13 +159,18 @@ fn atoms_of(boxes: &[u8], rows: &[u16], side: u8, out: &mut [u16]) -> usize {
 
 // ---- Containment
 
-/// Fills the scratch by Warshall's rounds, each with a copy of its row.
+/// Sets the byte of each row's pair of boxes.
+fn mark(n: usize, rows: &[u16], scratch: &mut [u8], value: u8) {
+    for row in rows.chunks_exact(2) {
+        scratch[row[0] as usize * n + row[1] as usize] = value;
+    }
+}
+
+/// Fills the scratch by Warshall's rounds, each with a copy of its row, then marks the rows with 2.
 pub fn fill(n: usize, rows: &[u16], scratch: &mut [u8]) {
     let scratch = &mut scratch[..n * n];
     scratch.fill(0);
-    for row in rows.chunks_exact(2) {
-        scratch[row[0] as usize * n + row[1] as usize] = 1;
-    }
+    mark(n, rows, scratch, 1);
     let mut copy = [0u8; BOXES];
     let copy = &mut copy[..n];
     for k in 0..n {
@@ -178,6 +183,7 @@ pub fn fill(n: usize, rows: &[u16], scratch: &mut [u8]) {
             }
         }
     }
+    mark(n, rows, scratch, 2);
 }
 
 /// Fills the scratch, then check 10.

@@ -32,8 +32,11 @@
  *
  * Scratch
  *   n * n bytes for n boxes. Once refusals 1 to 9 are out of the question, byte a * n + b ends
- *   as 1 if box a contains box b, else 0; so too when the call is then refused with 10 or a
- *   later number. Its contents before the call don't matter.
+ *   as 2 if a row has box a as outer and box b as inner, else as 1 if a contains b, through
+ *   others only, else as 0; so too when the call is then refused with 10 or a later number. A
+ *   byte that isn't 0 thus says that a contains b. The names of the three values are
+ *   RIGHTS_CONTAINED_DIRECTLY, RIGHTS_CONTAINED_THROUGH_OTHERS and RIGHTS_NOT_CONTAINED. Its
+ *   contents before the call don't matter.
  *
  * In every array lent for writing, places beyond the needed length stay as they were.
  *
@@ -59,7 +62,7 @@ extern "C" {
 #endif
 
 /* The version that this header belongs to: major, minor and patch, one byte each. */
-#define RIGHTS_VERSION 0x010000u
+#define RIGHTS_VERSION 0x020000u
 
 /* Limits of a picture and of a block file. */
 #define RIGHTS_MAX_BOXES 256
@@ -162,6 +165,16 @@ enum {
     RIGHTS_ARROWS = 7,
     RIGHTS_ATOMIC_USERS = 11,
     RIGHTS_ATOMIC_FILES = 12
+};
+
+/*
+ * The bytes of the scratch: byte a * n + b is about boxes a and b. A row drawn twice is one row;
+ * boxes joined directly and through others are joined directly.
+ */
+enum {
+    RIGHTS_NOT_CONTAINED = 0,            /* a doesn't contain b */
+    RIGHTS_CONTAINED_THROUGH_OTHERS = 1, /* a contains b, and no row joins them */
+    RIGHTS_CONTAINED_DIRECTLY = 2        /* a row has a as outer box and b as inner */
 };
 
 /* Stands for "no arrow" in the matrix numbers, and in the list after refusal 13. */

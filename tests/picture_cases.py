@@ -91,8 +91,9 @@ def expected(boxes, rows, arrows, lent, mode, u, f, nb, nn):
     filled, loop, unclear = [], None, None
     users = files = []
     if not fault:
-        inside = closure(n, list(zip(rows[::2], rows[1::2])))
-        filled = [int(b in inside[a]) for a in range(n) for b in range(n)]
+        drawn = {*zip(rows[::2], rows[1::2])}
+        inside = closure(n, drawn)
+        filled = [2 if (a, b) in drawn else int(b in inside[a]) for a in range(n) for b in range(n)]
         own = [b for b in range(n) if b in inside[b]]
         loop = (10, own[0], 0, 0) if own else None
         users, files = (atoms(boxes, rows, side) for side in (0, 1))
@@ -287,7 +288,32 @@ FAULTS = [
     ([0, 0, 1], [1, 1], [], 9, 0, 1, 2, 1, 1),
     ([0, 1, 1], [1, 1], [0, 3, 9, 9], 9, 9, 9, 9, 0, 0),
 ]
-PICTURES = [(*case, *QUESTION) for case in CASES] + [worked(*w) for w in WORKED] + FAULTS
+
+# Scratches, worked by hand: a picture, and a digit for each byte of its scratch.
+SCRATCHES = [
+    # boxes 0 and 2 joined directly and through 1, and through 1 only; a repeated row
+    ([0, 0, 0], [0, 1, 1, 2, 0, 2], [], "022 002 000"),
+    ([0, 0, 0], [0, 1, 1, 2], [], "021 002 000"),
+    ([1, 1], [0, 1, 0, 1], [], "02 00"),
+    # a box in itself; two boxes in each other; a box in another and in itself; three in a ring, with a row across
+    ([0], [0, 0], [], "2"),
+    ([0, 0], [0, 1, 1, 0], [], "12 21"),
+    ([0, 0], [0, 1, 1, 1], [], "02 02"),
+    ([1, 1, 1], [0, 1, 1, 2, 2, 0, 0, 2], [], "122 112 211"),
+    # J
+    (*J, "000000000000 000000000000 210002000000 200000000000 120200000000 020000000000"
+         "000000000000 000000000000 000000020000 000000212000 000000200000 000000120020"),
+]
+
+
+def scratched(boxes, rows, arrows, digits):
+    """The case of such a picture, with a place beyond the needed ones. The model above is held to the digits."""
+    case = boxes, rows, arrows, len(boxes) ** 2 + 1, *QUESTION
+    assert expected(*case)[0][1][0] == [*map(int, digits.replace(" ", ""))], case
+    return case
+
+
+PICTURES = [(*case, *QUESTION) for case in CASES] + [worked(*w) for w in WORKED] + [scratched(*s) for s in SCRATCHES] + FAULTS
 
 # Lists, worked by hand: a picture, a mode, the lent places of scratch, list and work, the answer, and the list that is written.
 # With an answer of 13 the list holds 65535 for each arrow of the mode. Where a list is written or the answer is 13, the work holds

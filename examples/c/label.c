@@ -9,63 +9,15 @@
  * Exit status: 0 if the picture is clear and has the list, 1 if it is unclear in some mode or mode
  * 0 has no list, 2 if the file can't be read, or it or its picture is refused.
  */
-#include "rights.h"
-#include <errno.h>
-#include <stdio.h>
-#include <string.h>
+#define PROGRAM "label"
+#include "picture.h"
 
 enum { MODE = 0 };
-enum { GOOD = 0, NOT_GOOD = 1, FAILED = 2 };
 
-/* Everything that the calls are lent, long enough for every picture. */
-static uint8_t file[RIGHTS_FILE_ROOM];
-static uint8_t boxes[RIGHTS_BOXES_ROOM];
-static uint16_t rows[RIGHTS_ROWS_ROOM], arrows[RIGHTS_ARROWS_ROOM];
-static uint8_t scratch[RIGHTS_SCRATCH_ROOM];
+/* What the calls are lent beside the picture and scratch, long enough for every picture. */
 static uint16_t users[RIGHTS_ATOMS_ROOM], files[RIGHTS_ATOMS_ROOM];
 static uint8_t bytes[RIGHTS_PAIRS_ROOM], work[RIGHTS_PAIRS_ROOM];
 static uint16_t numbers[RIGHTS_PAIRS_ROOM], list[RIGHTS_LIST_ROOM];
-
-/* A refusal: its number, its name, and the three numbers as the header lists them. */
-static void tell(FILE *out, rights_reply reply) {
-    unsigned long long a = reply.a, b = reply.b, c = reply.c;
-    fprintf(out, "refused %u, %s: ", (unsigned)reply.number, rights_refusal_name(reply.number));
-    switch (reply.number) {
-    case RIGHTS_RAGGED: fprintf(out, "table %llu, length %llu\n", a, b); break;
-    case RIGHTS_TOO_MANY_ROWS: fprintf(out, "table %llu, %llu rows\n", a, b); break;
-    case RIGHTS_BOX_BYTE:
-    case RIGHTS_CONTAINS_ITSELF: fprintf(out, "box %llu\n", a); break;
-    case RIGHTS_NO_SUCH_BOX:
-    case RIGHTS_ACROSS_SIDES: fprintf(out, "containment %llu\n", a); break;
-    case RIGHTS_ARROW_ENDS:
-    case RIGHTS_MODE_OR_SIGN: fprintf(out, "arrow %llu\n", a); break;
-    case RIGHTS_BUFFER_SHORT:
-        fprintf(out, "%s, length needed %llu\n", rights_buffer_name(a), b);
-        break;
-    case RIGHTS_UNCLEAR_PAIR:
-    case RIGHTS_NO_ORDER: fprintf(out, "mode %llu, user %llu, file %llu\n", a, b, c); break;
-    case RIGHTS_FILE_LENGTH:
-        fprintf(out, "%llu bytes%s\n", a, a > RIGHTS_MAX_FILE ? " or more" : "");
-        break;
-    case RIGHTS_BLOCK_CHECK:
-    case RIGHTS_BLOCK_HEAD:
-    case RIGHTS_FILLER: fprintf(out, "block %llu\n", a); break;
-    default: fprintf(out, "%llu, %llu, %llu\n", a, b, c);
-    }
-}
-
-/* Ends with a refusal of the file or of its picture. */
-static int refused(const char *name, rights_reply reply) {
-    fprintf(stderr, "label: %s: ", name);
-    tell(stderr, reply);
-    return FAILED;
-}
-
-/* Ends with a failure of the system. */
-static int failed(const char *what, const char *name) {
-    fprintf(stderr, "label: cannot %s %s: %s\n", what, name, strerror(errno));
-    return FAILED;
-}
 
 static void print_matrix(size_t user_count, size_t file_count) {
     printf("mode%4d", MODE);
@@ -90,50 +42,23 @@ static void print_matrix(size_t user_count, size_t file_count) {
     }
 }
 
-/* Whether all that was printed went out. */
-static int finish(int status) {
-    return fflush(stdout) != 0 || ferror(stdout) ? failed("write", "the labels") : status;
-}
-
 int main(int count, char **names) {
     if (count != 2) {
         fprintf(stderr, "label FILE: the rights that the block file FILE grants in mode 0\n");
         return FAILED;
     }
-    if (rights_version() != RIGHTS_VERSION) {
-        fprintf(stderr, "label: built for version %06x of the library, linked with %06x\n",
-                (unsigned)RIGHTS_VERSION, (unsigned)rights_version());
-        return FAILED;
-    }
-
-    /* A file that is too long fills the whole array and is then refused by its length. */
     const char *name = names[1];
-    FILE *in = fopen(name, "rb");
-    if (in == NULL) {
-        return failed("open", name);
+    int status = read_picture(name);
+    if (status != GOOD) {
+        return status;
     }
-    size_t file_len = fread(file, 1, sizeof file, in);
-    if (ferror(in)) {
-        return failed("read", name);
-    }
-    fclose(in);
-
-    rights_reply read = rights_read(file, file_len, boxes, RIGHTS_BOXES_ROOM, rows,
-                                    RIGHTS_ROWS_ROOM, arrows, RIGHTS_ARROWS_ROOM);
-    if (read.kind != RIGHTS_DONE) {
-        return refused(name, read);
-    }
-    size_t boxes_len = rights_boxes_len(read);
-    size_t rows_len = rights_rows_len(read);
-    size_t arrows_len = rights_arrows_len(read);
 
     rights_reply judged = rights_judge(boxes, boxes_len, rows, rows_len, arrows, arrows_len,
                                        scratch, RIGHTS_SCRATCH_ROOM);
     if (judged.kind != RIGHTS_DONE && judged.number != RIGHTS_UNCLEAR_PAIR) {
         return refused(name, judged);
     }
-    printf("boxes %llu, containments %llu, arrows %llu\n", (unsigned long long)read.a,
-           (unsigned long long)read.b, (unsigned long long)read.c);
+    printf("boxes %zu, containments %zu, arrows %zu\n", boxes_len, rows_len / 2, arrows_len / 4);
     if (judged.kind == RIGHTS_DONE) {
         printf("clear in every mode\n");
     } else {

@@ -13,6 +13,12 @@ pub const DENIED: u8 = ffi::DENIED as u8;
 pub const GRANTED: u8 = ffi::GRANTED as u8;
 /// A matrix byte: unclear.
 pub const UNCLEAR: u8 = ffi::UNCLEAR as u8;
+/// A byte of the scratch: box a doesn't contain box b. Byte a * n + b is about boxes a and b.
+pub const NOT_CONTAINED: u8 = 0;
+/// A byte of the scratch: a contains b, through others only.
+pub const CONTAINED_THROUGH_OTHERS: u8 = 1;
+/// A byte of the scratch: a containment has a as outer box and b as inner.
+pub const CONTAINED_DIRECTLY: u8 = 2;
 /// Stands for "no arrow" in the matrix numbers, and in the list after refusal 13.
 pub const NO_ARROW: u16 = 65_535;
 
@@ -53,10 +59,12 @@ pub struct Counts {
 // overlap no other.
 
 impl Tables<'_> {
-    /// Clear, or refused, an unclear pair included. `scratch` needs n * n bytes for n boxes.
+    /// Clear, or refused, an unclear pair included. `scratch` needs n * n bytes for n boxes, and
+    /// ends, as with every call that takes it, with what contains what and which of it is drawn:
+    /// [`CONTAINED_DIRECTLY`], [`CONTAINED_THROUGH_OTHERS`] or [`NOT_CONTAINED`].
     ///
     /// ```
-    /// use rights::lent::Tables;
+    /// use rights::lent::{Tables, CONTAINED_DIRECTLY};
     ///
     /// let picture = Tables {
     ///     boxes: &[0, 0, 0, 1],
@@ -65,7 +73,10 @@ impl Tables<'_> {
     /// };
     /// let mut scratch = [0; 16];
     /// assert_eq!(picture.judge(&mut scratch), Ok(()));
-    /// assert_eq!(scratch[2 * 4], 1); // box 2 contains box 0
+    ///
+    /// // The steps up from user 0: the boxes that it is drawn in.
+    /// let up: Vec<usize> = (0..4).filter(|a| scratch[a * 4 + 0] == CONTAINED_DIRECTLY).collect();
+    /// assert_eq!(up, [2]);
     /// ```
     pub fn judge(&self, scratch: &mut [u8]) -> Result<(), Refusal> {
         let reply = unsafe {

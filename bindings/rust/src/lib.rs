@@ -79,7 +79,7 @@ pub use rows::{Arrow, Mode, Side, Sign};
 /// The library's version: major, minor, patch.
 ///
 /// ```
-/// assert_eq!(rights::version(), (1, 0, 0));
+/// assert_eq!(rights::version(), (2, 0, 0));
 /// ```
 pub fn version() -> (u8, u8, u8) {
     // SAFETY: the call takes nothing and keeps nothing.

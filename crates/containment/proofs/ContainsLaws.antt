@@ -1,5 +1,5 @@
--- `contains` is the chain of one or more rows; it is transitive; what it has to do with rows and atomic boxes; and it goes by which
--- rows there are, not by their order or how often each stands. Assumes nothing.
+-- `direct` is the row, `contains` the chain of one or more rows; it is transitive; what it has to do with rows and atomic boxes; and both
+-- go by which rows there are, not by their order or how often each stands. Assumes nothing.
 use mathlib.Core.Path.{_≡_, refl, sym, subst}
 use mathlib.Core.Logic.{_⊎_, inl, inr, ⊎-map, ⊎-elim, _↔_}
 use mathlib.Core.Bool.{_&&_, _||_}
@@ -12,10 +12,33 @@ use lib.ListN.{length}
 use Rattle.tables.specs.Atoms.{outer}
 use Rattle.tables.specs.Search.{given}
 use Rattle.tables.specs.Refusals.{inItself}
-use Rattle.containment.specs.Contains.{Row, here, later, Chain, one, more, contains, around, loopFault}
+use Rattle.containment.specs.Contains.{Row, here, later, direct, Chain, one, more, contains, around, loopFault}
 use Rattle.tables.proofs.Tests.{or-T, T-or₁, T-or₂, and-T, T-and, T-same}
 use Rattle.tables.proofs.SearchLaws.{first-none, given-none}
 use Rattle.tables.proofs.RowLaws.{outer-none, outer-odd, outer-more}
+
+-- ---- a row as a test
+
+pub direct-row : (rows : List ℕ) (a b : ℕ) → T (direct rows a b) → Row rows a b
+unfolding direct
+direct-row [] a b t = absurd t
+direct-row (x ∷ []) a b t = absurd t
+direct-row (x ∷ y ∷ rows) a b t = go (or-T (eqb x a && eqb y b) (direct rows a b) t) (direct-row rows a b)
+  where
+    go : T (eqb x a && eqb y b) ⊎ T (direct rows a b) → (T (direct rows a b) → Row rows a b) → Row (x ∷ y ∷ rows) a b
+    go (inl e) ih =
+        let p = and-T (eqb x a) (eqb y b) e in
+        subst (λ (z : ℕ). Row (x ∷ y ∷ rows) z b) (eqb→eq x a (p .0)) (subst (λ (z : ℕ). Row (x ∷ y ∷ rows) x z) (eqb→eq y b (p .1)) here)
+    go (inr r) ih = later (ih r)
+
+pub row-direct : {rows : List ℕ} {a b : ℕ} → Row rows a b → T (direct rows a b)
+unfolding direct
+row-direct (here {a = a} {b = b} {rows = rows}) = T-or₁ (eqb a a && eqb b b) (direct rows a b) (T-and (eqb a a) (eqb b b) (eqb-refl a) (eqb-refl b))
+row-direct (later {x = x} {y = y} {a = a} {b = b} {rows = rows} r) = T-or₂ (eqb x a && eqb y b) (direct rows a b) (row-direct r)
+
+-- "a row has a as outer box and b as inner"
+pub direct-iff : (rows : List ℕ) (a b : ℕ) → T (direct rows a b) ↔ Row rows a b
+direct-iff rows a b = (direct-row rows a b, row-direct)
 
 -- ---- one row more
 
@@ -134,6 +157,12 @@ module _ (rows new : List ℕ) (same : (a b : ℕ) → Row rows a b ↔ Row new 
       T-same (contains rows a b) (contains new a b)
       (λ t. chain-contains (along (λ a b. same a b .0) (contains-chain rows a b t)))
       (λ t. chain-contains (along (λ a b. same a b .1) (contains-chain new a b t)))
+
+  -- directly too
+  pub same-direct : (a b : ℕ) → direct rows a b ≡ direct new a b
+  same-direct a b =
+      T-same (direct rows a b) (direct new a b)
+      (λ t. row-direct (same a b .0 (direct-row rows a b t))) (λ t. row-direct (same a b .1 (direct-row new a b t)))
 
   -- and have the same outer boxes
   pub same-outer : (a : ℕ) → outer rows a ≡ outer new a

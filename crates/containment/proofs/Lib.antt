@@ -1,5 +1,6 @@
 -- Laws for the proofs of this crate and of the crates above it.
 pub mod ContainsLaws
+pub mod DrawnLaws
 pub mod ScratchLaws
 pub mod Index
 mod Rounds

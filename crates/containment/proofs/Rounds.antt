@@ -1,34 +1,15 @@
 -- Warshall's rounds, from the rows of a table whose boxes are below n: after n of them, what contains what. Assumes nothing.
 use mathlib.Core.Path.{_≡_, subst}
-use mathlib.Core.Logic.{_⊎_, inl, inr, ⊎-elim, ⊎-map}
+use mathlib.Core.Logic.{_⊎_, ⊎-elim, ⊎-map}
 use mathlib.Core.Bool.{Bool, _&&_}
-use mathlib.Core.List.{List, [], _∷_}
+use mathlib.Core.List.{List}
 use Prim.Native.Nat.{ℕ, zero, suc, _<_}
 use native.Mathlib.Nat.{eq-or-lt-of-le, le-of-suc-le-suc, not-suc-le-zero}
-use lib.Dec.{T, eqb, eqb→eq, eqb-refl}
-use Rattle.containment.specs.Contains.{Row, here, later, Chain, one, more, contains}
-use Rattle.containment.specs.Steps.{direct, through, rounds}
+use lib.Dec.{T}
+use Rattle.containment.specs.Contains.{Row, Chain, one, more, direct, contains}
+use Rattle.containment.specs.Steps.{through, rounds}
 use Rattle.tables.proofs.Tests.{or-T, T-or₁, T-or₂, and-T, T-and, T-same}
-use Rattle.containment.proofs.ContainsLaws.{contains-chain, row-contains, contains-trans}
-
--- ---- a row as a test
-
-direct-row : (rows : List ℕ) (a b : ℕ) → T (direct rows a b) → Row rows a b
-unfolding direct
-direct-row [] a b t = absurd t
-direct-row (x ∷ []) a b t = absurd t
-direct-row (x ∷ y ∷ rows) a b t = go (or-T (eqb x a && eqb y b) (direct rows a b) t) (direct-row rows a b)
-  where
-    go : T (eqb x a && eqb y b) ⊎ T (direct rows a b) → (T (direct rows a b) → Row rows a b) → Row (x ∷ y ∷ rows) a b
-    go (inl e) ih =
-        let p = and-T (eqb x a) (eqb y b) e in
-        subst (λ (z : ℕ). Row (x ∷ y ∷ rows) z b) (eqb→eq x a (p .0)) (subst (λ (z : ℕ). Row (x ∷ y ∷ rows) x z) (eqb→eq y b (p .1)) here)
-    go (inr r) ih = later (ih r)
-
-row-direct : {rows : List ℕ} {a b : ℕ} → Row rows a b → T (direct rows a b)
-unfolding direct
-row-direct (here {a = a} {b = b} {rows = rows}) = T-or₁ (eqb a a && eqb b b) (direct rows a b) (T-and (eqb a a) (eqb b b) (eqb-refl a) (eqb-refl b))
-row-direct (later {x = x} {y = y} {a = a} {b = b} {rows = rows} r) = T-or₂ (eqb x a && eqb y b) (direct rows a b) (row-direct r)
+use Rattle.containment.proofs.ContainsLaws.{direct-row, row-direct, contains-chain, row-contains, contains-trans}
 
 -- ---- one round
 

@@ -8,24 +8,24 @@ use native.Mathlib.Decide.{decLt}
 use native.Mathlib.Omega.{arith}
 use lib.ListN.{length, getD}
 use lib.Seq.{ext-getD}
-use Rattle.tables.specs.Search.{bit}
 use Rattle.tables.specs.Faults.{tableFault}
 use Rattle.tables.specs.Refusals.{verdictOf}
 use Rattle.tables.specs.declared.Refusal.{Refusal}
 use Rattle.tables.specs.declared.Verdict.{Verdict}
 use Rattle.tables.specs.declared.Verdict.the-variants.{Refused}
 use Rattle.tables.specs.Buffers.{build}
-use Rattle.containment.specs.Contains.{contains, loopFault}
-use Rattle.containment.specs.Scratch.{filled, scratchFault, scratchAfter, earlyFault, pictureFault}
-use Rattle.containment.specs.Steps.{Says, Cells, SameFrom}
+use Rattle.containment.specs.Contains.{loopFault}
+use Rattle.containment.specs.Scratch.{Drawn, drawn, filled, scratchFault, scratchAfter, earlyFault, pictureFault}
+use Rattle.containment.specs.Steps.{Says, Bytes, SameFrom}
 use Rattle.tables.proofs.Verdicts.{refused, past, stop}
 use Rattle.tables.proofs.TableLaws.{room-passed}
 use Rattle.tables.proofs.BufferLaws.{written-length, written-at, written-rest, build-length, build-at}
 use Rattle.containment.proofs.Index.{in-table, at-div, at-mod, place}
+use Rattle.containment.proofs.DrawnLaws.{drawn-iff}
 
 module _ (n : ℕ) (rows s : List ℕ) where
   abbrev cell : ℕ → ℕ
-  cell p = bit (contains rows (p / n) (p % n))
+  cell p = drawn rows (p / n) (p % n)
 
   pub filled-length : n * n ≤ length s → length (filled n rows s) ≡ length s
   unfolding filled
@@ -46,8 +46,12 @@ module _ (n : ℕ) (rows s : List ℕ) where
     cell = λ a b la lb. filled-place (a * n + b) (in-table n n a b la lb) ∙ rw (at-div n a b lb, at-mod n a b lb);
   }
 
+  -- "Byte a × n + b of the containment scratch shall hold 2 where .., 1 where .., 0 otherwise"
+  pub filled-drawn : n * n ≤ length s → (a b : ℕ) → a < n → b < n → Drawn rows a b (getD (filled n rows s) (a * n + b) 0)
+  filled-drawn h a b la lb = drawn-iff rows a b _ .0 (sym (filled-says h .cell a b la lb))
+
   -- bytes that say so in each place, and are as they were from n * n on, are the filled ones
-  pub is-filled : (t : List ℕ) → n * n ≤ length s → Cells n (contains rows) t → SameFrom (n * n) s t → t ≡ filled n rows s
+  pub is-filled : (t : List ℕ) → n * n ≤ length s → Bytes n (drawn rows) t → SameFrom (n * n) s t → t ≡ filled n rows s
   is-filled t room h g = ext-getD 0 t (filled n rows s) (g .len ∙ sym (filled-length room)) (λ p l. at p (decLt p (n * n)))
     where
       pos-of : (m p : ℕ) → p < m * m → 0 < m

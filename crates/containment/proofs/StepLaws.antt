@@ -1,8 +1,8 @@
 -- What one turn of each loop that fills the scratch does to its bytes. Assumes nothing.
-use mathlib.Core.Path.{_≡_, refl, sym, _∙_}
+use mathlib.Core.Path.{_≡_, refl, sym, ap, _∙_}
 use mathlib.Core.Logic.{_⊎_, inl, inr, ⊎-elim, ⊎-map}
-use mathlib.Core.Bool.{Bool, true, false, _&&_, _||_, or-false}
-use mathlib.Core.List.{List, [], _∷_}
+use mathlib.Core.Bool.{Bool, true, false, _&&_, _||_, or-false, cond}
+use mathlib.Core.List.{List, _∷_}
 use Prim.Native.Nat.{ℕ, suc, _+_, _*_, _-_, _<_, _≤_}
 use native.Mathlib.Decide.{ℕ-discrete, decLt}
 use native.Mathlib.Omega.{arith}
@@ -15,28 +15,31 @@ use lib.Seq.{getD-set-same, getD-set-other}
 use Rattle.tables.specs.Search.{bit}
 use Rattle.tables.specs.Buffers.{build, written, zeros}
 use Rattle.tables.specs.Rows.{rowCount, rowAt}
-use Rattle.containment.specs.Contains.{Row, here, later}
-use Rattle.containment.specs.Steps.{direct, through, Cells, SameFrom, Joined, rowFrom}
+use Rattle.containment.specs.Contains.{Row, here, later, direct, contains}
+use Rattle.containment.specs.Scratch.{filled}
+use Rattle.containment.specs.Steps.{Bytes, Cells, over, through, rounds, SameFrom, Joined, rowFrom}
 use Rattle.tables.proofs.RowLaws.{rows-from}
-use Rattle.tables.proofs.Bits.{bit-is, bit-test, bit-or}
+use Rattle.tables.proofs.Bits.{bit-test, bit-or}
 use Rattle.tables.proofs.Tests.{and-T, not-false}
 use Rattle.tables.proofs.BufferLaws.{written-length, written-at, written-rest, zeros-length, zeros-at, build-length, build-at}
 use Rattle.containment.proofs.Index.{row-step, in-table, same-row, same-col, next-row}
+use Rattle.containment.proofs.DrawnLaws.{first-pass, second-pass}
+use Rattle.containment.proofs.ScratchLaws.{is-filled}
+use Rattle.containment.proofs.Rounds.{rounds-all}
 
 pub same-trans : {m : ℕ} {s t u : List ℕ} → SameFrom m s t → SameFrom m t u → SameFrom m s u
 same-trans h g = record { len = g .len ∙ h .len; rest = λ p l. g .rest p l ∙ h .rest p l }
 
 -- ---- clear
 
--- n × n places or more are 0
-pub cleared : (n m : ℕ) (s : List ℕ) → n * n ≤ m → Cells n (direct []) (written (zeros m) s)
-unfolding direct
-cleared n m s h a b la lb =
-    let l : a * n + b < m = omega (arith, in-table n n a b la lb) in
-    written-at (zeros m) s (a * n + b) (rw zeros-length l) ∙ zeros-at m (a * n + b) l ∙ sym (bit-is false)
+-- n × n places are 0
+cleared : (n : ℕ) (s : List ℕ) → Bytes n (λ a b. 0) (written (zeros (n * n)) s)
+cleared n s a b la lb =
+    let l = in-table n n a b la lb in
+    written-at (zeros (n * n)) s (a * n + b) (rw zeros-length l) ∙ zeros-at (n * n) (a * n + b) l
 
 -- and no more than that
-pub cleared-rest : (n : ℕ) (s : List ℕ) → n * n ≤ length s → SameFrom (n * n) s (written (zeros (n * n)) s)
+cleared-rest : (n : ℕ) (s : List ℕ) → n * n ≤ length s → SameFrom (n * n) s (written (zeros (n * n)) s)
 cleared-rest n s room = record {
   len = written-length (zeros (n * n)) s (rw zeros-length room);
   rest = λ p l. written-rest (zeros (n * n)) s p (rw zeros-length l);
@@ -45,28 +48,32 @@ cleared-rest n s room = record {
 -- ---- mark
 
 -- the byte of boxes o and i
-mark-cells : (n o i : ℕ) (s rows : List ℕ) → o < n → i < n → n * n ≤ length s → Cells n (direct rows) s → Cells n (direct (o ∷ i ∷ rows)) (set s (o * n + i) 1)
-unfolding direct
-mark-cells n o i s rows ho hi room h a b la lb = go (ℕ-discrete (o * n + i) (a * n + b))
+mark-byte : (n o i v : ℕ) (s rows : List ℕ) (g : ℕ → ℕ → ℕ) → o < n → i < n → n * n ≤ length s
+    → Bytes n (over rows v g) s → Bytes n (over (o ∷ i ∷ rows) v g) (set s (o * n + i) v)
+unfolding direct over
+mark-byte n o i v s rows g ho hi room h a b la lb = go (ℕ-discrete (o * n + i) (a * n + b))
   where
-    go : Dec (o * n + i ≡ a * n + b) → getD (set s (o * n + i) 1) (a * n + b) 0 ≡ bit (eqb o a && eqb i b || direct rows a b)
+    go : Dec (o * n + i ≡ a * n + b) → getD (set s (o * n + i) v) (a * n + b) 0 ≡ cond (eqb o a && eqb i b || direct rows a b) v (g a b)
     go (yes e) =
         rw (eq-eqb o a (same-row n o i a b hi lb e), eq-eqb i b (same-col n o i a b hi lb e), ← e)
-        (getD-set-same s (o * n + i) 1 0 (omega (arith, in-table n n o i ho hi)) ∙ sym (bit-is true))
+        (getD-set-same s (o * n + i) v 0 (omega (arith, in-table n n o i ho hi)))
     go (no e) =
         rw (not-false (eqb o a && eqb i b) (λ t. let p = and-T (eqb o a) (eqb i b) t in e (rw (eqb→eq o a (p .0), eqb→eq i b (p .1)))))
-        (getD-set-other s (o * n + i) (a * n + b) 1 0 (λ q. e (sym q)) ∙ h a b la lb)
+        (getD-set-other s (o * n + i) (a * n + b) v 0 (λ q. e (sym q)) ∙ h a b la lb)
+
+-- t is s with v at the rows from k on
+abbrev pub Marked : ℕ → ℕ → List ℕ → ℕ → List ℕ → List ℕ → Type 0
+Marked n v rows k s t = ((g : ℕ → ℕ → ℕ) → Bytes n g s → Bytes n (over (drop (2 * k) rows) v g) t) × SameFrom (n * n) s t
 
 -- row k - 1
-pub mark-turn : (n k : ℕ) (rows s₀ s : List ℕ) → 0 < k → k ≤ rowCount rows → n * n ≤ length s → (o i : ℕ)
+pub mark-turn : (n v k : ℕ) (rows s t : List ℕ) → 0 < k → k ≤ rowCount rows → n * n ≤ length t → (o i : ℕ)
     → o ≡ rowAt rows (k - 1) .outer → i ≡ rowAt rows (k - 1) .inner → o < n → i < n
-    → Cells n (direct (drop (2 * k) rows)) s × SameFrom (n * n) s₀ s
-    → Cells n (direct (drop (2 * (k - 1)) rows)) (set s (o * n + i) 1) × SameFrom (n * n) s₀ (set s (o * n + i) 1)
-mark-turn n k rows s₀ s pos h room o i eo ei ho hi m = (
-  rw (rows-from rows k pos h, ← eo, ← ei) (mark-cells n o i s (drop (2 * k) rows) ho hi room (m .0)),
+    → Marked n v rows k s t → Marked n v rows (k - 1) s (set t (o * n + i) v)
+mark-turn n v k rows s t pos h room o i eo ei ho hi m = (
+  λ g z. rw (rows-from rows k pos h, ← eo, ← ei) (mark-byte n o i v t (drop (2 * k) rows) g ho hi room (m .0 g z)),
   record {
-    len = length-set s (o * n + i) 1 ∙ m .1 .len;
-    rest = λ p l. getD-set-other s (o * n + i) p 1 0 (omega (arith, in-table n n o i ho hi)) ∙ m .1 .rest p l;
+    len = length-set t (o * n + i) v ∙ m .1 .len;
+    rest = λ p l. getD-set-other t (o * n + i) p v 0 (omega (arith, in-table n n o i ho hi)) ∙ m .1 .rest p l;
   },
 )
 
@@ -145,9 +152,28 @@ unfolding rowFrom
 copied n k s row b lb =
     written-at (build (λ j. getD s (k * n + j) 0) n) row b (rw build-length lb) ∙ build-at (λ j. getD s (k * n + j) 0) n b lb
 
--- ---- fill: the boxes of a row are below what those of each place in the table are below
+-- ---- fill
 
-pub row-below : {rows : List ℕ} {a b : ℕ} (n : ℕ) → Row rows a b → ((k : ℕ) → k < rowCount rows → rowAt rows k .inner < n) → b < n
+-- the inner box of a row is below what those of each place in the table are below
+row-below : {rows : List ℕ} {a b : ℕ} (n : ℕ) → Row rows a b → ((k : ℕ) → k < rowCount rows → rowAt rows k .inner < n) → b < n
 row-below n here h = h 0 (omega arith)
 row-below n (later {x = x} {y = y} {rows = rows} r) h =
     row-below n r (λ k l. let e : 2 * (k + 1) + 1 ≡ suc (suc (2 * k + 1)) = omega arith in rw e at (h (k + 1) (omega arith)))
+
+-- t is s with the ways through each box
+abbrev Closed : ℕ → List ℕ → List ℕ → Type 0
+Closed n s t = ((f : ℕ → ℕ → Bool) → Cells n f s → Cells n (rounds f n) t) × SameFrom (n * n) s t
+
+-- cleared, marked with 1, closed, marked with 2
+module _ (n : ℕ) (rows s s₀ s₁ s₂ s₃ : List ℕ) (room : n * n ≤ length s) (inner : (k : ℕ) → k < rowCount rows → rowAt rows k .inner < n)
+    (clear : s₀ ≡ written (zeros (n * n)) s) (first : Marked n 1 rows 0 s₀ s₁) (close : Closed n s₁ s₂) (second : Marked n 2 rows 0 s₂ s₃) where
+  marked : Cells n (direct rows) s₁
+  marked a b la lb = first .0 (λ a b. 0) (rw clear (cleared n s)) a b la lb ∙ first-pass rows a b
+
+  closed : Cells n (contains rows) s₂
+  closed a b la lb = close .0 (direct rows) marked a b la lb ∙ ap bit (rounds-all rows n (λ x y r. row-below n r inner) a b)
+
+  pub fill-passes : s₃ ≡ filled n rows s
+  fill-passes =
+      is-filled n rows s s₃ room (λ a b la lb. second .0 (λ a b. bit (contains rows a b)) closed a b la lb ∙ second-pass rows a b)
+      (same-trans (same-trans (same-trans (rw clear (cleared-rest n s room)) (first .1)) (close .1)) (second .1))

@@ -14,6 +14,12 @@ pub data Row : List ℕ → ℕ → ℕ → Type 0 where
   here : {a b : ℕ} {rows : List ℕ} → Row (a ∷ b ∷ rows) a b
   later : {x y a b : ℕ} {rows : List ℕ} → Row rows a b → Row (x ∷ y ∷ rows) a b
 
+-- that there is such a row, as a test that computes (`direct-iff`)
+unfoldable pub direct : List ℕ → ℕ → ℕ → Bool
+direct [] a b = false
+direct (x ∷ []) a b = false
+direct (x ∷ y ∷ rows) a b = eqb x a && eqb y b || direct rows a b
+
 -- a chain of one or more containment rows leads from a to b
 pub data Chain (rows : List ℕ) : ℕ → ℕ → Type 0 where
   one : {a b : ℕ} → Row rows a b → Chain rows a b

@@ -1,3 +1,4 @@
 pub mod Contains
 pub mod Scratch
 pub mod Steps
+pub mod Cases

@@ -1,4 +1,6 @@
--- What the scratch holds (document 01, "What may be asked"), and when it is filled ("Who can cause a refusal"). Assumes nothing.
+-- What the scratch holds (document 01, "What may be asked", with the values of document 02, P2), and when it is filled (document 01, "Who
+-- can cause a refusal"). Assumes nothing.
+use mathlib.Core.Bool.{cond}
 use mathlib.Core.List.{List}
 use mathlib.Core.Option.{Option}
 use Prim.Native.Nat.{ℕ, _+_, _*_, _/_, _%_}
@@ -8,11 +10,21 @@ use Rattle.tables.specs.Buffers.{build, written}
 use Rattle.tables.specs.Refusals.{unlessRefused}
 use Rattle.tables.specs.Faults.{tableFault, roomFault}
 use Rattle.tables.specs.declared.Refusal.{Refusal}
-use Rattle.containment.specs.Contains.{contains, loopFault}
+use Rattle.containment.specs.Contains.{Row, Chain, direct, contains, loopFault}
 
--- n × n bytes for n boxes: byte a × n + b is 1 if a contains b, else 0; places beyond them are as they were
+-- the byte of boxes a and b: 2 where a row has a as outer box and b as inner, 1 where a contains b only through others, 0 otherwise
+pub data Drawn (rows : List ℕ) (a b : ℕ) : ℕ → Type 0 where
+  directly : Row rows a b → Drawn rows a b 2
+  through-others : Chain rows a b → (Row rows a b → ⊥) → Drawn rows a b 1
+  otherwise : (Chain rows a b → ⊥) → Drawn rows a b 0
+
+-- the same as a number that computes (`drawn-iff`)
+unfoldable pub drawn : List ℕ → ℕ → ℕ → ℕ
+drawn rows a b = cond (direct rows a b) 2 (bit (contains rows a b))
+
+-- n × n bytes for n boxes: byte a × n + b is that of boxes a and b; places beyond them are as they were
 unfoldable pub filled : ℕ → List ℕ → List ℕ → List ℕ
-filled n rows s = written (build (λ p. bit (contains rows (p / n) (p % n))) (n * n)) s
+filled n rows s = written (build (λ p. drawn rows (p / n) (p % n)) (n * n)) s
 
 -- 9 for the scratch of n boxes
 unfoldable pub scratchFault : ℕ → List ℕ → Option Refusal

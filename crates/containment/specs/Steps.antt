@@ -1,26 +1,20 @@
 -- What the functions ask of and promise each other: a filled scratch, and how it stands while it is filled. Assumes nothing.
 use mathlib.Core.Path.{_≡_}
 use mathlib.Core.Logic.{_⊎_}
-use mathlib.Core.Bool.{Bool, false, _&&_, _||_}
-use mathlib.Core.List.{List, [], _∷_}
+use mathlib.Core.Bool.{Bool, _&&_, _||_, cond}
+use mathlib.Core.List.{List}
 use Prim.Native.Nat.{ℕ, zero, suc, _+_, _*_, _<_, _≤_}
 use lib.Bits.{bitOr}
-use lib.Dec.{eqb}
 use lib.ListN.{length, getD}
 use Rattle.tables.specs.Search.{bit}
 use Rattle.tables.specs.Buffers.{build}
-use Rattle.containment.specs.Contains.{contains}
+use Rattle.containment.specs.Contains.{direct}
+use Rattle.containment.specs.Scratch.{drawn}
 
 -- s is a scratch that was filled from the rows (`filled-says`); `containment::does_contain` reads it
 pub record Says (n : ℕ) (rows s : List ℕ) : Type 0 where
   pub room : n * n ≤ length s
-  pub cell : (a b : ℕ) → a < n → b < n → getD s (a * n + b) 0 ≡ bit (contains rows a b)
-
--- a row of the table has outer box a and inner box b
-unfoldable pub direct : List ℕ → ℕ → ℕ → Bool
-direct [] a b = false
-direct (x ∷ []) a b = false
-direct (x ∷ y ∷ rows) a b = eqb x a && eqb y b || direct rows a b
+  pub cell : (a b : ℕ) → a < n → b < n → getD s (a * n + b) 0 ≡ drawn rows a b
 
 -- f a b, or a way through box k
 unfoldable pub through : (ℕ → ℕ → Bool) → ℕ → ℕ → ℕ → Bool
@@ -31,9 +25,17 @@ unfoldable pub rounds : (ℕ → ℕ → Bool) → ℕ → ℕ → ℕ → Bool
 rounds f zero a b = f a b
 rounds f (suc k) a b = through (rounds f k) k a b
 
+-- byte a × n + b is g a b
+abbrev pub Bytes : ℕ → (ℕ → ℕ → ℕ) → List ℕ → Type 0
+Bytes n g s = (a b : ℕ) → a < n → b < n → getD s (a * n + b) 0 ≡ g a b
+
 -- byte a × n + b is 1 if f a b, else 0
 abbrev pub Cells : ℕ → (ℕ → ℕ → Bool) → List ℕ → Type 0
-Cells n f s = (a b : ℕ) → a < n → b < n → getD s (a * n + b) 0 ≡ bit (f a b)
+Cells n f s = Bytes n (λ a b. bit (f a b)) s
+
+-- v where a row has a as outer box and b as inner, else g a b
+unfoldable pub over : List ℕ → ℕ → (ℕ → ℕ → ℕ) → ℕ → ℕ → ℕ
+over rows v g a b = cond (direct rows a b) v (g a b)
 
 -- t has as many bytes as s, and the same from m on
 pub record SameFrom (m : ℕ) (s t : List ℕ) : Type 0 where

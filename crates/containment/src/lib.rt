@@ -1,7 +1,6 @@
 // Which box contains which, as bytes that the caller lends: n × n of them for n boxes.
 ghost use mathlib.Core.Path.{_≡_};
 ghost use mathlib.Core.Bool.{Bool};
-ghost use mathlib.Core.List.{[]};
 ghost use Prim.Native.Nat.{ℕ, _+_, _*_, _%_, _<_, _≤_};
 ghost use lib.ListN.{length, getD};
 ghost use Rattle.tables.specs.Buffers.{written};
@@ -10,7 +9,7 @@ ghost use Rattle.tables.specs.Rows.{rowAt, rowCount};
 ghost use Rattle.tables.specs.Steps.{SoundRows};
 ghost use Rattle.containment.specs.Contains.{contains, loopFault};
 ghost use Rattle.containment.specs.Scratch.{filled, scratchFault, scratchAfter, earlyFault, pictureFault};
-ghost use Rattle.containment.specs.Steps.{Says, direct, through, rounds, Cells, SameFrom, Joined, rowFrom};
+ghost use Rattle.containment.specs.Steps.{Says, Bytes, Cells, over, through, rounds, SameFrom, Joined, rowFrom};
 use tables::Containment;
 use tables::Verdict;
 
@@ -23,13 +22,13 @@ pub fn does_contain(n: usize, rows: &[u16], scratch: &[u8], a: usize, b: usize) 
     scratch[a * n + b] != 0
 }
 
-// Sets the byte of each row's pair of boxes to 1.
-fn mark(rows: &[u16], s: &mut [u8], n: usize)
+// Sets the byte of each row's pair of boxes to v.
+fn mark(rows: &[u16], s: &mut [u8], n: usize, v: u8)
     requires { ⌜ length (now rows) % 2 ≡ 0 ⌝ }
     requires { ⌜ ((k : ℕ) → k < rowCount (now rows) → (rowAt (now rows) k .outer < n) × (rowAt (now rows) k .inner < n)) ⌝ }
     requires { ⌜ n * n ≤ length (now s) ⌝ }
-    requires { ⌜ Cells n (direct []) (now s) ⌝ }
-    ensures { λ _. ⌜ Cells n (direct (now (rows .entry))) (now (s .exit)) × SameFrom (n * n) (now (s .entry)) (now (s .exit)) ⌝ }
+    ensures { λ _. ⌜ ((g : ℕ → ℕ → ℕ) → Bytes n g (now (s .entry)) → Bytes n (over (now (rows .entry)) v g) (now (s .exit))) ⌝ }
+    ensures { λ _. ⌜ SameFrom (n * n) (now (s .entry)) (now (s .exit)) ⌝ }
 {
     let mut k = rows.len() / 2;
     while 0 < k {
@@ -37,7 +36,7 @@ fn mark(rows: &[u16], s: &mut [u8], n: usize)
         let row = Containment::at(rows, k);
         let o = tables::wide(row.outer);
         let i = tables::wide(row.inner);
-        s[o * n + i] = 1;
+        s[o * n + i] = v;
     }
 }
 
@@ -104,7 +103,8 @@ fn close(s: &mut [u8], n: usize, row: &mut [u8])
     }
 }
 
-// Fills the scratch by Warshall's rounds: n² steps, and n more for each pair of boxes of which one contains the other.
+// Fills the scratch by Warshall's rounds on 0 and 1: n² steps, and n more for each pair of boxes of which one contains the other.
+// Then 2 for each row: before the rounds it would spread, since they join bytes.
 fn fill(boxes: &[u8], rows: &[u16], scratch: &mut [u8])
     requires { ⌜ SoundRows (now boxes) (now rows) ⌝ }
     requires { ⌜ length (now boxes) * length (now boxes) ≤ length (now scratch) ⌝ }
@@ -112,9 +112,10 @@ fn fill(boxes: &[u8], rows: &[u16], scratch: &mut [u8])
 {
     let n = boxes.len();
     tables::clear(scratch, n * n);
-    mark(rows, scratch, n);
+    mark(rows, scratch, n, 1);
     let mut row = tables::zero_bytes();
     close(scratch, n, &mut row);
+    mark(rows, scratch, n, 2);
 }
 
 // Check 10, by a filled scratch.

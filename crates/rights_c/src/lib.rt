@@ -223,10 +223,10 @@ pub extern "C" fn rights_read(
     of_reading(blocks::read(file, boxes, rows, arrows))
 }
 
-// The version of these calls: major 1, minor 0, patch 0, one byte each.
+// The version of these calls: major 2, minor 0, patch 0, one byte each.
 #[no_mangle]
 pub extern "C" fn rights_version() -> u32
     ensures { λ r. ⌜ r ≡ version ⌝ }
 {
-    0x010000
+    0x020000
 }

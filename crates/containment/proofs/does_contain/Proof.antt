@@ -2,9 +2,8 @@
 use Prim.Native.Nat.{_+_, _*_, _<_}
 use native.Mathlib.Omega.{arith}
 use lib.ListN.{length}
-use Rattle.containment.specs.Contains.{contains}
-use Rattle.tables.proofs.Bits.{bit-test}
 use Rattle.containment.proofs.Index.{in-table}
+use Rattle.containment.proofs.DrawnLaws.{drawn-test}
 use Rattle.containment.proofs.does_contain.Statement.{statement}
 use Rattle.containment.proofs.does_contain.Tie as tie
 
@@ -23,7 +22,7 @@ shared-slice-read-result c = inside (c .before)
 returns : tie.Need-returns
 returns c =
     let a = c .before .args in
-    rw (c .before .pre .0 .cell (a .a) (a .b) (omega arith) (omega arith)) (bit-test (contains (a .rows .now) (a .a) (a .b)))
+    rw (c .before .pre .0 .cell (a .a) (a .b) (omega arith) (omega arith)) (drawn-test (a .rows .now) (a .a) (a .b))
 
 pub does-contain-spec : {M : Type 1} → statement M
 does-contain-spec = tie.close (tie.spec mul-result add-result shared-slice-read-result returns)

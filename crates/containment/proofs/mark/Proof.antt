@@ -1,27 +1,29 @@
--- `containment::mark` meets its contract: the bytes say which boxes the rows from k on join. Assumes nothing.
+-- `containment::mark` meets its contract: v stands at the rows from k on. Assumes nothing.
 use mathlib.Core.Path.{_≡_, refl, ap, _∙_}
 use Prim.Native.Nat.{_+_, _*_, _-_, _<_, _≤_}
 use native.Mathlib.Omega.{arith}
 use borrow.Author.Needs.{needs}
-use lib.ListN.{length, drop}
+use lib.ListN.{length}
 use Rattle.tables.specs.declared.Containment.{Containment}
 use Rattle.tables.specs.Rows.{rowCount, rowAt}
-use Rattle.containment.specs.Steps.{direct, Cells, SameFrom}
+use Rattle.containment.specs.Contains.{direct}
+use Rattle.containment.specs.Steps.{over}
 use Rattle.tables.proofs.RowLaws.{rows-end}
 use Rattle.containment.proofs.Index.{in-table}
-use Rattle.containment.proofs.StepLaws.{mark-turn}
+use Rattle.containment.proofs.StepLaws.{Marked, mark-turn}
 use Rattle.containment.proofs.mark.Statement.{statement}
 use Rattle.containment.proofs.mark.Tie as tie
 
 abbrev Inv-loop : tie.InvT-loop
-Inv-loop rows s₀ n k₀ s k = (k ≤ rowCount rows) × (Cells n (direct (drop (2 * k) rows)) s × SameFrom (n * n) s₀ s)
+Inv-loop rows s₀ n v k₀ s k = (k ≤ rowCount rows) × Marked n v rows k s₀ s
 
 abbrev μ-loop : tie.MeasureT-loop
-μ-loop rows s₀ n k₀ s k = k
+μ-loop rows s₀ n v k₀ s k = k
 
 loop-holds : tie.Need-loop-holds Inv-loop μ-loop
+unfolding direct over
 loop-holds c = let start = c .before .before in
-    (search needs, (rw (rows-end (start .args .rows .now) (start .pre .0)) (start .pre .1 .1 .1), record { len = refl; rest = λ p l. refl }))
+    (search needs, (λ g z. rw (rows-end (start .args .rows .now) (start .pre .0)) z, record { len = refl; rest = λ p l. refl }))
 
 -- the row's boxes are below n, and so their byte is there
 module _ (c : tie.After-wide2 Inv-loop μ-loop) where
@@ -56,7 +58,7 @@ loop-again : tie.Need-loop-again Inv-loop μ-loop
 loop-again c = let at = c .before .before .before .before in
     let start = at .before .before .before in (
       search needs,
-      mark-turn (start .args .n) (at .loop .k) (start .args .rows .now) (start .args .s .now) (at .loop .s) (omega arith) (omega arith) (omega arith)
+      mark-turn (start .args .n) (start .args .v) (at .loop .k) (start .args .rows .now) (start .args .s .now) (at .loop .s) (omega arith) (omega arith) (omega arith)
           (c .before .wide .result) (c .wide2 .result) (o-is c) (i-is c) (below c .0) (below c .1) (at .loop .inv .1),
     )
 
