@@ -1,6 +1,7 @@
 /*
  * Case B through the C header, call by call: that the header and the library fit together, with
- * the kinds, lengths and names of the header. Last a picture that shows which pair 13 names.
+ * the kinds, lengths and names of the header. Last a picture that shows which pair 13 names, and
+ * whose scratch holds all three values.
  */
 
 #include "rights.h"
@@ -44,17 +45,50 @@ static void seal(uint8_t *block) {
     }
 }
 
+/*
+ * J with a user in front and a file behind, joined by a positive arrow. Granted are (0, 13),
+ * (1, 8) and (2, 7). No list reaches all three, but an honest one reaches the first.
+ */
+static void ring(void) {
+    const uint8_t boxes[14] = {0, 0, 0, 0, 0, 0, 0, 1, 1, 1, 1, 1, 1, 1};
+    const uint16_t rows[24] = {3, 1, 3,  6, 4,  1,  5,  4, 5,  2,  6,  2,
+                               9, 8, 10, 9, 10, 7, 11, 7, 12, 11, 12, 8};
+    const uint16_t arrows[20] = {3, 9, 0, 1, 4, 10, 0, 0, 5, 11, 0, 1, 6, 12, 0, 0, 0, 13, 0, 1};
+    uint8_t contained[196] = {RIGHTS_NOT_CONTAINED}, scratch[197], work[9];
+    uint16_t list[5];
+    for (int k = 0; k < 24; k += 2) {
+        contained[14 * rows[k] + rows[k + 1]] = RIGHTS_CONTAINED_DIRECTLY;
+    }
+    /* 3 holds 6 with 2 in it, 5 holds 4 with 1, 10 holds 9 with 8, 12 holds 11 with 7. */
+    contained[14 * 3 + 2] = contained[14 * 5 + 1] = RIGHTS_CONTAINED_THROUGH_OTHERS;
+    contained[14 * 10 + 8] = contained[14 * 12 + 7] = RIGHTS_CONTAINED_THROUGH_OTHERS;
+
+    memset(scratch, 9, sizeof scratch);
+    expect("first granted pair",
+           rights_entry(boxes, 14, rows, 24, arrows, 20, 0, 13, 0, scratch, 197), RIGHTS_GRANTED,
+           0, 4, 0, 0);
+    hold("scratch after an entry", memcmp(scratch, contained, 196) == 0 && scratch[196] == 9);
+    memset(scratch, 9, sizeof scratch);
+    expect("no order",
+           rights_list(boxes, 14, rows, 24, arrows, 20, 0, scratch, 197, list, 5, work, 9),
+           RIGHTS_REFUSED, RIGHTS_NO_ORDER, 0, 1, 8);
+    hold("scratch after 13", memcmp(scratch, contained, 196) == 0 && scratch[196] == 9);
+}
+
 int main(void) {
     const uint8_t boxes[4] = {0, 0, 0, 1};
     const uint16_t rows[4] = {2, 0, 2, 1};
     const uint16_t arrows[8] = {0, 3, 0, 1, 2, 3, 0, 0};
-    const uint8_t contained[16] = {0, 0, 0, 0, 0, 0, 0, 0, 1, 1, 0, 0, 0, 0, 0, 0};
+    uint8_t contained[16] = {RIGHTS_NOT_CONTAINED};
+    contained[2 * 4 + 0] = contained[2 * 4 + 1] = RIGHTS_CONTAINED_DIRECTLY;
     uint8_t scratch[17], bytes[3] = {9, 9, 9}, work[3] = {9, 9, 9};
     uint16_t numbers[3] = {9, 9, 9}, list[3] = {9, 9, 9};
     uint16_t users[3] = {9, 9, 9}, files[3] = {9, 9, 9};
     const rights_reply zeros = {0, 0, 0, 0, 0};
     hold("version", rights_version() == RIGHTS_VERSION);
     hold("a reply of zeros", zeros.kind == RIGHTS_DENIED);
+    hold("values of scratch", RIGHTS_NOT_CONTAINED == 0 && RIGHTS_CONTAINED_THROUGH_OTHERS == 1
+                                  && RIGHTS_CONTAINED_DIRECTLY == 2);
     for (int k = 0; k < 17; k++) {
         scratch[k] = 9;
     }
@@ -136,23 +170,7 @@ int main(void) {
     name("buffer 8", rights_buffer_name(8), "unknown buffer");
     name("buffer 12", rights_buffer_name(RIGHTS_ATOMIC_FILES), "atomic files");
 
-    /*
-     * J with a user in front and a file behind, joined by a positive arrow. Granted are (0, 13),
-     * (1, 8) and (2, 7). No list reaches all three, but an honest one reaches the first.
-     */
-    const uint8_t j_boxes[14] = {0, 0, 0, 0, 0, 0, 0, 1, 1, 1, 1, 1, 1, 1};
-    const uint16_t j_rows[24] = {3, 1, 3,  6, 4,  1,  5,  4, 5,  2,  6,  2,
-                                 9, 8, 10, 9, 10, 7, 11, 7, 12, 11, 12, 8};
-    const uint16_t j_arrows[20] = {3, 9, 0, 1, 4, 10, 0, 0, 5, 11, 0, 1, 6, 12, 0, 0, 0, 13, 0, 1};
-    uint8_t j_scratch[196], j_work[9];
-    uint16_t j_list[5];
-    expect("first granted pair",
-           rights_entry(j_boxes, 14, j_rows, 24, j_arrows, 20, 0, 13, 0, j_scratch, 196),
-           RIGHTS_GRANTED, 0, 4, 0, 0);
-    expect("no order", rights_list(j_boxes, 14, j_rows, 24, j_arrows, 20, 0, j_scratch, 196,
-                                   j_list, 5, j_work, 9),
-           RIGHTS_REFUSED, RIGHTS_NO_ORDER, 0, 1, 8);
-
+    ring();
     printf("boundary: %s\n", failed ? "FAILED" : "passed");
     return failed != 0;
 }

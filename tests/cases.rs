@@ -1,6 +1,6 @@
-//! The lettered pictures A to J, the three traps, lists, the limits and some orders of refusals,
-//! with expectations written by hand from documents 01 and 02. Each is put to the library through
-//! the Rust package and to the model.
+//! The lettered pictures A to J, the three traps, lists, scratches, the limits and some orders of
+//! refusals, with expectations written by hand from documents 01 and 02. Each is put to the library
+//! through the Rust package and to the model.
 
 use super::checker::{self, Answer, Known, Lists, Tables};
 use super::compare_answer;
@@ -121,10 +121,8 @@ const CASES: &[Case] = &[
     },
     Case {
         name: "J: the ring; trap 3 would write a list",
-        boxes: &[0, 0, 0, 0, 0, 0, 1, 1, 1, 1, 1, 1],
-        rows: &[
-            2, 0, 2, 5, 3, 0, 4, 3, 4, 1, 5, 1, 8, 7, 9, 8, 9, 6, 10, 6, 11, 10, 11, 7,
-        ],
+        boxes: BOXES_J,
+        rows: ROWS_J,
         arrows: &[2, 8, 0, 1, 3, 9, 0, 0, 4, 10, 0, 1, 5, 11, 0, 0],
         judge: None,
         matrix: Some((&[0, 1, 1, 0], &[1, 0, 2, 3])),
@@ -253,10 +251,8 @@ const CASES: &[Case] = &[
         // Arrow 4 opens the ring. Arrow 0 is blocked by (1,7) until arrow 3 reaches that, and by
         // then it reaches nothing new.
         name: "J with a positive arrow from 0 to 7: arrow 0 never appears",
-        boxes: &[0, 0, 0, 0, 0, 0, 1, 1, 1, 1, 1, 1],
-        rows: &[
-            2, 0, 2, 5, 3, 0, 4, 3, 4, 1, 5, 1, 8, 7, 9, 8, 9, 6, 10, 6, 11, 10, 11, 7,
-        ],
+        boxes: BOXES_J,
+        rows: ROWS_J,
         arrows: &[2, 8, 0, 1, 3, 9, 0, 0, 4, 10, 0, 1, 5, 11, 0, 0, 0, 7, 0, 1],
         judge: None,
         matrix: Some((&[0, 1, 1, 0], &[1, 0, 2, 3])),
@@ -280,6 +276,27 @@ const CASES: &[Case] = &[
         )),
         entries: &[(0, 13, Answer::Granted(4)), (1, 8, Answer::Granted(0))],
         list: List::Refused((13, [0, 1, 8])),
+    },
+    Case {
+        // User 0 in group 1 in group 2, which denies.
+        name: "an arrow overrides one whose tail is around its own through others only",
+        boxes: &[0, 0, 0, 1],
+        rows: &[1, 0, 2, 1],
+        arrows: &[2, 3, 0, 0, 0, 3, 0, 1],
+        judge: None,
+        matrix: Some((&[1], &[1])),
+        entries: &[(0, 3, Answer::Granted(1))],
+        list: List::Written(&[1]),
+    },
+    Case {
+        name: "the same, with the user drawn in group 2 as well",
+        boxes: &[0, 0, 0, 1],
+        rows: &[1, 0, 2, 1, 2, 0],
+        arrows: &[2, 3, 0, 0, 0, 3, 0, 1],
+        judge: None,
+        matrix: Some((&[1], &[1])),
+        entries: &[(0, 3, Answer::Granted(1))],
+        list: List::Written(&[1]),
     },
     Case {
         // Arrow 0 reaches both users, and arrows 1 and 2 only what it reached before.
@@ -351,6 +368,10 @@ struct AtomsCase {
 
 const BOXES_B: &[u8] = &[0, 0, 0, 1];
 const ROWS_B: &[u16] = &[2, 0, 2, 1];
+const BOXES_J: &[u8] = &[0, 0, 0, 0, 0, 0, 1, 1, 1, 1, 1, 1];
+const ROWS_J: &[u16] = &[
+    2, 0, 2, 5, 3, 0, 4, 3, 4, 1, 5, 1, 8, 7, 9, 8, 9, 6, 10, 6, 11, 10, 11, 7,
+];
 
 const ATOMS: &[AtomsCase] = &[
     AtomsCase {
@@ -395,10 +416,8 @@ const ATOMS: &[AtomsCase] = &[
     },
     AtomsCase {
         name: "atoms of J",
-        boxes: &[0, 0, 0, 0, 0, 0, 1, 1, 1, 1, 1, 1],
-        rows: &[
-            2, 0, 2, 5, 3, 0, 4, 3, 4, 1, 5, 1, 8, 7, 9, 8, 9, 6, 10, 6, 11, 10, 11, 7,
-        ],
+        boxes: BOXES_J,
+        rows: ROWS_J,
         result: Ok([2, 2]),
         users: &[0, 1],
         files: &[6, 7],
@@ -442,6 +461,180 @@ const ATOMS: &[AtomsCase] = &[
         result: Err((5, [0, 0, 0])),
         users: &[],
         files: &[],
+    },
+];
+
+/// A picture and the scratch that every call leaves, answered or refused.
+struct ScratchCase {
+    name: &'static str,
+    boxes: &'static [u8],
+    rows: &'static [u16],
+    arrows: &'static [u16],
+    /// User and file of the entry.
+    asked: (u16, u16),
+    /// The refusals of judge, entry, matrix and list, the last three for mode 0.
+    refused: [Option<Refused>; 4],
+    /// A line for each outer box, a digit for each inner one.
+    scratch: &'static [&'static str],
+}
+
+const SCRATCHES: &[ScratchCase] = &[
+    ScratchCase {
+        name: "A",
+        boxes: &[],
+        rows: &[],
+        arrows: &[],
+        asked: (0, 0),
+        refused: [None, Some((11, [0, 0, 0])), None, None],
+        scratch: &[],
+    },
+    ScratchCase {
+        name: "directly and through others",
+        boxes: &[0, 0, 0],
+        rows: &[0, 1, 1, 2, 0, 2],
+        arrows: &[],
+        asked: (1, 2),
+        refused: [None, Some((11, [1, 2, 0])), None, None],
+        scratch: &["022", "002", "000"],
+    },
+    ScratchCase {
+        name: "directly and through others, the direct row first",
+        boxes: &[1, 1, 1],
+        rows: &[0, 2, 0, 1, 1, 2],
+        arrows: &[],
+        asked: (1, 2),
+        refused: [None, Some((11, [1, 2, 0])), None, None],
+        scratch: &["022", "002", "000"],
+    },
+    ScratchCase {
+        name: "through others only",
+        boxes: &[0, 0, 0],
+        rows: &[0, 1, 1, 2],
+        arrows: &[],
+        asked: (2, 0),
+        refused: [None, Some((11, [2, 0, 0])), None, None],
+        scratch: &["021", "002", "000"],
+    },
+    ScratchCase {
+        name: "through others only, files, their numbers falling",
+        boxes: &[1, 1, 1, 1],
+        rows: &[3, 2, 2, 1, 1, 0],
+        arrows: &[],
+        asked: (0, 0),
+        refused: [None, Some((11, [0, 0, 0])), None, None],
+        scratch: &["0000", "2000", "1200", "1120"],
+    },
+    ScratchCase {
+        name: "a direct row over three others, one of them repeated",
+        boxes: &[0, 0, 0, 0],
+        rows: &[2, 3, 0, 1, 1, 2, 0, 1, 0, 3],
+        arrows: &[],
+        asked: (3, 3),
+        refused: [None, Some((11, [3, 3, 0])), None, None],
+        scratch: &["0212", "0021", "0002", "0000"],
+    },
+    ScratchCase {
+        name: "a row three times, another twice",
+        boxes: &[0, 0, 0],
+        rows: &[0, 1, 0, 1, 1, 2, 0, 1, 1, 2],
+        arrows: &[],
+        asked: (2, 2),
+        refused: [None, Some((11, [2, 2, 0])), None, None],
+        scratch: &["021", "002", "000"],
+    },
+    ScratchCase {
+        name: "H: a row from a box to itself",
+        boxes: &[0],
+        rows: &[0, 0],
+        arrows: &[],
+        asked: (0, 0),
+        refused: [Some((10, [0, 0, 0])); 4],
+        scratch: &["2"],
+    },
+    ScratchCase {
+        name: "a loop of two",
+        boxes: &[0, 0],
+        rows: &[0, 1, 1, 0],
+        arrows: &[],
+        asked: (0, 0),
+        refused: [Some((10, [0, 0, 0])); 4],
+        scratch: &["12", "21"],
+    },
+    ScratchCase {
+        name: "a row from an inner box to itself",
+        boxes: &[0, 0],
+        rows: &[0, 1, 1, 1],
+        arrows: &[],
+        asked: (0, 0),
+        refused: [Some((10, [1, 0, 0])); 4],
+        scratch: &["02", "02"],
+    },
+    ScratchCase {
+        name: "a loop of three with a box around it and one inside",
+        boxes: &[1, 1, 1, 1, 1],
+        rows: &[1, 2, 2, 3, 3, 1, 0, 1, 3, 4],
+        arrows: &[],
+        asked: (0, 0),
+        refused: [Some((10, [1, 0, 0])); 4],
+        scratch: &["02111", "01211", "01121", "02112", "00000"],
+    },
+    ScratchCase {
+        name: "a loop of two, one of them in itself as well",
+        boxes: &[0, 0],
+        rows: &[0, 1, 1, 0, 1, 1],
+        arrows: &[],
+        asked: (0, 0),
+        refused: [Some((10, [0, 0, 0])); 4],
+        scratch: &["12", "22"],
+    },
+    ScratchCase {
+        name: "B",
+        boxes: BOXES_B,
+        rows: ROWS_B,
+        arrows: &[0, 3, 0, 1, 2, 3, 0, 0],
+        asked: (0, 3),
+        refused: [None; 4],
+        scratch: &["0000", "0000", "2200", "0000"],
+    },
+    ScratchCase {
+        name: "B, asked for the group",
+        boxes: BOXES_B,
+        rows: ROWS_B,
+        arrows: &[0, 3, 0, 1, 2, 3, 0, 0],
+        asked: (2, 3),
+        refused: [None, Some((11, [2, 3, 0])), None, None],
+        scratch: &["0000", "0000", "2200", "0000"],
+    },
+    ScratchCase {
+        name: "trap 2: an unclear pair",
+        boxes: &[0, 0, 0, 1, 1, 1],
+        rows: &[1, 0, 2, 1, 4, 3, 5, 4],
+        arrows: &[0, 5, 0, 1, 2, 3, 0, 1, 1, 4, 0, 0],
+        asked: (0, 3),
+        refused: [Some((12, [0, 0, 3])), None, None, Some((12, [0, 0, 3]))],
+        scratch: &["000000", "200000", "120000", "000000", "000200", "000120"],
+    },
+    ScratchCase {
+        name: "J: no order",
+        boxes: BOXES_J,
+        rows: ROWS_J,
+        arrows: &[2, 8, 0, 1, 3, 9, 0, 0, 4, 10, 0, 1, 5, 11, 0, 0],
+        asked: (1, 7),
+        refused: [None, None, None, Some((13, [0, 0, 7]))],
+        scratch: &[
+            "000000000000", // 0, a user
+            "000000000000", // 1, a user
+            "210002000000", // 2 holds 0 and 5, so 1
+            "200000000000", // 3 holds 0
+            "120200000000", // 4 holds 3 and 1, so 0
+            "020000000000", // 5 holds 1
+            "000000000000", // 6, a file
+            "000000000000", // 7, a file
+            "000000020000", // 8 holds 7
+            "000000212000", // 9 holds 8 and 6, so 7
+            "000000200000", // 10 holds 6
+            "000000120020", // 11 holds 10 and 7, so 6
+        ],
     },
 ];
 
@@ -627,6 +820,67 @@ fn one_list(case: &Case, spare: usize, report: &mut Report) {
     report.same(&what, (got, model.list, model.work), want);
 }
 
+/// The refusal of a call, if any, and the scratch after it.
+type Left = (Option<Refused>, Vec<u8>);
+
+/// Long enough for the other buffers of every scratch case.
+const ROOM: usize = 8;
+
+impl ScratchCase {
+    /// After judge, entry, matrix and list of the library.
+    fn library(&self, scratch: &[u8]) -> [Left; 4] {
+        let picture = lent::Tables {
+            boxes: self.boxes,
+            containments: self.rows,
+            arrows: self.arrows,
+        };
+        let (user, file) = self.asked;
+        let after = |call: &dyn Fn(&mut [u8]) -> Option<Refused>| {
+            let mut lent = scratch.to_vec();
+            (call(&mut lent), lent)
+        };
+        [
+            after(&|lent| numbers(&picture.judge(lent))),
+            after(&|lent| numbers(&picture.entry(user, file, 0, lent))),
+            after(&|lent| numbers(&picture.matrix(0, lent, &mut [9; ROOM], &mut [9; ROOM]))),
+            after(&|lent| numbers(&picture.list(0, lent, &mut [9; ROOM], &mut [9; ROOM]))),
+        ]
+    }
+
+    fn model(&self, scratch: &[u8]) -> [Left; 4] {
+        let known = Known::new(&Tables {
+            boxes: self.boxes.to_vec(),
+            rows: self.rows.to_vec(),
+            arrows: self.arrows.to_vec(),
+        });
+        let (user, file) = self.asked;
+        let judge = checker::judge(&known, scratch);
+        let entry = checker::entry(&known, user, file, 0, scratch);
+        let matrix = checker::matrix(&known, 0, scratch, &[9; ROOM], &[9; ROOM]);
+        let list = checker::list(&known, 0, scratch, &[9; ROOM], &[9; ROOM]);
+        [
+            (model_numbers(&judge.result), judge.scratch),
+            (model_numbers(&entry.result), entry.scratch),
+            (model_numbers(&matrix.result), matrix.scratch),
+            (model_numbers(&list.result), list.scratch),
+        ]
+    }
+}
+
+/// The scratch after each call, lent with three bytes more than needed, all holding `before`.
+fn one_scratch(case: &ScratchCase, before: u8, report: &mut Report) {
+    let digits = case.scratch.concat().into_bytes();
+    let filled: Vec<u8> = digits.iter().map(|digit| digit - b'0').collect();
+    let lent = vec![before; filled.len() + 3];
+    let (library, model) = (case.library(&lent), case.model(&lent));
+    for (k, call) in ["judge", "entry", "matrix", "list"].iter().enumerate() {
+        let what = format!("{}: scratch after {call}", case.name);
+        let want = (case.refused[k], [&filled[..], &[before; 3]].concat());
+        report.same(&what, &library[k], &want);
+        report.same(&what, &model[k], &want);
+    }
+}
+
 /// Document 01 says of case B: "One list that qualifies is 0, 1; another is 0. The list 1, 0
 /// doesn't."
 fn lists_of_b(report: &mut Report) {
@@ -682,7 +936,7 @@ fn limits(report: &mut Report) {
     let got = picture.entry(1, 3, 6, &mut scratch);
     let want = Some(Answer::Denied(511));
     report.same("arrow 511", got.ok().map(compare_answer), want);
-    let want = [0, 1, 0, 0, 0, 0, 0, 0, 1, 1, 0, 0, 0, 0, 0, 0];
+    let want = [0, 2, 0, 0, 0, 0, 0, 0, 2, 1, 0, 0, 0, 0, 0, 0];
     report.same("containment 1023", scratch, want);
     // A scratch of one byte less than 256 boxes need.
     let boxes = vec![0; 256];
@@ -693,6 +947,28 @@ fn limits(report: &mut Report) {
     };
     let got = picture.judge(&mut vec![9; 65_535]);
     report.same("short scratch", numbers(&got), Some((9, [0, 65_536, 0])));
+}
+
+/// All 256 boxes in a chain, box a around box a + 1: 255 pairs directly, the others through these.
+fn long_chain(report: &mut Report) {
+    let tables = Tables {
+        boxes: vec![0; 256],
+        rows: (0..255).flat_map(|a| [a, a + 1]).collect(),
+        arrows: vec![],
+    };
+    let picture = lent::Tables {
+        boxes: &tables.boxes,
+        containments: &tables.rows,
+        arrows: &[],
+    };
+    let line = |a: usize| [vec![0; a + 1], vec![2], vec![1; 255]].concat()[..256].to_vec();
+    let want: Vec<u8> = (0..256).flat_map(line).chain([9]).collect();
+    let mut scratch = vec![9; 65_537];
+    let model = checker::judge(&Known::new(&tables), &scratch);
+    let got = picture.judge(&mut scratch);
+    report.same("chain of 256 boxes", numbers(&got), None);
+    report.same("chain of 256 boxes: scratch", scratch == want, true);
+    report.same("chain of 256 boxes: scratch", model.scratch == want, true);
 }
 
 fn refused(report: &mut Report) {
@@ -725,7 +1001,7 @@ fn refused(report: &mut Report) {
     let mut scratch = [9, 9];
     let got = loop_h.entry(5, 6, 7, &mut scratch);
     report.same("10 next", numbers(&got), Some((10, [0, 0, 0])));
-    report.same("10 fills the scratch", scratch, [1, 9]);
+    report.same("10 fills the scratch", scratch, [2, 9]);
     let group = lent::Tables {
         boxes: &[0, 0, 1],
         containments: &[1, 0],
@@ -839,12 +1115,17 @@ pub fn run() -> Report {
     for case in CASES {
         one_case(case, &mut report);
     }
+    for case in SCRATCHES {
+        one_scratch(case, 2, &mut report);
+        one_scratch(case, 9, &mut report);
+    }
     lists_of_b(&mut report);
     limits(&mut report);
+    long_chain(&mut report);
     refused(&mut report);
     atoms(&mut report);
     limits_of_atoms(&mut report);
     files(&mut report);
-    report.same("version", rights::version(), (1, 0, 0));
+    report.same("version", rights::version(), (2, 0, 0));
     report
 }

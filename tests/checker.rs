@@ -1,5 +1,5 @@
-//! The independent model: document 01 and the order of lists in document 02 (request P3) in plain
-//! Rust, written from their text alone.
+//! The independent model: document 01 with requests P2 (what is drawn directly) and P3 (the order
+//! of lists) of document 02 in plain Rust, written from their text alone.
 //!
 //! Each call is a pure function from what was lent (the tables and the contents of every buffer
 //! before the call) to the answer and the contents of every buffer after it.
@@ -118,6 +118,8 @@ fn table_checks(t: &Tables) -> Result<(), Refusal> {
 pub struct Picture {
     pub n: usize,
     pub arrows: Vec<Arrow>,
+    /// `inner[a]`: the inner boxes of the rows that have a as outer box, in the table's order.
+    pub inner: Vec<Vec<usize>>,
     /// `contains[a][b]`: a chain of one or more rows leads from a to b.
     pub contains: Vec<Vec<bool>>,
     /// Atomic users and atomic files, by rising number.
@@ -171,6 +173,7 @@ impl Picture {
             files: atoms(1),
             on_loop: (0..n).find(|&b| contains[b][b]),
             contains,
+            inner,
             answers: Vec::new(),
         };
         if picture.on_loop.is_none() {
@@ -270,10 +273,21 @@ impl Picture {
         self.first(mode, |answer| matches!(answer, Answer::Granted(_)))
     }
 
+    /// Byte a × n + b of the scratch, in document 02's words: "2 where a row has a as outer box and
+    /// b as inner, 1 where a contains b only through others, 0 otherwise."
+    fn joined(&self, a: usize, b: usize) -> u8 {
+        if self.inner[a].contains(&b) {
+            2
+        } else if self.contains[a][b] {
+            1
+        } else {
+            0
+        }
+    }
+
     fn scratch(&self) -> Vec<u8> {
-        self.contains
-            .iter()
-            .flat_map(|row| row.iter().map(|&c| c as u8))
+        (0..self.n * self.n)
+            .map(|place| self.joined(place / self.n, place % self.n))
             .collect()
     }
 }

@@ -25,8 +25,17 @@ use std::panic::{catch_unwind, AssertUnwindSafe};
 use std::process::{Command, ExitCode, Stdio};
 use std::time::Instant;
 
-/// From so many pictures on, every refusal number must have come up.
+/// From so many pictures on, every refusal number and all of `SHOWN` must have come up.
 const FULL_RUN: u64 = 10_000;
+
+/// What a picture and its filled scratch can show.
+const SHOWN: [&str; 5] = [
+    "a pair joined through others only",
+    "a pair joined directly and through others",
+    "a repeated row",
+    "a row from a box to itself",
+    "a longer loop",
+];
 
 /// How often things came up.
 #[derive(Default)]
@@ -38,6 +47,9 @@ struct Tally {
     default: u64,
     unclear: u64,
     clear_pictures: u64,
+    /// Pictures whose scratch judge filled, and of these the ones that show each of `SHOWN`.
+    filled: u64,
+    shown: [u64; 5],
     lists: u64,
     /// Refusals 13 that name another pair than the mode's first granted one.
     later_no_order: u64,
@@ -54,8 +66,13 @@ impl Tally {
         }
     }
 
-    fn never_seen(&self) -> Vec<usize> {
-        (1..=17).filter(|&k| self.refusals[k] == 0).collect()
+    fn never_seen(&self) -> Vec<String> {
+        let refusals = (1..=17).filter(|&k| self.refusals[k] == 0);
+        let shown = (0..SHOWN.len()).filter(|&k| self.shown[k] == 0);
+        refusals
+            .map(|k| format!("refusal {k}"))
+            .chain(shown.map(|k| SHOWN[k].to_string()))
+            .collect()
     }
 
     fn print(&self) {
@@ -64,6 +81,13 @@ impl Tally {
         println!(
             "calls {}; entries granted {}, denied {}, by default {}, unclear {}; judged clear {}",
             self.calls, self.granted, self.denied, self.default, self.unclear, self.clear_pictures
+        );
+        let shown = SHOWN.iter().zip(self.shown);
+        let shown: Vec<String> = shown.map(|(what, n)| format!("{what} {n}")).collect();
+        println!(
+            "scratches filled by judge {}: {}",
+            self.filled,
+            shown.join(", ")
         );
         println!(
             "lists written {} with {} arrows, each asked for twice; no order {} (not at the \
@@ -164,6 +188,61 @@ fn compare_refusal(refusal: rights::Refusal) -> checker::Refusal {
     checker::Refusal { number, places }
 }
 
+/// What holds of a filled scratch by itself, however the model finds it: its 2s are the rows of the
+/// table, and walking up from box b by 2s alone comes to box a exactly where byte a × n + b is
+/// not 0.
+fn steps_drawn(t: &Tables, scratch: &[u8]) -> Result<(), String> {
+    let n = t.boxes.len();
+    let place = |row: &[u16]| row[0] as usize * n + row[1] as usize;
+    let mut rows: Vec<usize> = t.rows.chunks(2).map(place).collect();
+    rows.sort();
+    rows.dedup();
+    let twos: Vec<usize> = (0..n * n).filter(|&at| scratch[at] == 2).collect();
+    if twos != rows {
+        return Err("the 2s are not the rows".to_string());
+    }
+    let mut above = vec![Vec::new(); n];
+    for at in twos {
+        above[at % n].push(at / n);
+    }
+    for b in 0..n {
+        let mut met = vec![false; n];
+        let mut from = vec![b];
+        while let Some(here) = from.pop() {
+            for &a in &above[here] {
+                if !met[a] {
+                    met[a] = true;
+                    from.push(a);
+                }
+            }
+        }
+        if let Some(a) = (0..n).find(|&a| met[a] != (scratch[a * n + b] != 0)) {
+            let byte = scratch[a * n + b];
+            return Err(format!("from {b} up to {a} by 2s: {}, byte {byte}", met[a]));
+        }
+    }
+    Ok(())
+}
+
+/// Which of `SHOWN` a picture and its filled scratch show.
+fn shown(t: &Tables, scratch: &[u8]) -> [bool; 5] {
+    let n = t.boxes.len();
+    let byte = |a: usize, b: usize| scratch[a * n + b];
+    let through_others = |a: usize, b: usize| {
+        let mut others = (0..n).filter(|&c| c != a && c != b);
+        others.any(|c| byte(a, c) > 0 && byte(c, b) > 0)
+    };
+    let twos = scratch.iter().filter(|&&byte| byte == 2).count();
+    let mut rows = t.rows.chunks(2);
+    [
+        (0..n * n).any(|at| scratch[at] == 1 && at / n != at % n),
+        rows.any(|row| through_others(row[0] as usize, row[1] as usize)),
+        twos < t.rows.len() / 2,
+        (0..n).any(|b| byte(b, b) == 2),
+        (0..n).any(|b| byte(b, b) == 1),
+    ]
+}
+
 /// One picture, its library calls and what came up.
 struct Trial<'a> {
     r: Random,
@@ -215,7 +294,17 @@ impl Trial<'_> {
         let want = checker::judge(self.known, scratch.before());
         self.tally.clear_pictures += want.result.is_ok() as u64;
         self.same("judge", got, want.result)?;
-        scratch.ends_as("judge: scratch", &want.scratch)
+        scratch.ends_as("judge: scratch", &want.scratch)?;
+        if matches!(want.result, Err(refusal) if refusal.number < 10) {
+            return Ok(());
+        }
+        let n = self.tables.boxes.len();
+        let filled = &scratch.after()[..n * n];
+        self.tally.filled += 1;
+        for (count, shown) in self.tally.shown.iter_mut().zip(shown(self.tables, filled)) {
+            *count += shown as u64;
+        }
+        steps_drawn(self.tables, filled).map_err(|why| format!("judge: scratch: {why}"))
     }
 
     fn entry(&mut self, user: u16, file: u16, mode: u16) -> Result<(), String> {
@@ -487,7 +576,7 @@ fn run(start: u64, count: u64, loud: bool) -> bool {
     let never = tally.never_seen();
     let all_seen = count < FULL_RUN || never.is_empty();
     if !all_seen {
-        println!("refusals never seen: {never:?}");
+        println!("never seen: {}", never.join(", "));
     }
     let seconds = begun.elapsed().as_secs_f64();
     println!("compared {done} pictures from seed {start}, {failed} disagree, {seconds:.1} s");

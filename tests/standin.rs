@@ -73,6 +73,35 @@ ways! {
     ScratchOnNine: "scratch is filled before 9 for later buffers",
     ScratchNotOnTen: "scratch is not filled on 10",
     ScratchBeyond: "scratch beyond the needed length is cleaned",
+    DrawnNowhere: "scratch holds 0 and 1 only",
+    DrawnOnly: "scratch holds 0 and 2 only, nothing for what is joined through others",
+    DrawnSpread: "the 2s are marked first and spread to all that is contained",
+    DrawnThree: "a pair joined directly and through others is 3",
+    DrawnLoses: "a pair joined directly and through others is 1",
+    DrawnExchanged: "2 stands at inner and outer box exchanged",
+    DrawnFirst: "only the first row of each outer box is marked as drawn",
+    DrawnNotLast: "the last row is not marked as drawn",
+    DrawnUsers: "only rows between users are marked as drawn",
+    DrawnCounted: "each repeat of a row adds 1",
+    DrawnTurned: "each repeat of a row turns 2 to 1 or 1 to 2",
+    DrawnNotItself: "a row from a box to itself gives 1",
+    DrawnLoop: "a longer loop gives 2 on the diagonal",
+    DrawnBefore: "a 2 that scratch held before stays where a contains b",
+    DrawnBeyond: "the byte beyond the needed length is marked as drawn",
+    DrawnNotOnTen: "scratch holds 0 and 1 only after 10",
+    DrawnNotOnEleven: "scratch holds 0 and 1 only after 11",
+    DrawnNotOnTwelve: "scratch holds 0 and 1 only after 12",
+    DrawnNotOnThirteen: "scratch holds 0 and 1 only after 13",
+    DrawnNotByJudge: "judge leaves 0 and 1 only in scratch",
+    DrawnNotByEntry: "an entry leaves 0 and 1 only in scratch",
+    DrawnNotByMatrix: "the matrix leaves 0 and 1 only in scratch",
+    DrawnNotByList: "the list leaves 0 and 1 only in scratch",
+    ReachByOnes: "reaching takes 2 in scratch for not contained",
+    ReachByTwos: "reaching takes 1 in scratch for not contained",
+    OrderByOnes: "overriding takes 2 in scratch for not contained",
+    OrderByTwos: "overriding takes 1 in scratch for not contained",
+    LoopsByOnes: "10 takes 2 in scratch for not contained",
+    LoopsByTwos: "10 takes 1 in scratch for not contained",
     EightAfterNine: "8 after 9",
     NineListAllArrows: "the list needs a place for every arrow",
     NineWorkFirst: "buffer 4 before buffer 3",
@@ -279,26 +308,53 @@ impl Tables<'_> {
             .collect()
     }
 
-    /// Containment by Warshall's method, in place.
+    /// The scratch: containment by Warshall's method, in place and by ones; then 2 for each row.
     fn fill(&self, scratch: &mut [u8]) {
         let n = self.n();
         if is(Wrong::ScratchBeyond) {
             scratch.fill(0);
         }
-        scratch[..n * n].fill(0);
-        for k in 0..self.rows.len() / 2 {
-            let (outer, inner) = self.row(k);
-            if !is(Wrong::LastRowMissed) || k < 1023 {
-                scratch[outer * n + inner] = 1;
+        if is(Wrong::DrawnBeyond) && scratch.len() > n * n {
+            scratch[n * n] = 2;
+        }
+        let scratch = &mut scratch[..n * n];
+        let before = scratch.to_vec();
+        scratch.fill(0);
+        let first = if is(Wrong::DrawnSpread) { 2 } else { 1 };
+        for (outer, inner) in self.all_rows() {
+            scratch[outer * n + inner] = first;
+        }
+        self.join(scratch);
+        self.draw(scratch);
+        for b in 0..n {
+            if is(Wrong::LoopsMissed) {
+                scratch[b * n + b] = 0;
+            } else if is(Wrong::DrawnLoop) && scratch[b * n + b] == 1 {
+                scratch[b * n + b] = 2;
             }
         }
+        if is(Wrong::DrawnBefore) {
+            for (byte, before) in scratch.iter_mut().zip(before) {
+                *byte = if before == 2 && *byte == 1 { 2 } else { *byte };
+            }
+        }
+    }
+
+    /// Outer and inner box of every row.
+    fn all_rows(&self) -> Vec<(usize, usize)> {
+        let missed = is(Wrong::LastRowMissed) as usize;
+        let count = (self.rows.len() / 2).min(1024 - missed);
+        (0..count).map(|k| self.row(k)).collect()
+    }
+
+    /// From the places of the rows to those of all that is contained.
+    fn join(&self, scratch: &mut [u8]) {
+        let n = self.n();
         if is(Wrong::ShallowClosure) {
-            let drawn = scratch[..n * n].to_vec();
-            for a in 0..n {
-                for b in (0..n).filter(|b| drawn[a * n + b] == 1) {
-                    for c in (0..n).filter(|c| drawn[b * n + c] == 1) {
-                        scratch[a * n + c] = 1;
-                    }
+            let rows = self.all_rows();
+            for &(a, b) in &rows {
+                for &(_, c) in rows.iter().filter(|row| row.0 == b) {
+                    scratch[a * n + c] = 1;
                 }
             }
             return;
@@ -308,16 +364,44 @@ impl Tables<'_> {
                 continue;
             }
             for a in 0..n {
-                if scratch[a * n + via] == 1 {
+                if scratch[a * n + via] > 0 {
                     for b in 0..n {
                         scratch[a * n + b] |= scratch[via * n + b];
                     }
                 }
             }
         }
-        if is(Wrong::LoopsMissed) {
-            for b in 0..n {
-                scratch[b * n + b] = 0;
+    }
+
+    /// Writes 2 for each row.
+    fn draw(&self, scratch: &mut [u8]) {
+        let n = self.n();
+        let rows = self.all_rows();
+        for (k, &(outer, inner)) in rows.iter().enumerate() {
+            let place = outer * n + inner;
+            let earlier = &rows[..k];
+            let through_others = || {
+                let mut others = (0..n).filter(|&c| c != outer && c != inner);
+                others.any(|c| scratch[outer * n + c] > 0 && scratch[c * n + inner] > 0)
+            };
+            let unmarked = is(Wrong::DrawnFirst) && earlier.iter().any(|row| row.0 == outer)
+                || is(Wrong::DrawnNotLast) && k + 1 == rows.len()
+                || is(Wrong::DrawnUsers) && self.boxes[outer] == 1
+                || is(Wrong::DrawnNotItself) && outer == inner
+                || is(Wrong::DrawnLoses) && through_others();
+            let repeat = || earlier.contains(&(outer, inner));
+            if unmarked {
+                continue;
+            } else if is(Wrong::DrawnExchanged) {
+                scratch[inner * n + outer] = 2;
+            } else if is(Wrong::DrawnThree) && through_others() {
+                scratch[place] = 3;
+            } else if is(Wrong::DrawnCounted) && repeat() {
+                scratch[place] = scratch[place].saturating_add(1);
+            } else if is(Wrong::DrawnTurned) && repeat() {
+                scratch[place] ^= 3;
+            } else {
+                scratch[place] = 2;
             }
         }
     }
@@ -325,13 +409,24 @@ impl Tables<'_> {
     /// Refusal 10, on a filled scratch.
     fn looped(&self, scratch: &[u8]) -> Option<Reply> {
         let n = self.n();
-        let mut on_loop = (0..n).filter(|b| scratch[b * n + b] == 1);
+        let mut on_loop = (0..n)
+            .filter(|b| contained(scratch[b * n + b], Wrong::LoopsByOnes, Wrong::LoopsByTwos));
         let named = if is(Wrong::LoopHighest) {
             on_loop.last()
         } else {
             on_loop.next()
         };
         named.map(|b| refusal(10, b, 0, 0))
+    }
+}
+
+/// Whether a byte of the scratch says that a box contains another. `ones` and `twos` are the ways
+/// to take only that number for it.
+fn contained(byte: u8, ones: Wrong, twos: Wrong) -> bool {
+    match byte {
+        0 => false,
+        1 => !is(twos),
+        _ => !is(ones),
     }
 }
 
@@ -354,15 +449,18 @@ impl<'a> World<'a> {
     }
 
     fn inside(&self, inner: usize, outer: usize) -> bool {
-        self.holds[outer * self.t.n() + inner] == 1
+        let byte = self.holds[outer * self.t.n() + inner];
+        contained(byte, Wrong::OrderByOnes, Wrong::OrderByTwos)
     }
 
     fn reaches(&self, k: usize, u: usize, f: usize) -> bool {
         let (tail, head) = (self.t.tail(k), self.t.head(k));
-        if is(Wrong::SameBoxMissed) {
-            return self.inside(u, tail) && self.inside(f, head);
-        }
-        (tail == u || self.inside(u, tail)) && (head == f || self.inside(f, head))
+        let holds = |outer: usize, inner: usize| {
+            let byte = self.holds[outer * self.t.n() + inner];
+            contained(byte, Wrong::ReachByOnes, Wrong::ReachByTwos)
+                || outer == inner && !is(Wrong::SameBoxMissed)
+        };
+        holds(tail, u) && holds(head, f)
     }
 
     /// -1 if a lies inside b, 1 if b lies inside a, 0 if they are level.
@@ -963,11 +1061,34 @@ fn read(file: &[u8], boxes: &mut [u8], rows: &mut [u16], arrows: &mut [u16]) -> 
     refused.unwrap_or(reply(DONE, counts[1], counts[2], counts[3]))
 }
 
+/// Takes out of the scratch that a call filled what a wrong library leaves out. `by` is the way to
+/// be wrong in this call only.
+fn leave(t: &Tables, by: Wrong, scratch: &mut [u8], answer: Reply) -> Reply {
+    if (1..=9).contains(&answer.number) {
+        return answer;
+    }
+    let after = match answer.number {
+        10 => Wrong::DrawnNotOnTen,
+        11 => Wrong::DrawnNotOnEleven,
+        12 => Wrong::DrawnNotOnTwelve,
+        13 => Wrong::DrawnNotOnThirteen,
+        _ => Wrong::DrawnNowhere,
+    };
+    for byte in &mut scratch[..t.n() * t.n()] {
+        if is(Wrong::DrawnNowhere) || is(after) || is(by) {
+            *byte = (*byte).min(1);
+        } else if is(Wrong::DrawnOnly) && *byte == 1 {
+            *byte = 0;
+        }
+    }
+    answer
+}
+
 // The boundary. SAFETY of all: the caller lends every pointer with its true length.
 
 #[no_mangle]
 pub extern "C" fn rights_version() -> u32 {
-    0x01_00_00
+    0x02_00_00
 }
 
 #[no_mangle]
@@ -986,7 +1107,9 @@ pub unsafe extern "C" fn rights_judge(
         rows: from_raw_parts(rows, rows_len),
         arrows: from_raw_parts(arrows, arrows_len),
     };
-    judge(&t, from_raw_parts_mut(scratch, scratch_len))
+    let scratch = from_raw_parts_mut(scratch, scratch_len);
+    let answer = judge(&t, scratch);
+    leave(&t, Wrong::DrawnNotByJudge, scratch, answer)
 }
 
 #[no_mangle]
@@ -1009,7 +1132,8 @@ pub unsafe extern "C" fn rights_entry(
         arrows: from_raw_parts(arrows, arrows_len),
     };
     let scratch = from_raw_parts_mut(scratch, scratch_len);
-    entry(&t, user, file, mode, scratch)
+    let answer = entry(&t, user, file, mode, scratch);
+    leave(&t, Wrong::DrawnNotByEntry, scratch, answer)
 }
 
 #[no_mangle]
@@ -1033,13 +1157,11 @@ pub unsafe extern "C" fn rights_matrix(
         rows: from_raw_parts(rows, rows_len),
         arrows: from_raw_parts(arrows, arrows_len),
     };
-    matrix(
-        &t,
-        mode,
-        from_raw_parts_mut(scratch, scratch_len),
-        from_raw_parts_mut(bytes, bytes_len),
-        from_raw_parts_mut(numbers, numbers_len),
-    )
+    let scratch = from_raw_parts_mut(scratch, scratch_len);
+    let bytes = from_raw_parts_mut(bytes, bytes_len);
+    let numbers = from_raw_parts_mut(numbers, numbers_len);
+    let answer = matrix(&t, mode, scratch, bytes, numbers);
+    leave(&t, Wrong::DrawnNotByMatrix, scratch, answer)
 }
 
 #[no_mangle]
@@ -1063,13 +1185,11 @@ pub unsafe extern "C" fn rights_list(
         rows: from_raw_parts(rows, rows_len),
         arrows: from_raw_parts(arrows, arrows_len),
     };
-    list(
-        &t,
-        mode,
-        from_raw_parts_mut(scratch, scratch_len),
-        from_raw_parts_mut(list_places, list_len),
-        from_raw_parts_mut(work, work_len),
-    )
+    let scratch = from_raw_parts_mut(scratch, scratch_len);
+    let places = from_raw_parts_mut(list_places, list_len);
+    let work = from_raw_parts_mut(work, work_len);
+    let answer = list(&t, mode, scratch, places, work);
+    leave(&t, Wrong::DrawnNotByList, scratch, answer)
 }
 
 #[no_mangle]
