@@ -33,10 +33,10 @@
  * Scratch
  *   n * n bytes for n boxes. Once refusals 1 to 9 are out of the question, byte a * n + b ends
  *   as 2 if a row has box a as outer and box b as inner, else as 1 if a contains b, through
- *   others only, else as 0; so too when the call is then refused with 10 or a later number. A
- *   byte that isn't 0 thus says that a contains b. The names of the three values are
- *   RIGHTS_CONTAINED_DIRECTLY, RIGHTS_CONTAINED_THROUGH_OTHERS and RIGHTS_NOT_CONTAINED. Its
- *   contents before the call don't matter.
+ *   others only, else as 0; so too when the call is then refused with 10 or a later number.
+ *   RIGHTS_CONTAINED_DIRECTLY, RIGHTS_CONTAINED_THROUGH_OTHERS and RIGHTS_NOT_CONTAINED are
+ *   the names of the three. To know whether a contains b, ask whether the byte isn't 0. The
+ *   contents of scratch before the call don't matter.
  *
  * In every array lent for writing, places beyond the needed length stay as they were.
  *

@@ -1,10 +1,12 @@
 -- What one turn of each loop that fills the scratch does to its bytes. Assumes nothing.
-use mathlib.Core.Path.{_≡_, refl, sym, ap, _∙_}
+use mathlib.Core.Path.{_≡_, refl, sym, subst, ap, _∙_}
 use mathlib.Core.Logic.{_⊎_, inl, inr, ⊎-elim, ⊎-map}
 use mathlib.Core.Bool.{Bool, true, false, _&&_, _||_, or-false, cond}
 use mathlib.Core.List.{List, _∷_}
-use Prim.Native.Nat.{ℕ, suc, _+_, _*_, _-_, _<_, _≤_}
+use Prim.Native.Nat.{ℕ, zero, suc, _+_, _*_, _-_, _<_, _≤_}
 use native.Mathlib.Decide.{ℕ-discrete, decLt}
+use native.Mathlib.Nat.{eq-or-lt-of-le}
+use native.Mathlib.Numerals.{add-one}
 use native.Mathlib.Omega.{arith}
 use borrow.Author.Tests.{eq-eqb, ne-eqb}
 use borrow.Author.Count.{below-more}
@@ -17,7 +19,7 @@ use Rattle.tables.specs.Buffers.{build, written, zeros}
 use Rattle.tables.specs.Rows.{rowCount, rowAt}
 use Rattle.containment.specs.Contains.{Row, here, later, direct, contains}
 use Rattle.containment.specs.Scratch.{filled}
-use Rattle.containment.specs.Steps.{Bytes, Cells, over, through, rounds, SameFrom, Joined, rowFrom}
+use Rattle.containment.specs.Steps.{Bytes, Cells, over, through, rounds, SameFrom, Joined, NextOuter, rowFrom}
 use Rattle.tables.proofs.RowLaws.{rows-from}
 use Rattle.tables.proofs.Bits.{bit-test, bit-or}
 use Rattle.tables.proofs.Tests.{and-T, not-false}
@@ -112,14 +114,19 @@ pub record Turned (n k i : ℕ) (s t : List ℕ) : Type 0 where
   pub done : (f : ℕ → ℕ → Bool) → Cells n f s → (a b : ℕ) → a < i → b < n → getD t (a * n + b) 0 ≡ bit (through f k a b)
   pub same : SameFrom (i * n) s t
 
+pub turned-none : (n k : ℕ) (s : List ℕ) → Turned n k 0 s s
+turned-none n k s = record {
+  done = λ f h a b la lb. absurd (omega arith);
+  same = record { len = refl; rest = λ p l. refl };
+}
+
 bit-zero : (p : Bool) → bit p ≡ 0 → p ≡ false
 bit-zero p e = sym (bit-test p) ∙ rw (eq-eqb (bit p) 0 e)
 
 bit-some : (p : Bool) → (bit p ≡ 0 → ⊥) → p ≡ true
 bit-some p e = sym (bit-test p) ∙ rw (ne-eqb (bit p) 0 e)
 
-module _ (n k i : ℕ) (row s t : List ℕ) (kn : k < n) (l : i < n) (copy : (b : ℕ) → b < n → getD row b 0 ≡ getD s (k * n + b) 0)
-    (turned : Turned n k i s t) where
+module _ (n k i : ℕ) (s t : List ℕ) (kn : k < n) (l : i < n) (turned : Turned n k i s t) where
   old : (f : ℕ → ℕ → Bool) → Cells n f s → (b : ℕ) → b < n → getD t (i * n + b) 0 ≡ bit (f i b)
   old f h b lb = turned .same .rest (i * n + b) (omega arith) ∙ h i b l lb
 
@@ -135,14 +142,28 @@ module _ (n k i : ℕ) (row s t : List ℕ) (kn : k < n) (l : i < n) (copy : (b 
     };
   }
 
-  pub round-yes : (getD t (i * n + k) 0 ≡ 0 → ⊥) → (u : List ℕ) → Joined row (i * n) 0 n t u → Turned n k (i + 1) s u
+  -- where i contains k
+  pub round-yes : (row : List ℕ) → ((b : ℕ) → b < n → getD row b 0 ≡ getD s (k * n + b) 0) → (getD t (i * n + k) 0 ≡ 0 → ⊥)
+      → (u : List ℕ) → Joined row (i * n) 0 n t u → Turned n k (i + 1) s u
   unfolding through
-  round-yes e u o = next u (o .len) (o .miss)
+  round-yes row copy e u o = next u (o .len) (o .miss)
       (λ f h b lb. o .hit b (omega arith) lb ∙ rw (old f h b lb, copy b lb ∙ h k b kn lb, bit-some (f i k) (λ z. e (old f h k kn ∙ z))) (bit-or (f i b) (f k b)))
 
-  pub round-no : getD t (i * n + k) 0 ≡ 0 → Turned n k (i + 1) s t
+  -- where it does not
+  round-no : getD t (i * n + k) 0 ≡ 0 → Turned n k (i + 1) s t
   unfolding through
   round-no e = next t refl (λ p q. refl) (λ f h b lb. old f h b lb ∙ rw (bit-zero (f i k) (sym (old f h k kn) ∙ e), or-false))
+
+-- up to the next box that contains k
+pub round-skip : (n k i r : ℕ) (s t : List ℕ) → k < n → NextOuter n k t i r → Turned n k i s t → Turned n k r s t
+round-skip n k i r s t kn o turned = go r (o .from-on) (o .at-most) (o .none-between)
+  where
+    go : (r : ℕ) → i ≤ r → r ≤ n → ((a : ℕ) → i ≤ a → a < r → getD t (a * n + k) 0 ≡ 0) → Turned n k r s t
+    go zero f m z = let e : i ≡ 0 = omega arith in subst (λ (x : ℕ). Turned n k x s t) e turned
+    go (suc r) f m z =
+        ⊎-elim (λ e. subst (λ (x : ℕ). Turned n k x s t) e turned)
+        (λ l. rw add-one at (round-no n k r s t kn (omega arith) (go r (omega arith) (omega arith) (λ a f l. z a f (omega arith))) (z r (omega arith) (omega arith))))
+        (eq-or-lt-of-le f)
 
 -- ---- close
 

@@ -48,6 +48,13 @@ pub record Joined (row : List ℕ) (dst from to : ℕ) (s t : List ℕ) : Type 0
   pub hit : (j : ℕ) → from ≤ j → j < to → getD t (dst + j) 0 ≡ bitOr (getD s (dst + j) 0) (getD row j 0)
   pub miss : (p : ℕ) → (p < dst + from) ⊎ (dst + to ≤ p) → getD t p 0 ≡ getD s p 0
 
+-- r is the first box from i on whose byte for box k is not 0, or n
+pub record NextOuter (n k : ℕ) (s : List ℕ) (i r : ℕ) : Type 0 where
+  pub from-on : i ≤ r
+  pub at-most : r ≤ n
+  pub none-between : (a : ℕ) → i ≤ a → a < r → getD s (a * n + k) 0 ≡ 0
+  pub holds : r < n → getD s (r * n + k) 0 ≡ 0 → ⊥
+
 -- n bytes from a place on
 unfoldable pub rowFrom : List ℕ → ℕ → ℕ → List ℕ
 rowFrom s at n = build (λ j. getD s (at + j) 0) n
