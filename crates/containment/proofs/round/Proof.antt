@@ -1,10 +1,9 @@
 -- `containment::round` meets its contract: the rows of bytes before i have their ways through k. Assumes nothing.
-use mathlib.Core.Path.{_≡_, refl}
-use Prim.Native.Nat.{ℕ, _+_, _*_, _-_, _<_, _≤_}
+use mathlib.Core.Path.{_≡_}
+use Prim.Native.Nat.{_+_, _*_, _-_, _<_, _≤_}
 use native.Mathlib.Omega.{arith}
 use borrow.Author.Needs.{needs}
 use lib.ListN.{length, getD}
-use Rattle.containment.specs.Steps.{NextOuter}
 use Rattle.containment.proofs.Index.{row-step}
 use Rattle.containment.proofs.StepLaws.{Turned, turned-none, round-yes, round-skip}
 use Rattle.containment.proofs.round.Statement.{statement}
