@@ -1,6 +1,6 @@
 #!/usr/bin/env python3
 """Compiles the two programs that docs/USING.md shows, runs them on samples B and J, and holds the matrix that they print against
-the stored listings.
+the stored listings. The steps up that the page shows are held against those that examples/c stores.
 
     using.py     in the repository's root, after target/staticlib/librights_c.a and target/librights.rlib are built
 """
@@ -44,7 +44,11 @@ def main():
             if pairs != matrix(name) or not ends:
                 wrong += 1
                 print(f"{language}, {name}: {ran.stdout.decode()}{ran.stderr.decode()}")
-    print(f"using: 2 programs on 2 samples, {wrong} wrong")
+    steps = (ROOT / "examples" / "c" / "steps" / "J.0.txt").read_text().splitlines()[:-1]
+    if "".join(f"    {line}\n" for line in steps) not in page:
+        wrong += 1
+        print("the steps up from user 0 of J are others")
+    print(f"using: 2 programs on 2 samples and the steps up, {wrong} wrong")
     sys.exit(wrong > 0)
 
 

@@ -74,7 +74,7 @@ fn join_row(s: &mut [u8], row: &[u8], dst: usize, n: usize)
     join_part(s, row, dst, 128, n);
 }
 
-// The first box from i on that contains box k, by its byte; n if there is none. Most of the time that filling takes is spent here.
+// The first box from i on that contains box k, by its byte; n if there is none. Filling a typical picture is mostly this.
 fn next_outer(s: &[u8], n: usize, k: usize, i: usize) -> usize
     requires { ⌜ (k < n) × (n * n ≤ length (now s)) × (i ≤ n) ⌝ }
     ensures { λ r. ⌜ NextOuter n k (now (s .entry)) i r ⌝ }
