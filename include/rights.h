@@ -13,14 +13,17 @@
  *   refused, not undefined.
  *
  * A picture is three tables, never written to by the calls on tables:
- *   boxes   one byte each: 0 user side, 1 file side. A box's number is its place.
+ *   boxes   one byte each: 0 user side, 1 file side, 2 user group, 3 folder; see RIGHTS_USER and
+ *           the names beside it. User groups are on the user side, folders on the file side.
+ *           A box's number is its place.
  *   rows    containments, two numbers each: outer box, inner box. rows_len is twice their count.
- *   arrows  four numbers each: tail (a user box), head (a file box), mode 0 to 7,
- *           sign (1 positive, 0 negative). arrows_len is four times their count. An arrow's
- *           number is its row.
- *   At most 256 boxes, 1,024 containments and 512 arrows. A box that is the outer one of no
- *   row is atomic. Pairs are (atomic user, atomic file), ordered by user, then file, both by
- *   rising number; their count is the number of atomic users times that of atomic files.
+ *   arrows  four numbers each: tail (a box of the user side), head (one of the file side),
+ *           mode 0 to 7, sign (1 positive, 0 negative). arrows_len is four times their count. An
+ *           arrow's number is its row.
+ *   At most 256 boxes, 1,024 containments and 512 arrows. A box of byte 0 or 1 that is the outer
+ *   one of no row is atomic; user groups and folders never are. Pairs are (atomic user, atomic
+ *   file), ordered by user, then file, both by rising number; their count is the number of atomic
+ *   users times that of atomic files.
  *   Box a contains box b if a chain of one or more rows leads from a to b. An arrow reaches a
  *   pair if its tail is the user or contains it, and its head is the file or contains it.
  *
@@ -62,7 +65,7 @@ extern "C" {
 #endif
 
 /* The version that this header belongs to: major, minor and patch, one byte each. */
-#define RIGHTS_VERSION 0x020000u
+#define RIGHTS_VERSION 0x030000u
 
 /* Limits of a picture and of a block file. */
 #define RIGHTS_MAX_BOXES 256
@@ -116,6 +119,18 @@ _Static_assert(RIGHTS_LAYOUT, "rights_reply isn't laid out as the library has it
 #undef RIGHTS_LAYOUT
 
 /*
+ * The bytes of boxes. A box of byte 0 or 1 that is the outer one of no row is a user or a file; so
+ * a group that is drawn with 0 turns into a user when its last member leaves. Drawn with 2 it
+ * doesn't. As long as it has members, 0 and 2 mean the same, and so do 1 and 3 for folders.
+ */
+enum {
+    RIGHTS_USER = 0,  /* user side */
+    RIGHTS_FILE = 1,  /* file side */
+    RIGHTS_GROUP = 2, /* user side, never atomic */
+    RIGHTS_FOLDER = 3 /* file side, never atomic */
+};
+
+/*
  * Kinds. DENIED, GRANTED and UNCLEAR are the bytes of the matrix too; there DENIED also stands
  * for denied by default. A reply of zeros reads denied.
  */
@@ -136,10 +151,10 @@ enum {
 enum {
     RIGHTS_RAGGED = 1,          /* rows_len odd, arrows_len no multiple of 4: table, length */
     RIGHTS_TOO_MANY_ROWS = 2,   /* table, count of rows */
-    RIGHTS_BOX_BYTE = 3,        /* a box byte above 1: box */
+    RIGHTS_BOX_BYTE = 3,        /* a box byte above 3: box */
     RIGHTS_NO_SUCH_BOX = 4,     /* a containment names a box that isn't there: row */
     RIGHTS_ACROSS_SIDES = 5,    /* a containment across sides: row */
-    RIGHTS_ARROW_ENDS = 6,      /* tail no user box or head no file box: row */
+    RIGHTS_ARROW_ENDS = 6,      /* tail not on the user side or head not on the file side: row */
     RIGHTS_MODE_OR_SIGN = 7,    /* an arrow's mode above 7 or sign above 1: row */
     RIGHTS_ASKED_MODE = 8,      /* the asked mode is above 7: mode */
     RIGHTS_BUFFER_SHORT = 9,    /* buffer (see below), length needed, in elements */
@@ -265,7 +280,7 @@ rights_reply rights_list(
  *   Leaves   after DONE the atomic users in the first a places of users and the atomic files in
  *            the first b places of files, both by rising number; places beyond them untouched. A
  *            refusal leaves both untouched.
- *   Note     10 is not checked here: which boxes are atomic goes by the rows alone.
+ *   Note     10 is not checked here: which boxes are atomic goes by bytes and rows alone.
  */
 rights_reply rights_atoms(
     const uint8_t *boxes, size_t boxes_len,
@@ -318,7 +333,7 @@ static inline const char *rights_refusal_name(uint32_t number) {
         "no refusal",
         "ragged table",
         "too many rows",
-        "box byte above 1",
+        "box byte above 3",
         "containment of a box that isn't there",
         "containment across sides",
         "arrow not from a user box to a file box",

@@ -25,7 +25,8 @@ pub const NO_ARROW: u16 = 65_535;
 /// The three tables of a picture as plain numbers, good or bad; faults are refused.
 #[derive(Clone, Copy, Debug, Default, PartialEq, Eq)]
 pub struct Tables<'a> {
-    /// One byte each: 0 user side, 1 file side. A box's number is its place.
+    /// One byte each: 0 user side, 1 file side, 2 user group, 3 folder ([`BoxKind`](crate::BoxKind)).
+    /// A box's number is its place.
     pub boxes: &'a [u8],
     /// Two numbers each: outer box, inner box.
     pub containments: &'a [u16],

@@ -32,8 +32,9 @@
 //!
 //! - A **box** has a number, its place from 0, and so has an **arrow**. At most 256 boxes, 1,024
 //!   containments and 512 arrows.
-//! - A box that is the outer one of no containment is **atomic**: a single user or file, or an empty
-//!   group or folder. Pairs are of an atomic user and an atomic file.
+//! - A box of kind user or file that is the outer one of no containment is **atomic**: a single user
+//!   or file. Groups and folders never are, also with nothing in them ([`BoxKind`]). Pairs are of an
+//!   atomic user and an atomic file.
 //! - A call that doesn't answer is **refused**: [`Refusal`] says why and where.
 //! - A **block file** is the format that drawing tools write and [`Picture::read`] reads: blocks of
 //!   512 bytes. `samples/` in the repository has some.
@@ -74,12 +75,12 @@ pub use answer::{Answer, Atoms, Cell, Matrix};
 pub use named::{Buffer, Table};
 pub use picture::Picture;
 pub use refusal::Refusal;
-pub use rows::{Arrow, Mode, Side, Sign};
+pub use rows::{Arrow, BoxKind, Mode, Side, Sign};
 
 /// The library's version: major, minor, patch.
 ///
 /// ```
-/// assert_eq!(rights::version(), (2, 0, 0));
+/// assert_eq!(rights::version(), (3, 0, 0));
 /// ```
 pub fn version() -> (u8, u8, u8) {
     // SAFETY: the call takes nothing and keeps nothing.

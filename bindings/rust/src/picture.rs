@@ -1,7 +1,7 @@
 //! Pictures that own their rows, and the calls on them, which allocate what they need.
 
 use crate::lent::{self, Tables};
-use crate::{Answer, Arrow, Atoms, Cell, Matrix, Mode, Refusal, Side, Sign, Table};
+use crate::{Answer, Arrow, Atoms, BoxKind, Cell, Matrix, Mode, Refusal, Sign, Table};
 
 /// A picture: boxes, nested in each other, and arrows.
 ///
@@ -10,11 +10,11 @@ use crate::{Answer, Arrow, Atoms, Cell, Matrix, Mode, Refusal, Side, Sign, Table
 /// is granted file 3 against its group, box 2:
 ///
 /// ```
-/// use rights::{Arrow, Mode, Picture, Side, Sign};
+/// use rights::{Arrow, BoxKind, Mode, Picture, Sign};
 ///
 /// let mode = Mode::new(0)?;
 /// let picture = Picture {
-///     boxes: vec![Side::User, Side::User, Side::User, Side::File],
+///     boxes: vec![BoxKind::User, BoxKind::User, BoxKind::Group, BoxKind::File],
 ///     containments: vec![(2, 0), (2, 1)],
 ///     arrows: vec![
 ///         Arrow { tail: 0, head: 3, mode, sign: Sign::Positive },
@@ -29,7 +29,7 @@ use crate::{Answer, Arrow, Atoms, Cell, Matrix, Mode, Refusal, Side, Sign, Table
 #[derive(Clone, Debug, Default, PartialEq, Eq)]
 pub struct Picture {
     /// The boxes. A box's number is its place.
-    pub boxes: Vec<Side>,
+    pub boxes: Vec<BoxKind>,
     /// Which box holds which: outer box, inner box.
     pub containments: Vec<(u16, u16)>,
     /// The arrows. An arrow's number is its place.
@@ -48,7 +48,7 @@ impl Numbers {
         let row = |a: &Arrow| [a.tail, a.head, a.mode.number(), a.sign as u16];
         let pair = |&(outer, inner): &(u16, u16)| [outer, inner];
         Numbers {
-            boxes: picture.boxes.iter().map(|side| *side as u8).collect(),
+            boxes: picture.boxes.iter().map(|kind| *kind as u8).collect(),
             containments: picture.containments.iter().flat_map(pair).collect(),
             arrows: picture.arrows.iter().flat_map(row).collect(),
         }
@@ -212,13 +212,17 @@ impl Picture {
     }
 
     /// The atomic users and the atomic files. Arrows are not looked at, and a box that contains
-    /// itself is no fault here.
+    /// itself is no fault here. A group that has emptied is not among them, if it is said to be one:
     ///
     /// ```
-    /// # use rights::Picture;
+    /// # use rights::{BoxKind, Picture};
     /// let file = std::fs::read("../../samples/J.blk").unwrap();
     /// let atoms = Picture::read(&file)?.atoms()?;
     /// assert_eq!((atoms.users, atoms.files), (vec![0, 1], vec![6, 7]));
+    ///
+    /// let boxes = vec![BoxKind::User, BoxKind::Group, BoxKind::File];
+    /// let atoms = Picture { boxes, ..Picture::default() }.atoms()?;
+    /// assert_eq!((atoms.users, atoms.files), (vec![0], vec![2]));
     /// # Ok::<(), rights::Refusal>(())
     /// ```
     pub fn atoms(&self) -> Result<Atoms, Refusal> {
@@ -231,7 +235,7 @@ impl Picture {
 /// ```
 /// use rights::{lent::Tables, Picture, Refusal};
 ///
-/// let tables = Tables { boxes: &[0, 2], ..Tables::default() };
+/// let tables = Tables { boxes: &[0, 4], ..Tables::default() };
 /// assert_eq!(Picture::try_from(tables), Err(Refusal::BoxByte { box_number: 1 }));
 /// ```
 impl TryFrom<Tables<'_>> for Picture {
@@ -243,7 +247,7 @@ impl TryFrom<Tables<'_>> for Picture {
             Err(refusal) if refusal.numbers().0 <= 7 => return Err(refusal),
             _ => {}
         }
-        let side = |byte: &u8| [Side::User, Side::File][usize::from(*byte)];
+        let kind = |byte: &u8| BoxKind::ALL[usize::from(*byte)];
         let pairs = tables
             .containments
             .chunks_exact(Table::Containments.width());
@@ -255,7 +259,7 @@ impl TryFrom<Tables<'_>> for Picture {
             sign: [Sign::Negative, Sign::Positive][usize::from(row[3])],
         };
         Ok(Picture {
-            boxes: tables.boxes.iter().map(side).collect(),
+            boxes: tables.boxes.iter().map(kind).collect(),
             containments: pairs.map(|row| (row[0], row[1])).collect(),
             arrows: rows.map(arrow).collect(),
         })

@@ -130,8 +130,8 @@ refusals! {
         /// How many rows it has.
         count: usize,
     }
-    /// 3: a box byte above 1.
-    3 BoxByte "the byte of box {box_number} is above 1" {
+    /// 3: a box byte above 3.
+    3 BoxByte "the byte of box {box_number} is above 3" {
         /// The box.
         box_number: u16,
     }

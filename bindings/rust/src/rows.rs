@@ -5,10 +5,48 @@ use crate::Refusal;
 /// The side of a box.
 #[derive(Clone, Copy, Debug, PartialEq, Eq, Hash)]
 pub enum Side {
-    /// A person or a group.
+    /// Persons and groups: arrows start here.
+    User,
+    /// Runs and folders: arrows end here.
+    File,
+}
+
+/// What a box is; the number is its byte.
+#[derive(Clone, Copy, Debug, PartialEq, Eq, Hash)]
+pub enum BoxKind {
+    /// A box of the user side: atomic, so a user, unless it is the outer box of a containment.
     User = 0,
-    /// A run or a folder.
+    /// A box of the file side: atomic, so a file, unless it is the outer box of a containment.
     File = 1,
+    /// A user group: never atomic, also with nothing in it.
+    Group = 2,
+    /// A folder: never atomic, also with nothing in it.
+    Folder = 3,
+}
+
+impl BoxKind {
+    /// All kinds, each at the place of its byte.
+    pub const ALL: [BoxKind; 4] = [
+        BoxKind::User,
+        BoxKind::File,
+        BoxKind::Group,
+        BoxKind::Folder,
+    ];
+
+    /// The side that a box of this kind is on.
+    ///
+    /// ```
+    /// use rights::{BoxKind, Side};
+    ///
+    /// assert_eq!(BoxKind::Group.side(), Side::User);
+    /// assert_eq!(BoxKind::Folder.side(), Side::File);
+    /// ```
+    pub fn side(self) -> Side {
+        match self {
+            BoxKind::User | BoxKind::Group => Side::User,
+            BoxKind::File | BoxKind::Folder => Side::File,
+        }
+    }
 }
 
 /// Whether an arrow grants or denies.

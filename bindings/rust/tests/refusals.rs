@@ -1,7 +1,7 @@
 //! Which refusal the calls on a picture answer with, and what refusals print.
 
 use rights::lent::Tables;
-use rights::{Arrow, Buffer, Mode, Picture, Refusal, Side, Sign, Table};
+use rights::{Arrow, BoxKind, Buffer, Mode, Picture, Refusal, Sign, Table};
 
 fn arrow(tail: u16, head: u16, mode: u16, sign: Sign) -> Arrow {
     let mode = Mode::new(mode).unwrap();
@@ -27,7 +27,7 @@ fn refused(picture: &Picture) -> Refusal {
 fn too_many_rows_come_first() {
     let table = Table::Boxes;
     let mut picture = Picture {
-        boxes: vec![Side::User; 100_000],
+        boxes: vec![BoxKind::User; 100_000],
         ..Picture::default()
     };
     let count = picture.boxes.len();
@@ -35,7 +35,7 @@ fn too_many_rows_come_first() {
     assert_eq!(picture.atoms(), Err(Refusal::TooManyRows { table, count }));
 
     // The containment alone is refused by 4, and so are the atoms; 513 arrows are refused by 2.
-    picture.boxes = vec![Side::User, Side::File];
+    picture.boxes = vec![BoxKind::User, BoxKind::File];
     picture.containments = vec![(0, 2)];
     picture.arrows = vec![arrow(0, 1, 0, Sign::Positive); 513];
     let (table, count) = (Table::Arrows, 513);
@@ -46,7 +46,7 @@ fn too_many_rows_come_first() {
 #[test]
 fn faults_of_rows() {
     let mut picture = Picture {
-        boxes: vec![Side::User, Side::File],
+        boxes: vec![BoxKind::User, BoxKind::File],
         containments: vec![(0, 1)],
         arrows: vec![arrow(1, 0, 0, Sign::Negative)],
     };
@@ -63,7 +63,7 @@ fn faults_of_rows() {
 fn unclear_pairs() {
     let signs = [Sign::Positive, Sign::Negative];
     let picture = Picture {
-        boxes: vec![Side::User, Side::File],
+        boxes: vec![BoxKind::User, BoxKind::File],
         containments: vec![],
         arrows: signs.map(|sign| arrow(0, 1, 7, sign)).to_vec(),
     };
@@ -79,7 +79,7 @@ fn unclear_pairs() {
 #[test]
 fn a_picture_without_pairs() {
     let picture = Picture {
-        boxes: vec![Side::User; 3],
+        boxes: vec![BoxKind::User; 3],
         ..Picture::default()
     };
     let matrix = picture.matrix(Mode::new(0).unwrap()).unwrap();
