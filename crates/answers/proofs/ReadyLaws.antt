@@ -9,7 +9,8 @@ use Rattle.tables.specs.Rows.{user, file, arrowCount}
 use Rattle.tables.specs.Atoms.{atoms}
 use Rattle.tables.specs.Steps.{SoundRows, SoundArrows}
 use Rattle.tables.proofs.BufferLaws.{zeros-length}
-use Rattle.tables.proofs.AtomPlaces.{onSide-there, atoms-most}
+use Rattle.tables.proofs.AtomPlaces.{atoms-most}
+use Rattle.tables.proofs.GroupLaws.{onSide-there}
 use Rattle.tables.proofs.PartLaws.{Wrote, part-within}
 use Rattle.answers.specs.Among.{Within}
 use Rattle.answers.specs.Meaning.{modeArrows}
@@ -17,8 +18,8 @@ use Rattle.answers.proofs.AmongLaws.{mode-most}
 
 pub sound-within : (boxes arrows : List ℕ) → SoundArrows boxes arrows → Within (length boxes) arrows
 sound-within boxes arrows s = record {
-  tail-in = λ k l. onSide-there boxes arrows user _ (s .tail-user k l);
-  head-in = λ k l. onSide-there boxes arrows file _ (s .head-file k l);
+  tail-in = λ k l. onSide-there boxes user _ (s .tail-user k l);
+  head-in = λ k l. onSide-there boxes file _ (s .head-file k l);
 }
 
 -- local arrays that begin with zeros: a list of boxes, and one of the mode's arrows, has room there

@@ -8,14 +8,16 @@ use mathlib.Core.Option.{none}
 use Prim.Native.Nat.{ℕ, _%_, _<_}
 use native.Mathlib.Omega.{arith}
 use lib.Dec.{T, eqb, eqb→eq, eqb-refl}
-use lib.ListN.{length}
-use Rattle.tables.specs.Atoms.{outer}
+use lib.ListN.{length, getD}
+use Rattle.tables.specs.Rows.{isGroup, onSide}
+use Rattle.tables.specs.Atoms.{outer, atom}
 use Rattle.tables.specs.Search.{given}
 use Rattle.tables.specs.Refusals.{inItself}
 use Rattle.containment.specs.Contains.{Row, here, later, direct, Chain, one, more, contains, around, loopFault}
 use Rattle.tables.proofs.Tests.{or-T, T-or₁, T-or₂, and-T, T-and, T-same}
 use Rattle.tables.proofs.SearchLaws.{first-none, given-none}
 use Rattle.tables.proofs.RowLaws.{outer-none, outer-odd, outer-more}
+use Rattle.tables.proofs.GroupLaws.{atom-iff}
 
 -- ---- a row as a test
 
@@ -126,7 +128,7 @@ contains-iff rows a b = (contains-chain rows a b, chain-contains)
 pub contains-trans : (rows : List ℕ) (a b c : ℕ) → T (contains rows a b) → T (contains rows b c) → T (contains rows a c)
 contains-trans rows a b c s t = chain-contains (join (contains-chain rows a b s) (contains-chain rows b c t))
 
--- ---- an atomic box contains nothing, and a box that contains nothing is the outer box of no row
+-- ---- a box contains something exactly if it is the outer box of a row
 
 row-outer : {rows : List ℕ} {a b : ℕ} → Row rows a b → T (outer rows a)
 row-outer (here {a = a} {rows = rows}) = rw outer-more (T-or₁ (eqb a a) (outer rows a) (eqb-refl a))
@@ -147,6 +149,14 @@ outer-contains (x ∷ y ∷ rows) a t = go (or-T (eqb x a) (outer rows a) (rw ou
     go : T (eqb x a) ⊎ T (outer rows a) → (T (outer rows a) → (b : ℕ) × T (contains rows a b)) → (b : ℕ) × T (contains (x ∷ y ∷ rows) a b)
     go (inl e) ih = (y, subst (λ (z : ℕ). T (contains (x ∷ y ∷ rows) z y)) (eqb→eq x a e) (row-contains here))
     go (inr o) ih = let r = ih o in (r .0, old x y rows a (r .0) (r .1))
+
+-- the atomic boxes of a side are its boxes that are no user group and no folder and contain nothing
+pub atomic-iff : (boxes rows : List ℕ) (s b : ℕ)
+    → T (atom boxes rows s b) ↔ (T (onSide boxes s b) × (T (isGroup (getD boxes b 0)) → ⊥) × ((a : ℕ) → T (contains rows b a) → ⊥))
+atomic-iff boxes rows s b = (
+  λ t. let p = atom-iff boxes rows s b .0 t in (p .0, p .1, λ a c. p .2 (contains-outer rows b a c)),
+  λ h. atom-iff boxes rows s b .1 (h .0, h .1, λ o. let c = outer-contains rows b o in h .2 (c .0) (c .1)),
+)
 
 -- ---- tables with the same rows
 

@@ -1,25 +1,20 @@
 -- The atomic boxes of a side, by rising number: each is there once; how many pairs they make. Assumes nothing.
 use mathlib.Core.Path.{_≡_, refl, ap, fun-ext}
-use mathlib.Core.Bool.{Bool, not}
+use mathlib.Core.Bool.{Bool}
 use mathlib.Core.List.{List}
 use Prim.Native.Nat.{ℕ, _*_, _<_, _≤_}
-use lib.Dec.{T, eqb, ltb, ltb→lt}
+use lib.Dec.{T}
 use lib.ListN.{length, getD}
 use Rattle.tables.specs.Search.{select}
-use Rattle.tables.specs.Rows.{user, file, sideOf, onSide}
+use Rattle.tables.specs.Rows.{user, file}
 use Rattle.tables.specs.Atoms.{outer, atom, atoms, pairCount}
-use Rattle.tables.proofs.Tests.{and-T}
+use Rattle.tables.proofs.GroupLaws.{onSide-there, atom-iff}
 use Rattle.tables.proofs.BufferLaws.{select-most}
 use Rattle.tables.proofs.SelectLaws.{select-found, select-has, select-before, select-same}
 
 module _ (boxes rows : List ℕ) where
-  pub onSide-there : (s b : ℕ) → T (onSide boxes s b) → b < length boxes
-  unfolding onSide
-  onSide-there s b t = ltb→lt b (length boxes) (and-T (ltb b (length boxes)) (eqb (sideOf boxes b) s) t .0)
-
   pub atom-there : (s b : ℕ) → T (atom boxes rows s b) → b < length boxes
-  unfolding atom
-  atom-there s b t = onSide-there s b (and-T (onSide boxes s b) (not (outer rows b)) t .0)
+  atom-there s b t = onSide-there boxes s b (atom-iff boxes rows s b .0 t .0)
 
   pub atoms-found : (s i : ℕ) → i < length (atoms boxes rows s) → T (atom boxes rows s (getD (atoms boxes rows s) i 0))
   unfolding atoms

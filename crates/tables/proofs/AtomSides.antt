@@ -1,17 +1,18 @@
 -- A box is atomic on one side at most, so that few boxes make few pairs. Assumes nothing.
 use mathlib.Core.Path.{_≡_, refl}
-use mathlib.Core.Bool.{Bool, true, false, not, cond, _&&_}
+use mathlib.Core.Bool.{Bool, true, false, cond}
 use mathlib.Core.List.{List, [], _∷_, _++_}
 use Prim.Native.Nat.{ℕ, zero, suc, _+_, _*_, _-_, _≤_}
 use native.Mathlib.Nat.{mul-le-mul-left, le-trans}
 use native.Mathlib.Omega.{arith}
-use lib.Dec.{T, eqb, ltb, leb, eqb→eq, leb→le}
-use lib.ListN.{length, length-append}
+use lib.Dec.{T, leb, leb→le}
+use lib.ListN.{length, getD, length-append}
 use Rattle.tables.specs.Search.{every, select}
-use Rattle.tables.specs.Rows.{user, file, sideOf, onSide}
-use Rattle.tables.specs.Atoms.{outer, atom, atoms, pairCount}
-use Rattle.tables.proofs.Tests.{and-T, true-T}
+use Rattle.tables.specs.Rows.{user, file, sideOf}
+use Rattle.tables.specs.Atoms.{atom, atoms, pairCount}
+use Rattle.tables.proofs.Tests.{true-T}
 use Rattle.tables.proofs.SearchLaws.{every-at}
+use Rattle.tables.proofs.GroupLaws.{onSide-side, atom-iff}
 
 -- tests that never hold together select no more numbers than there are
 select-apart : (p q : ℕ → Bool) → ((k : ℕ) → T (p k) → T (q k) → ⊥) → (n : ℕ) → length (select p n) + length (select q n) ≤ n
@@ -27,10 +28,8 @@ select-apart p q h (suc n) = go (p n) refl (q n) refl (select-apart p q h n)
     go false e false i g = omega arith
 
 module _ (boxes rows : List ℕ) where
-  atom-side : (s b : ℕ) → T (atom boxes rows s b) → sideOf boxes b ≡ s
-  unfolding atom onSide
-  atom-side s b t =
-      eqb→eq (sideOf boxes b) s (and-T (ltb b (length boxes)) _ (and-T (ltb b (length boxes) && eqb (sideOf boxes b) s) (not (outer rows b)) t .0) .1)
+  atom-side : (s b : ℕ) → T (atom boxes rows s b) → sideOf (getD boxes b 0) ≡ s
+  atom-side s b t = onSide-side boxes s b (atom-iff boxes rows s b .0 t .0)
 
   pub atoms-apart : length (atoms boxes rows user) + length (atoms boxes rows file) ≤ length boxes
   unfolding atoms

@@ -7,6 +7,7 @@ pub mod BufferLaws
 pub mod TableLaws
 pub mod RowLaws
 pub mod SelectLaws
+pub mod GroupLaws
 pub mod AtomPlaces
 pub mod PartLaws
 pub mod AtomSides

@@ -3,9 +3,9 @@ use mathlib.Core.Bool.{Bool, false, not, _&&_, _||_}
 use mathlib.Core.List.{List, [], _∷_}
 use Prim.Native.Nat.{ℕ, _*_}
 use lib.Dec.{eqb}
-use lib.ListN.{length}
+use lib.ListN.{length, getD}
 use Rattle.tables.specs.Search.{select}
-use Rattle.tables.specs.Rows.{user, file, onSide}
+use Rattle.tables.specs.Rows.{user, file, isGroup, onSide}
 
 -- box b is the outer one of a row
 unfoldable pub outer : List ℕ → ℕ → Bool
@@ -13,9 +13,9 @@ outer [] b = false
 outer (x ∷ []) b = false
 outer (x ∷ y ∷ rows) b = eqb x b || outer rows b
 
--- b is an atomic box of side s: the outer one of no row
+-- b is an atomic box of side s: no user group, no folder, and the outer one of no row
 unfoldable pub atom : List ℕ → List ℕ → ℕ → ℕ → Bool
-atom boxes rows s b = onSide boxes s b && not (outer rows b)
+atom boxes rows s b = onSide boxes s b && not (isGroup (getD boxes b 0)) && not (outer rows b)
 
 -- the atomic boxes of side s, by rising number
 unfoldable pub atoms : List ℕ → List ℕ → ℕ → List ℕ

@@ -6,7 +6,7 @@ use Prim.Native.Nat.{ℕ, _%_}
 use lib.Dec.{eqb, ltb, leb}
 use lib.ListN.{length, getD}
 use Rattle.tables.specs.Search.{orElse, given, first}
-use Rattle.tables.specs.Rows.{user, file, sideOf, onSide, rowCount, rowAt, arrowCount, arrowAt}
+use Rattle.tables.specs.Rows.{user, file, onSide, rowCount, rowAt, arrowCount, arrowAt}
 use Rattle.tables.specs.Refusals.{ragged, tooMany, badByte, badRow, noMode, tooShort}
 use Rattle.tables.specs.declared.Refusal.{Refusal}
 use Rattle.tables.specs.declared.Containment.{Containment}
@@ -25,9 +25,9 @@ countFault boxes rows arrows =
     (orElse (given (ltb 1024 rows) (tooMany 1 rows))
     (given (ltb 512 arrows) (tooMany 2 arrows)))
 
--- 3: a box byte above 1
+-- 3: a box byte above 3
 unfoldable pub byteFault : List ℕ → Option Refusal
-byteFault boxes = first (λ b. given (ltb 1 (getD boxes b 0)) (badByte b)) (length boxes)
+byteFault boxes = first (λ b. given (ltb 3 (getD boxes b 0)) (badByte b)) (length boxes)
 
 -- 4: a containment naming a box that isn't there
 unfoldable pub namesNoBox : List ℕ → Containment → Bool
@@ -35,7 +35,9 @@ namesNoBox boxes r = leb (length boxes) (r .outer) || leb (length boxes) (r .inn
 
 -- 5: a containment across sides
 unfoldable pub acrossSides : List ℕ → Containment → Bool
-acrossSides boxes r = not (eqb (sideOf boxes (r .outer)) (sideOf boxes (r .inner)))
+acrossSides boxes r =
+    onSide boxes user (r .outer) && onSide boxes file (r .inner)
+    || onSide boxes file (r .outer) && onSide boxes user (r .inner)
 
 -- 6: an arrow whose tail is no user box or head no file box
 unfoldable pub wrongEnds : List ℕ → Arrow → Bool

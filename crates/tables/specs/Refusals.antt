@@ -18,7 +18,7 @@ ragged table len = refusal 1 table len 0
 abbrev pub tooMany : ℕ → ℕ → Refusal
 tooMany table count = refusal 2 table count 0
 
--- 3 box byte above 1: box
+-- 3 box byte above 3: box
 abbrev pub badByte : ℕ → Refusal
 badByte box = refusal 3 box 0 0
 

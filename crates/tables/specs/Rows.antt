@@ -1,7 +1,7 @@
--- The three lent tables of a picture (document 01, "The picture and its tables"). Assumes nothing.
-use mathlib.Core.Bool.{Bool, _&&_}
+-- The three lent tables of a picture (document 01, "The picture and its tables"; box bytes 2 and 3: document 02, P6). Assumes nothing.
+use mathlib.Core.Bool.{Bool, _&&_, _||_}
 use mathlib.Core.List.{List}
-use Prim.Native.Nat.{ℕ, _+_, _*_, _/_}
+use Prim.Native.Nat.{ℕ, _+_, _*_, _/_, _%_}
 use lib.Dec.{eqb, ltb}
 use lib.ListN.{length, getD}
 use Rattle.tables.specs.declared.Containment.{Containment}
@@ -14,13 +14,24 @@ user = 0
 abbrev pub file : ℕ
 file = 1
 
--- the side that box b is on
-unfoldable pub sideOf : List ℕ → ℕ → ℕ
-sideOf boxes b = getD boxes b 0
+-- the bytes that are added to those of the two sides
+abbrev pub userGroup : ℕ
+userGroup = 2
+
+abbrev pub folder : ℕ
+folder = 3
+
+-- the side that a box's byte puts it on: 2 counts as user, 3 as file
+unfoldable pub sideOf : ℕ → ℕ
+sideOf byte = byte % 2
+
+-- the byte is that of a user group or a folder
+unfoldable pub isGroup : ℕ → Bool
+isGroup byte = eqb byte userGroup || eqb byte folder
 
 -- b is a box of side s
 unfoldable pub onSide : List ℕ → ℕ → ℕ → Bool
-onSide boxes s b = ltb b (length boxes) && eqb (sideOf boxes b) s
+onSide boxes s b = ltb b (length boxes) && eqb (sideOf (getD boxes b 0)) s
 
 -- containments: outer box, then inner box
 abbrev pub rowCount : List ℕ → ℕ

@@ -14,10 +14,11 @@ pub record SoundRows (boxes rows : List ℕ) : Type 0 where
   pub few-boxes : length boxes ≤ 256
   pub whole : length rows % 2 ≡ 0
   pub few-rows : rowCount rows ≤ 1024
-  pub sides : (b : ℕ) → b < length boxes → getD boxes b 0 ≤ 1
+  pub bytes : (b : ℕ) → b < length boxes → getD boxes b 0 ≤ 3
   pub outer-there : (k : ℕ) → k < rowCount rows → rowAt rows k .outer < length boxes
   pub inner-there : (k : ℕ) → k < rowCount rows → rowAt rows k .inner < length boxes
-  pub one-side : (k : ℕ) → k < rowCount rows → sideOf boxes (rowAt rows k .outer) ≡ sideOf boxes (rowAt rows k .inner)
+  pub one-side : (k : ℕ) → k < rowCount rows
+      → sideOf (getD boxes (rowAt rows k .outer) 0) ≡ sideOf (getD boxes (rowAt rows k .inner) 0)
 
 -- and of arrows
 pub record SoundArrows (boxes arrows : List ℕ) : Type 0 where

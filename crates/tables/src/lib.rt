@@ -1,28 +1,36 @@
 // The three lent tables of a picture: their rows, the checks on them, and which boxes are atomic.
 ghost use mathlib.Core.Path.{_≡_};
+ghost use mathlib.Core.Bool.{not, _&&_};
 ghost use mathlib.Core.List.{[]};
 ghost use Prim.Native.Nat.{ℕ, _+_, _*_, _/_, _%_, _<_, _≤_};
-ghost use lib.ListN.{length};
+ghost use lib.ListN.{length, getD};
 ghost use Rattle.tables.specs.Search.{given};
 ghost use Rattle.tables.specs.Buffers.{written, zeros};
 ghost use Rattle.tables.specs.Atoms.{outer, atom, atoms};
 ghost use Rattle.tables.specs.Steps.{Marks, fails, rowsFor, SoundRows};
-ghost use Rattle.tables.specs.Rows.{sideOf, onSide, rowAt, rowCount, arrowAt, arrowCount};
+ghost use Rattle.tables.specs.Rows.{sideOf, isGroup, onSide, rowAt, rowCount, arrowAt, arrowCount};
 ghost use Rattle.tables.specs.Refusals.{refusal, verdictOf, either};
 ghost use Rattle.tables.specs.Faults.{raggedFault, countFault, byteFault, namesNoBox, acrossSides, wrongEnds, wrongMode, rowFault, tableFault, modeFault, roomFault};
 
-// A row of the boxes: its side.
+// A row of the boxes: its byte.
 pub struct BoxRow {
-    pub side: u8,
+    pub byte: u8,
 }
 
 impl BoxRow {
     // A picture has at most so many boxes.
     pub const LIMIT: usize = 256;
 
+    // The two sides, and the bytes of boxes that may be atomic.
     pub const USER: u8 = 0;
 
     pub const FILE: u8 = 1;
+
+    // A user group, on the user side.
+    pub const GROUP: u8 = 2;
+
+    // A folder, on the file side.
+    pub const FOLDER: u8 = 3;
 }
 
 // A row of the containments.
@@ -137,21 +145,25 @@ pub fn narrow(x: usize) -> u16
     (x % 65536) as u16
 }
 
-// The side that box b is on, 0 where there is no such box.
-fn side_of(boxes: &[u8], b: usize) -> u8
-    ensures { λ r. ⌜ r ≡ sideOf (now (boxes .entry)) b ⌝ }
+// The side that a box's byte puts it on.
+fn side_of(byte: u8) -> u8
+    ensures { λ r. ⌜ r ≡ sideOf byte ⌝ }
 {
-    if b < boxes.len() {
-        return boxes[b];
-    }
-    0
+    byte % 2
+}
+
+// Whether the byte is that of a user group or a folder.
+fn is_group(byte: u8) -> bool
+    ensures { λ r. ⌜ r ≡ isGroup byte ⌝ }
+{
+    byte == BoxRow::GROUP || byte == BoxRow::FOLDER
 }
 
 // Whether b is a box of the side.
 fn on_side(boxes: &[u8], side: u8, b: usize) -> bool
     ensures { λ r. ⌜ r ≡ onSide (now (boxes .entry)) side b ⌝ }
 {
-    b < boxes.len() && side_of(boxes, b) == side
+    b < boxes.len() && side_of(boxes[b]) == side
 }
 
 // Check 1.
@@ -181,7 +193,7 @@ fn check_bytes(boxes: &[u8]) -> Verdict
     ensures { λ r. ⌜ r ≡ verdictOf (byteFault (now (boxes .entry))) ⌝ }
 {
     for b in 0..boxes.len() {
-        if 1 < boxes[b] {
+        if 3 < boxes[b] {
             return Verdict::refused(3, b, 0, 0);
         }
     }
@@ -199,7 +211,10 @@ fn names_no_box(boxes: &[u8], row: Containment) -> bool
 fn across_sides(boxes: &[u8], row: Containment) -> bool
     ensures { λ r. ⌜ r ≡ acrossSides (now (boxes .entry)) row ⌝ }
 {
-    side_of(boxes, wide(row.outer)) != side_of(boxes, wide(row.inner))
+    let outer = wide(row.outer);
+    let inner = wide(row.inner);
+    on_side(boxes, BoxRow::USER, outer) & on_side(boxes, BoxRow::FILE, inner)
+        | on_side(boxes, BoxRow::FILE, outer) & on_side(boxes, BoxRow::USER, inner)
 }
 
 // Check 6 of an arrow: its tail is no user box or its head no file box.
@@ -303,12 +318,19 @@ fn is_outer(rows: &[u16], b: usize) -> bool
     found
 }
 
+// Whether b is a box of the side and neither a user group nor a folder.
+fn is_single(boxes: &[u8], side: u8, b: usize) -> bool
+    ensures { λ r. ⌜ r ≡ (onSide (now (boxes .entry)) side b && not (isGroup (getD (now (boxes .entry)) b 0))) ⌝ }
+{
+    on_side(boxes, side, b) && !is_group(boxes[b])
+}
+
 // Whether b is an atomic box of the side.
 pub fn is_atom(boxes: &[u8], rows: &[u16], side: u8, b: usize) -> bool
     requires { ⌜ length (now rows) % 2 ≡ 0 ⌝ }
     ensures { λ r. ⌜ r ≡ atom (now (boxes .entry)) (now (rows .entry)) side b ⌝ }
 {
-    on_side(boxes, side, b) && !is_outer(rows, b)
+    is_single(boxes, side, b) && !is_outer(rows, b)
 }
 
 // A byte for each box that a picture can have.
@@ -349,7 +371,7 @@ fn is_unmarked(boxes: &[u8], rows: &[u16], side: u8, marks: &[u8], b: usize) -> 
     requires { ⌜ Marks (outer (now rows)) (now marks) × (b < length (now marks)) ⌝ }
     ensures { λ r. ⌜ r ≡ atom (now (boxes .entry)) (now (rows .entry)) side b ⌝ }
 {
-    on_side(boxes, side, b) && marks[b] == 0
+    is_single(boxes, side, b) && marks[b] == 0
 }
 
 // Writes the atomic boxes of the side, by the marks of the outer boxes, and answers how many.

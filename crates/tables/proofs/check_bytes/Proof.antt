@@ -1,4 +1,4 @@
--- `tables::check_bytes` meets its contract: no byte before b is above 1. Assumes nothing.
+-- `tables::check_bytes` meets its contract: no byte before b is above 3. Assumes nothing.
 use mathlib.Core.Path.{_≡_, sym, ap, _∙_}
 use mathlib.Core.Bool.{Bool}
 use mathlib.Core.List.{List}
@@ -15,7 +15,7 @@ use Rattle.tables.proofs.check_bytes.Statement.{statement}
 use Rattle.tables.proofs.check_bytes.Tie as tie
 
 abbrev bad : List ℕ → ℕ → Bool
-bad boxes b = ltb 1 (getD boxes b 0)
+bad boxes b = ltb 3 (getD boxes b 0)
 
 abbrev Inv-loop : tie.InvT-loop
 Inv-loop boxes b₀ b-end b = (b ≤ length boxes) × Searched (bad boxes) badByte b
@@ -31,11 +31,11 @@ unfolding byteFault
 returns c = let at = c .before .before .before .before in
     let boxes = at .before .before .args .boxes .now in
     c .refused .ensures
-    ∙ sym (ap verdictOf (search-here (bad boxes) badByte (length boxes) (at .loop .b) (at .loop .inv .1) (lt-ltb 1 _ (c .before .if1 .taken)) (omega arith)))
+    ∙ sym (ap verdictOf (search-here (bad boxes) badByte (length boxes) (at .loop .b) (at .loop .inv .1) (lt-ltb 3 _ (c .before .if1 .taken)) (omega arith)))
 
 loop-again : tie.Need-loop-again Inv-loop μ-loop
 loop-again c = let at = c .before .before .before in
-    (search needs, search-more (bad (at .before .before .args .boxes .now)) badByte (at .loop .b) (at .loop .inv .1) (le-ltb 1 _ (c .if1 .left)))
+    (search needs, search-more (bad (at .before .before .args .boxes .now)) badByte (at .loop .b) (at .loop .inv .1) (le-ltb 3 _ (c .if1 .left)))
 
 returns-2 : tie.Need-returns-2 Inv-loop μ-loop
 unfolding byteFault

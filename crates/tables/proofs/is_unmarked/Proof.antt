@@ -9,11 +9,11 @@ returns : tie.Need-returns
 unfolding atom
 returns c = let start = c .before .before .before .before .before .before in
     let a = start .args in
-    rw (start .pre .0 (a .b) (start .pre .1), bit-none, ← c .before .before .on-side .ensures, c .before .if1 .taken)
+    rw (start .pre .0 (a .b) (start .pre .1), bit-none, ← c .before .before .is-single .ensures, c .before .if1 .taken)
 
 returns-2 : tie.Need-returns-2
 unfolding atom
-returns-2 c = rw (← c .before .on-side .ensures, c .if1 .left)
+returns-2 c = rw (← c .before .is-single .ensures, c .if1 .left)
 
 pub is-unmarked-spec : {M : Type 1} → statement M
 is-unmarked-spec = tie.close (tie.spec (search needs) (search needs) returns returns-2)
