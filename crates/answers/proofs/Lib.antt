@@ -8,4 +8,4 @@ pub mod CallLaws
 pub mod ModeLaws
 pub mod GrantLaws
 pub mod ClearLaws
-pub mod SameRows
+pub mod SamePictures

@@ -1,5 +1,5 @@
--- The lettered pictures A to J (document 01). What is said of each is one table with one theorem: `lists` specs/Cases.
--- Assumes nothing.
+-- The lettered pictures A to J (document 01), and pictures of groups that have emptied (document 02, P6). What is said of them are two
+-- tables: `lists` specs/Cases. Assumes nothing.
 use mathlib.Core.List.{List, [], _∷_, _++_}
 use Prim.Native.Nat.{ℕ}
 
@@ -74,4 +74,29 @@ picture-J = record {
       2 ∷ 0 ∷ 2 ∷ 5 ∷ 3 ∷ 0 ∷ 4 ∷ 3 ∷ 4 ∷ 1 ∷ 5 ∷ 1
       ∷ 8 ∷ 7 ∷ 9 ∷ 8 ∷ 9 ∷ 6 ∷ 10 ∷ 6 ∷ 11 ∷ 10 ∷ 11 ∷ 7 ∷ [];
   arrows = 2 ∷ 8 ∷ 0 ∷ 1 ∷ 3 ∷ 9 ∷ 0 ∷ 0 ∷ 4 ∷ 10 ∷ 0 ∷ 1 ∷ 5 ∷ 11 ∷ 0 ∷ 0 ∷ [];
+}
+
+-- user 0, emptied group 1, file 2; an arrow from 1 is +
+unfoldable pub emptied-group : Picture
+emptied-group = record { boxes = 0 ∷ 2 ∷ 1 ∷ []; rows = []; arrows = 1 ∷ 2 ∷ 0 ∷ 1 ∷ [] }
+
+-- user 0, box 1 around emptied group 2, file 3; arrow 0 from 1 is +, arrow 1 from 0 is −
+unfoldable pub around-emptied : Picture
+around-emptied = record {
+  boxes = 0 ∷ 0 ∷ 2 ∷ 1 ∷ [];
+  rows = 1 ∷ 2 ∷ [];
+  arrows = 1 ∷ 3 ∷ 0 ∷ 1 ∷ 0 ∷ 3 ∷ 0 ∷ 0 ∷ [];
+}
+
+-- an emptied group and an emptied folder, and an arrow between them
+unfoldable pub emptied-both : Picture
+emptied-both = record { boxes = 2 ∷ 3 ∷ []; rows = []; arrows = 0 ∷ 1 ∷ 0 ∷ 1 ∷ [] }
+
+-- users 0 and 1 in group 2, emptied group 3, file 4 in folder 5, emptied folder 6; arrow 0 from 2 to 5 is +, arrow 1 from 3 to 5 is −,
+-- arrow 2 from 2 to 6 is −
+unfoldable pub groups-left : Picture
+groups-left = record {
+  boxes = 0 ∷ 0 ∷ 2 ∷ 2 ∷ 1 ∷ 3 ∷ 3 ∷ [];
+  rows = 2 ∷ 0 ∷ 2 ∷ 1 ∷ 5 ∷ 4 ∷ [];
+  arrows = 2 ∷ 5 ∷ 0 ∷ 1 ∷ 3 ∷ 5 ∷ 0 ∷ 0 ∷ 2 ∷ 6 ∷ 0 ∷ 0 ∷ [];
 }

@@ -14,3 +14,4 @@ pub mod ReadyLaws
 pub mod EndLaws
 pub mod ConditionLaws
 pub mod FixedLaws
+pub mod SameLists

@@ -1,5 +1,6 @@
 -- The lettered pictures A to J (document 01) in mode 0: one table of what is said of each, and the theorem that the definitions say
--- the same (`table-right`). The pictures stand in `answers` specs/Cases. Assumes nothing.
+-- the same (`table-right`); another of groups that have emptied (document 02, P6; `groups-right`). The pictures stand in `answers`
+-- specs/Cases. Assumes nothing.
 use mathlib.Core.Path.{_≡_, refl}
 use mathlib.Core.Bool.{Bool, true, false}
 use mathlib.Core.List.{List, [], _∷_, map}
@@ -8,9 +9,9 @@ use Prim.Native.Nat.{ℕ, _*_}
 use lib.ListN.{length, replicate}
 use Rattle.tables.specs.Search.{orElse, given, first, lowest, every, select}
 use Rattle.tables.specs.Buffers.{build, written}
-use Rattle.tables.specs.Rows.{sideOf, onSide}
+use Rattle.tables.specs.Rows.{sideOf, isGroup, onSide}
 use Rattle.tables.specs.Atoms.{outer, atom, atoms, pairCount}
-use Rattle.tables.specs.Refusals.{inItself, unclearPair, noOrder}
+use Rattle.tables.specs.Refusals.{inItself, notAtomic, unclearPair, noOrder}
 use Rattle.tables.specs.Faults.{raggedFault, countFault, byteFault, namesNoBox, acrossSides, wrongEnds, wrongMode}
 use Rattle.tables.specs.Faults.{rowFault, tableFault, modeFault, roomFault}
 use Rattle.tables.specs.declared.Refusal.{Refusal}
@@ -22,6 +23,7 @@ use Rattle.answers.specs.Pairs.{userAt, fileAt, firstPair, answerAt, byteAt, nu
 use Rattle.answers.specs.Calls.{askedFault, entryEarly, entryFault, judgeFault, replyOf}
 use Rattle.answers.specs.Cases.{Picture, picture-A, picture-B, picture-C, picture-D, picture-E, picture-F}
 use Rattle.answers.specs.Cases.{picture-G, picture-H, picture-I, picture-J}
+use Rattle.answers.specs.Cases.{emptied-group, around-emptied, emptied-both, groups-left}
 use Rattle.answers.specs.declared.Entry.the-variants.{Granted, Denied, Default, Unclear}
 use Rattle.answers.specs.declared.Reply.{Reply}
 use Rattle.answers.specs.declared.Reply.the-variants.{Answered, Refused}
@@ -167,6 +169,56 @@ table =
     }
     ∷ []
 
+unfoldable pub groups : List Case
+groups =
+    -- the arrow reaches nothing, the group is no user, and user 0 is denied by default
+    record {
+      picture = emptied-group;
+      judged = none;
+      entries = (0, 2, Answered Default) ∷ (1, 2, Refused (notAtomic 1 2)) ∷ [];
+      bytes = 0 ∷ [];
+      numbers = default ∷ [];
+      listed = Written 0;
+      places = 7 ∷ [];
+      lists = ([], true) ∷ [];
+    }
+    -- a box around an emptied group holds no user and is none
+    ∷ record {
+      picture = around-emptied;
+      judged = none;
+      entries = (0, 3, Answered (Denied 1)) ∷ (1, 3, Refused (notAtomic 1 3)) ∷ (2, 3, Refused (notAtomic 2 3)) ∷ [];
+      bytes = 0 ∷ [];
+      numbers = 1 ∷ [];
+      listed = Written 1;
+      places = 1 ∷ 7 ∷ [];
+      lists = (1 ∷ [], true) ∷ (0 ∷ [], true) ∷ [];
+    }
+    -- no pairs at all
+    ∷ record {
+      picture = emptied-both;
+      judged = none;
+      entries = (0, 1, Refused (notAtomic 0 1)) ∷ [];
+      bytes = [];
+      numbers = [];
+      listed = Written 0;
+      places = 7 ∷ [];
+      lists = ([], true) ∷ [];
+    }
+    -- beside groups and folders that hold something
+    ∷ record {
+      picture = groups-left;
+      judged = none;
+      entries =
+          (0, 4, Answered (Granted 0)) ∷ (1, 4, Answered (Granted 0))
+          ∷ (3, 4, Refused (notAtomic 3 4)) ∷ (0, 6, Refused (notAtomic 0 6)) ∷ [];
+      bytes = 1 ∷ 1 ∷ [];
+      numbers = 0 ∷ 0 ∷ [];
+      listed = Written 1;
+      places = 0 ∷ 7 ∷ 7 ∷ [];
+      lists = (0 ∷ [], true) ∷ (1 ∷ 2 ∷ 0 ∷ [], true) ∷ ([], false) ∷ [];
+    }
+    ∷ []
+
 -- the same picture and questions, with what the definitions say
 unfoldable pub compute : Case → Case
 compute c =
@@ -188,9 +240,10 @@ compute c =
       lists = map (λ q. (q .0, qualifies boxes rows arrows 0 (q .0))) (c .lists);
     }
 
-pub table-right : map compute table ≡ table
-unfolding compute table picture-A picture-B picture-C picture-D picture-E picture-F picture-G picture-H picture-I picture-J
-    orElse given first lowest every select build sideOf onSide outer atom atoms pairCount
+both-right : (map compute table ≡ table) × (map compute groups ≡ groups)
+unfolding compute table groups picture-A picture-B picture-C picture-D picture-E picture-F picture-G picture-H picture-I picture-J
+    emptied-group around-emptied emptied-both groups-left
+    orElse given first lowest every select build sideOf isGroup onSide outer atom atoms pairCount
     raggedFault countFault byteFault namesNoBox acrossSides wrongEnds wrongMode rowFault tableFault modeFault roomFault
     contains around loopFault scratchFault earlyFault pictureFault
     hasMode modeArrows reaches nests level overrides settle hits certifies answer byteOf numberOf isGranted isUnclear
@@ -198,7 +251,13 @@ unfolding compute table picture-A picture-B picture-C picture-D picture-E pictur
     askedFault entryEarly entryFault judgeFault replyOf
     anyOf allOf firstOf passes distinct gives ofMode meets reached granted right honest coversAll qualifies
     new fits addable followed next listTo greedy leftBy orderFault blanks listEarly listBefore listedOf placesOf listAnswer listAfter written
-table-right = refl
+both-right = (refl, refl)
+
+pub table-right : map compute table ≡ table
+table-right = both-right .0
+
+pub groups-right : map compute groups ≡ groups
+groups-right = both-right .1
 
 -- how many pairs and lists are asked about
 abbrev asked : Case → Picture × ℕ × ℕ

@@ -59,4 +59,4 @@ readReply (ReadRefused r) = refusedReply r
 
 -- the version: major 2, minor 0, patch 0, as major × 65,536 + minor × 256 + patch
 abbrev pub version : ℕ
-version = 131072
+version = 196608

@@ -228,5 +228,5 @@ pub extern "C" fn rights_read(
 pub extern "C" fn rights_version() -> u32
     ensures { λ r. ⌜ r ≡ version ⌝ }
 {
-    0x020000
+    0x030000
 }

@@ -10,6 +10,7 @@ use lib.ListN.{length, getD}
 use Rattle.tables.specs.Search.{select}
 use Rattle.tables.specs.Rows.{user, file, userGroup, folder, sideOf, isGroup, onSide}
 use Rattle.tables.specs.Atoms.{outer, atom, atoms}
+use Rattle.tables.specs.Faults.{byteFault, namesNoBox, acrossSides, wrongEnds, tableFault}
 use Rattle.tables.proofs.Tests.{and-T, T-and, T-eqb, T?, T-true, not-false}
 
 -- 0 and 2 are on the user side, 1 and 3 on the file side
@@ -85,19 +86,32 @@ module _ (boxes rows : List ℕ) (s b : ℕ) where
   unfolding atom
   atom-without-groups g = rw (not-false (isGroup byte) g, and-true)
 
--- A box that holds something is no atom, whatever its byte says: tables that agree on sides, and on user groups and folders wherever a
--- box is the outer one of no row, have the same atomic boxes.
-module _ (boxes new rows : List ℕ) (same-length : length boxes ≡ length new)
-    (same-side : (b : ℕ) → sideOf (getD boxes b 0) ≡ sideOf (getD new b 0))
-    (same-group : (b : ℕ) → (T (outer rows b) → ⊥) → isGroup (getD boxes b 0) ≡ isGroup (getD new b 0)) where
-  same-atom : (s b : ℕ) → atom boxes rows s b ≡ atom new rows s b
-  unfolding atom onSide
+-- Box tables that agree on sides, and on user groups and folders wherever a box is the outer one of no row: a box that holds something
+-- may be drawn as a group or folder or not.
+pub record SameBoxes (boxes others rows : List ℕ) : Type 0 where
+  pub lengths : length boxes ≡ length others
+  pub sides-of : (b : ℕ) → sideOf (getD boxes b 0) ≡ sideOf (getD others b 0)
+  pub groups : (b : ℕ) → (T (outer rows b) → ⊥) → isGroup (getD boxes b 0) ≡ isGroup (getD others b 0)
+
+module _ (boxes others rows : List ℕ) (same : SameBoxes boxes others rows) where
+  same-onSide : (s b : ℕ) → onSide boxes s b ≡ onSide others s b
+  unfolding onSide
+  same-onSide s b = rw (same .lengths, same .sides-of b)
+
+  same-atom : (s b : ℕ) → atom boxes rows s b ≡ atom others rows s b
+  unfolding atom
   same-atom s b = go (T? (outer rows b))
     where
-      go : Dec (T (outer rows b)) → atom boxes rows s b ≡ atom new rows s b
+      go : Dec (T (outer rows b)) → atom boxes rows s b ≡ atom others rows s b
       go (yes o) = rw (T-true (outer rows b) o, and-false, and-false)
-      go (no n) = rw (same-length, same-side b, same-group b n)
+      go (no n) = rw (same-onSide s b, same .groups b n)
 
-  pub atoms-by-bytes : (s : ℕ) → atoms boxes rows s ≡ atoms new rows s
+  -- they have the same atomic boxes
+  pub atoms-by-bytes : (s : ℕ) → atoms boxes rows s ≡ atoms others rows s
   unfolding atoms
-  atoms-by-bytes s = rw same-length (ap (λ (p : ℕ → Bool). select p (length new)) (fun-ext (same-atom s)))
+  atoms-by-bytes s = rw (same .lengths) (ap (λ (p : ℕ → Bool). select p (length others)) (fun-ext (same-atom s)))
+
+  -- and, where check 3 passes both, the same faults by 1 to 7
+  pub faults-by-bytes : (arrows : List ℕ) → byteFault boxes ≡ byteFault others → tableFault boxes rows arrows ≡ tableFault others rows arrows
+  unfolding tableFault namesNoBox acrossSides wrongEnds
+  faults-by-bytes arrows e = simp (same .lengths, e, same-onSide)

@@ -1,0 +1,106 @@
+-- Pictures with the same atomic boxes, in which the same boxes contain each other, give the same answers, matrix and verdict. So
+-- repeated rows change nothing (`repeated` of containment), nor does the byte of a box that holds something: as a user group or folder
+-- it is no more atomic than before. Assumes nothing.
+use mathlib.Core.Path.{_≡_, refl, ap, fun-ext}
+use mathlib.Core.Logic.{_↔_}
+use mathlib.Core.List.{List}
+use Prim.Native.Nat.{ℕ}
+use Rattle.tables.specs.Atoms.{atoms, pairCount}
+use Rattle.tables.specs.declared.Arrow.{Arrow}
+use Rattle.tables.proofs.SearchLaws.{first-same}
+use Rattle.tables.proofs.BufferLaws.{build-same}
+use Rattle.tables.proofs.AtomPlaces.{pairCount-is, atoms-by-outer}
+use Rattle.tables.proofs.GroupLaws.{SameBoxes, atoms-by-bytes}
+use Rattle.containment.specs.Contains.{Row, contains}
+use Rattle.containment.proofs.ContainsLaws.{around-test, same-contains, same-outer}
+use Rattle.answers.specs.Meaning.{positive, negative, reaches, nests, level, overrides, hits, certifies, answer, byteOf, numberOf}
+use Rattle.answers.specs.Pairs.{userAt, fileAt, firstPair, answerAt, byteAt, numberAt, matrixBytes, matrixNumbers, unclearFault, anyUnclear}
+
+-- two pictures with the same arrows have the same pairs, with the same answers
+pub record SameAnswers (boxes rows others new arrows : List ℕ) : Type 0 where
+  pub atomic : (s : ℕ) → atoms boxes rows s ≡ atoms others new s
+  pub pairs : pairCount boxes rows ≡ pairCount others new
+  pub users : (p : ℕ) → userAt boxes rows p ≡ userAt others new p
+  pub files : (p : ℕ) → fileAt boxes rows p ≡ fileAt others new p
+  pub reached : (a : Arrow) (u f : ℕ) → reaches rows a u f ≡ reaches new a u f
+  pub answers : (m u f : ℕ) → answer rows arrows m u f ≡ answer new arrows m u f
+  pub answered : (m p : ℕ) → answerAt boxes rows arrows m p ≡ answerAt others new arrows m p
+  pub bytes : (m : ℕ) → matrixBytes boxes rows arrows m ≡ matrixBytes others new arrows m
+  pub numbers : (m : ℕ) → matrixNumbers boxes rows arrows m ≡ matrixNumbers others new arrows m
+  pub unclear : anyUnclear boxes rows arrows ≡ anyUnclear others new arrows
+
+module _ (boxes rows others new arrows : List ℕ)
+    (same-atoms : (s : ℕ) → atoms boxes rows s ≡ atoms others new s)
+    (same : (a b : ℕ) → contains rows a b ≡ contains new a b) where
+  same-pairs : pairCount boxes rows ≡ pairCount others new
+  same-pairs = simp (pairCount-is, same-atoms)
+
+  same-users : (p : ℕ) → userAt boxes rows p ≡ userAt others new p
+  unfolding userAt
+  same-users p = simp same-atoms
+
+  same-files : (p : ℕ) → fileAt boxes rows p ≡ fileAt others new p
+  unfolding fileAt
+  same-files p = simp same-atoms
+
+  same-reaches : (a : Arrow) (u f : ℕ) → reaches rows a u f ≡ reaches new a u f
+  unfolding reaches
+  same-reaches a u f = simp (around-test, same)
+
+  same-hits : (m s u f k : ℕ) → hits rows arrows m s u f k ≡ hits new arrows m s u f k
+  unfolding hits
+  same-hits m s u f k = simp same-reaches
+
+  same-certifies : (m s o u f k : ℕ) → certifies rows arrows m s o u f k ≡ certifies new arrows m s o u f k
+  unfolding certifies overrides level nests
+  same-certifies m s o u f k = simp (same-hits, same)
+
+  same-answer : (m u f : ℕ) → answer rows arrows m u f ≡ answer new arrows m u f
+  unfolding answer
+  same-answer m u f =
+      rw (
+        fun-ext (same-certifies m positive negative u f),
+        fun-ext (same-certifies m negative positive u f),
+        fun-ext (same-hits m positive u f),
+        fun-ext (same-hits m negative u f),
+      )
+
+  same-at : (m p : ℕ) → answerAt boxes rows arrows m p ≡ answerAt others new arrows m p
+  unfolding answerAt
+  same-at m p = simp (same-users, same-files, same-answer)
+
+  same-bytes : (m : ℕ) → matrixBytes boxes rows arrows m ≡ matrixBytes others new arrows m
+  unfolding matrixBytes byteAt
+  same-bytes m = rw same-pairs (build-same _ _ (pairCount others new) (λ p _. ap byteOf (same-at m p)))
+
+  same-numbers : (m : ℕ) → matrixNumbers boxes rows arrows m ≡ matrixNumbers others new arrows m
+  unfolding matrixNumbers numberAt
+  same-numbers m = rw same-pairs (build-same _ _ (pairCount others new) (λ p _. ap numberOf (same-at m p)))
+
+  same-unclear : anyUnclear boxes rows arrows ≡ anyUnclear others new arrows
+  unfolding anyUnclear unclearFault firstPair
+  same-unclear = first-same _ _ 8 (λ m _. simp (same-pairs, same-users, same-files, same-answer))
+
+  same-answers : SameAnswers boxes rows others new arrows
+  same-answers = record {
+    atomic = same-atoms;
+    pairs = same-pairs;
+    users = same-users;
+    files = same-files;
+    reached = same-reaches;
+    answers = same-answer;
+    answered = same-at;
+    bytes = same-bytes;
+    numbers = same-numbers;
+    unclear = same-unclear;
+  }
+
+-- tables with the same rows
+pub same-rows : (boxes rows new arrows : List ℕ) → ((a b : ℕ) → Row rows a b ↔ Row new a b) → SameAnswers boxes rows boxes new arrows
+same-rows boxes rows new arrows same =
+    same-answers boxes rows boxes new arrows (atoms-by-outer boxes rows new (same-outer rows new same)) (same-contains rows new same)
+
+-- box tables that agree on the sides, and on user groups and folders wherever a box is the outer one of no row
+pub same-boxes : (boxes others rows arrows : List ℕ) → SameBoxes boxes others rows → SameAnswers boxes rows others rows arrows
+same-boxes boxes others rows arrows same =
+    same-answers boxes rows others rows arrows (atoms-by-bytes boxes others rows same) (λ a b. refl)
