@@ -6,8 +6,8 @@
     samples.py --program PATH   runs the program on every sample and compares its listing
     samples.py --listing        prints the listing of the file on standard input
 
-The tables stand in samples/pictures.json. The listings come from a small model of document 01 in
-this file, written apart from the other models.
+The tables stand in samples/pictures.json. The listings come from a small model of document 01, with
+request P6 of document 02, in this file, written apart from the other models.
 """
 
 import json
@@ -20,6 +20,8 @@ KINDS = ["boxes", "containments", "arrows"]
 CAPACITY = {"boxes": 500, "containments": 125, "arrows": 83}
 RECORD = {"boxes": 1, "containments": 4, "arrows": 6}
 LIMIT = {"boxes": 256, "containments": 1024, "arrows": 512}
+# Box bytes and the side they are on, 0 users and 1 files: 2 is a user group, 3 a folder (document 02, P6).
+SIDE = {0: 0, 1: 1, 2: 0, 3: 1}
 
 
 # ---- Making files ----
@@ -140,12 +142,20 @@ def check_tables(boxes, rows, arrows):
             if bad(row):
                 raise Refused(number, place)
 
-    side = dict(enumerate(boxes))
-    first(3, boxes, lambda byte: byte > 1)
+    side = {box: SIDE.get(byte) for box, byte in enumerate(boxes)}
+    first(3, boxes, lambda byte: byte > 3)
     first(4, rows, lambda row: row[0] not in side or row[1] not in side)
     first(5, rows, lambda row: side[row[0]] != side[row[1]])
     first(6, arrows, lambda row: side.get(row[0]) != 0 or side.get(row[1]) != 1)
     first(7, arrows, lambda row: row[2] > 7 or row[3] > 1)
+
+
+def atomic(boxes, rows):
+    """The atomic users and the atomic files: byte 0 or 1, and the outer box of no row."""
+    outer = {row[0] for row in rows}
+    return tuple(
+        [box for box, byte in enumerate(boxes) if byte == side and box not in outer] for side in (0, 1)
+    )
 
 
 def all_inside(boxes, rows):
@@ -221,10 +231,7 @@ def listing(data):
                 raise Refused(10, box)
     except Refused as refused:
         return refused.line + "\n"
-    outer = {row[0] for row in rows}
-    users, files = (
-        [b for b, s in enumerate(boxes) if s == side and b not in outer] for side in (0, 1)
-    )
+    users, files = atomic(boxes, rows)
     lines = ["boxes {} containments {} arrows {}".format(*(len(tables[kind]) for kind in KINDS))]
     last = "accepted"
     for mode in sorted({row[2] for row in arrows}):

@@ -1,7 +1,7 @@
 #!/usr/bin/env python3
-"""Draws the lettered pictures A to J of document 01.
+"""Draws the lettered pictures A to J of document 01, and one of groups that have emptied (document 02, P6).
 
-    draw.py           writes A.svg to J.svg, legend.svg and README.md, the page that shows them
+    draw.py           writes A.svg to J.svg, groups.svg, legend.svg and README.md, the page that shows them
     draw.py --check   says whether the files there are those it would write
 
 Boxes, containments and arrows come from samples/pictures.json, the answers from the model in
@@ -23,7 +23,7 @@ ROOT = FOLDER.parent.parent
 sys.path.insert(0, str(ROOT / "tests"))
 import samples
 
-# ---- What document 01 says ----
+# ---- What documents 01 and 02 say ----
 # Of each picture: what is drawn, what is answered, the answer of each pair (of J its sign only), and
 # what judging gives.
 
@@ -77,10 +77,26 @@ SAID = {
         {(0, 7): "pos", (1, 6): "pos", (0, 6): "neg", (1, 7): "neg"},
         "clear",
     ),
+    "groups": (
+        "users 0 and 1 in group 2, group 3 emptied, file 4 in folder 5, folder 6 emptied; arrow 0 from 2 to 5 "
+        "is +, arrow 1 from 3 to 5 is −, arrow 2 from 2 to 6 is −.",
+        [
+            "Such a box is never atomic, contained rows or not:",
+            "3 is no user and 6 no file, and arrows 1 and 2 reach nothing.",
+        ],
+        {(0, 4): "pos 0", (1, 4): "pos 0"},
+        "clear",
+    ),
 }
 
+
+def sources(name):
+    """Whose words the two texts on a picture are."""
+    return ("Document 01", "Document 01") if len(name) == 1 else ("Drawn", "By document 02, P6")
+
+
 # ---- Places ----
-# size: width and height of the sheet. boxes: left, top, width, height, and for a box with members
+# size: width and height of the sheet. boxes: left, top, width, height, and for a group or folder
 # the corner of its label. arrows: begin and end, with two guide points between them if curved.
 
 PLACES = {
@@ -170,6 +186,19 @@ PLACES = {
             (370, 296, 430, 296, 480, 310, 540, 310),
         ],
         "ring": (440, 556, 66),
+    },
+    "groups": {
+        "size": (440, 294),
+        "boxes": {
+            0: (44, 78, 86, 36),
+            1: (44, 146, 86, 36),
+            2: (20, 44, 134, 158, "tl"),
+            3: (20, 226, 134, 48, "tl"),
+            4: (310, 178, 86, 36),
+            5: (286, 116, 134, 158, "tl"),
+            6: (286, 44, 134, 48, "tl"),
+        },
+        "arrows": [(154, 140, 286, 150), (154, 250, 286, 236), (154, 68, 286, 68)],
     },
 }
 
@@ -297,25 +326,30 @@ def tag(x, y, words, sign):
 
 class Picture:
     def __init__(self, sample):
-        self.letter, self.shows = sample["name"], sample["shows"]
+        self.name, self.shows = sample["name"], sample["shows"]
         self.boxes, self.rows, self.arrows = (
             samples.spelled_out(sample[kind]) for kind in samples.KINDS
         )
         samples.check_tables(self.boxes, self.rows, self.arrows)
         self.inside = samples.all_inside(self.boxes, self.rows)
         self.looped = [box for box, mine in enumerate(self.inside) if box in mine]
-        outer = {row[0] for row in self.rows}
-        self.users, self.files = (
-            [b for b, s in enumerate(self.boxes) if s == side and b not in outer] for side in (0, 1)
-        )
-        self.place = PLACES[self.letter]
+        self.users, self.files = samples.atomic(self.boxes, self.rows)
+        self.place = PLACES[self.name]
         self.curves = [bezier(curve) for curve in self.place["arrows"]]
 
-    def role(self, box):
-        """Group or folder if it holds a box other than itself."""
-        return [["user", "group"], ["file", "folder"]][self.boxes[box]][bool(self.inside[box] - {box})]
+    def side(self, box):
+        return samples.SIDE[self.boxes[box]]
 
-    def holds(self, box):
+    def empty(self, box):
+        """It holds no box other than itself."""
+        return not self.inside[box] - {box}
+
+    def role(self, box):
+        """Group or folder by its byte, or if it holds a box other than itself."""
+        named = self.boxes[box] in (2, 3) or not self.empty(box)
+        return [["user", "group"], ["file", "folder"]][self.side(box)][named]
+
+    def groups(self, box):
         return self.role(box) in ("group", "folder")
 
     # -- answers --
@@ -392,28 +426,28 @@ class Picture:
 
     def compare(self):
         """Holds the answers against document 01, and the list of B against document 02."""
-        _, _, answers, judged = SAID[self.letter]
+        _, _, answers, judged = SAID[self.name]
         mine = {} if self.looped else self.answers()
         agree = mine.keys() == answers.keys() and self.judged() == judged
         agree = agree and all(mine[pair].startswith(answers[pair]) for pair in mine)
-        if self.letter == "B":
+        if self.name == "B":
             good = self.qualifying()
             agree = agree and (0, 1) in good and (0,) in good and (1, 0) not in good
             agree = agree and self.written() == (0, 1)
-        if self.letter == "J":
+        if self.name == "J":
             ring = {(0, 1), (1, 2), (2, 3), (3, 0)}
             agree = agree and {(p, n) for p, n, _ in self.steps()} == ring
             agree = agree and self.lists() == [((), set())] and self.out_of_reach()[0] == (0, 7)
         if not agree:
-            sys.exit(f"draw: the answers of {self.letter} are not those of documents 01 and 02")
+            sys.exit(f"draw: the answers of {self.name} are not those of documents 01 and 02")
 
     # -- labels --
 
     def box_label(self, box):
         """The middle of a box's label, and its words."""
         x, y, w, h = self.place["boxes"][box][:4]
-        words = f"{box} {self.role(box)}"
-        if not self.holds(box):
+        words = f"{box} {'empty ' if self.groups(box) and self.empty(box) else ''}{self.role(box)}"
+        if not self.groups(box):
             return x + w / 2, y + h / 2, words
         corner = self.place["boxes"][box][4]
         wide, high = label_size(words)
@@ -432,7 +466,7 @@ class Picture:
     def sheet(self):
         wide, high = self.place["size"]
         left, right = self.place.get("users", 63), self.place.get("files", wide - 63)
-        out = opening(wide, high, f"Picture {self.letter}: {self.shows}") + [
+        out = opening(wide, high, f"Picture {self.name}: {self.shows}") + [
             text(left, 24, "users", 13, fill="#666666"),
             text(right, 24, "files", 13, fill="#666666"),
         ]
@@ -445,7 +479,7 @@ class Picture:
             out += drawn_arrow(spots, self.arrows[arrow][3])
         for box in place:
             x, y, words = self.box_label(box)
-            out.append(text(x, y + 5, words, weight="bold" if not self.holds(box) else "normal"))
+            out.append(text(x, y + 5, words, weight="bold" if not self.groups(box) else "normal"))
         for arrow in range(len(self.arrows)):
             x, y, words = self.arrow_label(arrow)
             out += tag(x, y, words, self.arrows[arrow][3])
@@ -455,7 +489,7 @@ class Picture:
 
     def drawn_box(self, box):
         x, y, w, h = self.place["boxes"][box][:4]
-        out = outline(x, y, w, h, self.role(box), self.holds(box))
+        out = outline(x, y, w, h, self.role(box), self.groups(box))
         if box in self.looped:
             out = loop(x, y, w, h) + out
             out.append(text(x + w + 58, y + h / 2 + 5, f"{box} inside {box}", anchor="start"))
@@ -543,7 +577,7 @@ def faults(picture):
         shared = (picture.inside[a] | {a}) & (picture.inside[b] | {b})
         if not shared and not apart(place[a], place[b]):
             yield f"boxes {a} and {b} meet"
-        if picture.boxes[a] < picture.boxes[b] and place[a][0] + place[a][2] >= place[b][0]:
+        if picture.side(a) < picture.side(b) and place[a][0] + place[a][2] >= place[b][0]:
             yield f"user box {a} is not left of file box {b}"
     for (a, x), (b, y) in itertools.combinations(labels.items(), 2):
         if not apart(x, y):
@@ -561,7 +595,7 @@ def faults(picture):
             if name != f"arrow {arrow}" and any(in_area(area, spot) for spot in run):
                 yield f"arrow {arrow} runs through the label of {name}"
         for box in place:
-            if not picture.holds(box) and any(in_area(place[box], spot) for spot in run):
+            if not picture.groups(box) and any(in_area(place[box], spot) for spot in run):
                 yield f"arrow {arrow} runs through box {box}"
     for (a, one), (b, two) in itertools.combinations(enumerate(runs), 2):
         if min(math.dist(p, q) for p in one for q in two) < 10:
@@ -631,40 +665,42 @@ def answers_of(picture):
 
 def page(pictures):
     out = [
-        "# The lettered pictures",
+        "# The lettered pictures, and groups that have emptied",
         "",
-        "A to J of document 01, mode 0 throughout. Made by `python3 docs/pictures/draw.py` from the tables",
-        "in `samples/pictures.json`; the answers come from the model in `tests/samples.py` and are held",
-        "against document 01.",
+        "A to J of document 01, and one for request P6 of document 02; mode 0 throughout. Made by",
+        "`python3 docs/pictures/draw.py` from the tables in `samples/pictures.json`; the answers come from",
+        "the model in `tests/samples.py` and are held against the documents.",
         "",
         "![Legend](legend.svg)",
         "",
-        "User boxes stand left, file boxes right. Each box has its number and what it is: a user or a",
-        "file if it holds no other box, else a group or a folder. An outline encloses exactly the boxes",
-        "that its box contains; outlines that cross share what lies in both. An arrow begins at the dot,",
-        "on the outline of its tail, and ends on the outline of its head; it may cross other outlines.",
+        "Boxes of the user side stand left, those of the file side right. Each box has its number and what it",
+        "is: a group or a folder if its byte is 2 or 3 or if it holds another box, else a user or a file. An",
+        "outline encloses exactly the boxes that its box contains; outlines that cross share what lies in",
+        "both. An arrow begins at the dot, on the outline of its tail, and ends on the outline of its head; it",
+        "may cross other outlines.",
         "",
-        "Above each picture stand its tables (boxes: 0 user side, 1 file side; containments: outer-inner;",
-        "arrows: tail, head, mode, sign) and document 01 on what is drawn. Beside it: what judging says;",
-        "each pair (user, file) with its answer; the matrix, its rows parted by a stroke; and the list in",
-        "the order that document 02 fixes (P3). Last, document 01 on the answers: a list qualifies if it has",
-        "no repeat, each pair that it reaches gets the picture's answer from the first arrow reaching it,",
+        "Above each picture stand its tables (boxes: 0 user side, 1 file side, 2 user group, 3 folder;",
+        "containments: outer-inner; arrows: tail, head, mode, sign) and what is drawn. Beside it: what judging",
+        "says; each pair (user, file) with its answer; the matrix, its rows parted by a stroke; and the list",
+        "in the order that document 02 fixes (P3). Last, the document on the answers: a list qualifies if it",
+        "has no repeat, each pair that it reaches gets the picture's answer from the first arrow reaching it,",
         "and it reaches every granted pair.",
     ]
     for picture in pictures:
-        drawn, answered = SAID[picture.letter][:2]
-        lines = answers_of(picture) + ["", "**Document 01:**", *answered]
+        drawn, answered = SAID[picture.name][:2]
+        on_drawing, on_answers = sources(picture.name)
+        lines = answers_of(picture) + ["", f"**{on_answers}:**", *answered]
         out += [
             "",
-            f"## {picture.letter}: {picture.shows}",
+            f"## {picture.name}: {picture.shows}",
             "",
             tables_of(picture),
             "",
-            f"Document 01: {drawn.rstrip('.:')}.",
+            f"{on_drawing}: {drawn.rstrip('.:')}.",
             "",
             "| picture | answers |",
             "|---|---|",
-            f"| ![Picture {picture.letter}]({picture.letter}.svg) | {'<br>'.join(lines)} |",
+            f"| ![Picture {picture.name}]({picture.name}.svg) | {'<br>'.join(lines)} |",
         ]
         if "ring" in picture.place:
             out += ["", *RING]
@@ -682,8 +718,9 @@ RING = [
 
 def legend():
     lines = [
-        ("box", "user or file: a box that holds no other"),
+        ("box", "user or file: a box of byte 0 or 1 that holds no other"),
         ("outline", "group or folder: encloses exactly what it contains"),
+        ("empty", "of byte 2 or 3, it stays one when it is empty"),
         (1, "positive arrow 0: solid, dot and head filled"),
         (0, "negative arrow 1: dashed, dot and head open"),
         ("loop", "box 0 inside itself"),
@@ -696,9 +733,9 @@ def legend():
         if what in COLOUR:
             out += drawn_arrow(bezier((24, y, 160, y)), what)
             out += tag(86, y, f"{1 - what} {SIGN[what]}", what)
-        elif what == "outline":
+        elif what in ("outline", "empty"):
             out += outline(24, y - 17, 136, 34, "group", True)
-            out.append(text(40, y + 5, "1 group", anchor="start"))
+            out.append(text(40, y + 5, "1 group" if what == "outline" else "1 empty group", anchor="start"))
         else:
             place = (49, y - 15, 86, 30)
             out += (loop(*place) if what == "loop" else []) + outline(*place, "user", False)
@@ -714,13 +751,13 @@ def wanted():
     """Every file that this script makes, by name."""
     tables = json.loads((samples.FOLDER / "pictures.json").read_text())["pictures"]
     pictures = [Picture(sample) for sample in tables if sample["name"] in SAID]
-    if [picture.letter for picture in pictures] != list(SAID):
-        sys.exit("draw: the tables do not have A to J")
+    if [picture.name for picture in pictures] != list(SAID):
+        sys.exit("draw: the tables do not have A to J and the groups")
     for picture in pictures:
         picture.compare()
         for fault in faults(picture):
-            sys.exit(f"draw: picture {picture.letter}: {fault}")
-    files = {f"{picture.letter}.svg": picture.sheet() for picture in pictures}
+            sys.exit(f"draw: picture {picture.name}: {fault}")
+    files = {f"{picture.name}.svg": picture.sheet() for picture in pictures}
     files |= {"legend.svg": legend(), "README.md": page(pictures)}
     return {name: words.encode() for name, words in files.items()}
 

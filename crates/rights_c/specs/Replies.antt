@@ -57,6 +57,6 @@ abbrev pub readReply : Reading → Reply
 readReply (Tables c) = doneReply (c .boxes) (c .containments) (c .arrows)
 readReply (ReadRefused r) = refusedReply r
 
--- the version: major 2, minor 0, patch 0, as major × 65,536 + minor × 256 + patch
+-- the version: major 3, minor 0, patch 0, as major × 65,536 + minor × 256 + patch
 abbrev pub version : ℕ
 version = 196608
