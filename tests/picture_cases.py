@@ -1,4 +1,4 @@
-"""Cases of pictures for the program crates/test_cases, and what it must write, from document 01's text alone.
+"""Cases of pictures for the program crates/test_cases, and what it must write, from documents 01 and 02 alone.
 
 A case is (label, input, lines): the input's numbers and tables, and for each line the answer's words, the byte buffers and the
 number buffers, each as far as a call writes it (tests/test_cases.py).
@@ -20,6 +20,10 @@ def closure(n, pairs):
     return found
 
 
+# Box bytes and the side they are on: 2 is a user group, 3 a folder (document 02, P6).
+SIDE = {0: 0, 1: 1, 2: 0, 3: 1}
+
+
 def refusal(boxes, rows, arrows):
     """The first refusal by 1 to 7, or None."""
     if len(rows) % 2:
@@ -32,14 +36,15 @@ def refusal(boxes, rows, arrows):
     pairs = list(zip(rows[::2], rows[1::2]))
     fours = list(zip(arrows[::4], arrows[1::4], arrows[2::4], arrows[3::4]))
     n = len(boxes)
+    sides = [SIDE.get(b) for b in boxes]
 
     def on(side, b):
-        return b < n and boxes[b] == side
+        return b < n and sides[b] == side
 
     tests = [
-        (3, [b > 1 for b in boxes]),
+        (3, [b > 3 for b in boxes]),
         (4, [a >= n or b >= n for a, b in pairs]),
-        (5, [a < n and b < n and boxes[a] != boxes[b] for a, b in pairs]),
+        (5, [a < n and b < n and sides[a] != sides[b] for a, b in pairs]),
         (6, [not (on(0, t) and on(1, h)) for t, h, _, _ in fours]),
         (7, [m > 7 or s > 1 for _, _, m, s in fours]),
     ]
@@ -75,6 +80,7 @@ def answer(rows, arrows, mode, u, f):
 
 
 def atoms(boxes, rows, side):
+    """Of byte 0 or 1, and the outer box of no row."""
     return [b for b in range(len(boxes)) if boxes[b] == side and b not in rows[::2]]
 
 
@@ -155,10 +161,12 @@ CASES = [
     ([0, 1], [], [0, 1, 0, 1] * 512, 4),
     ([0, 1], [], [0, 1, 0, 1] * 513, 4),
     ([0] * 257, [1, 0] * 1025, [0, 1, 0, 1] * 513, 4),
-    ([2, 1], [], [0, 1, 0, 1] * 513, 4),
-    # 3: a byte above 1, the lowest box
-    ([0, 1, 2], [], [], 9),
-    ([0, 255, 2], [], [], 9),
+    ([4, 1], [], [0, 1, 0, 1] * 513, 4),
+    # 3: a byte above 3, the lowest box
+    ([0, 1, 2, 3], [], [], 16),
+    ([0, 4, 1], [], [], 9),
+    ([2, 3, 4], [], [], 9),
+    ([0, 255, 4], [], [], 9),
     # 4: outer or inner box that isn't there, the lowest row; before 5
     ([0, 0], [1, 0, 2, 0], [], 4),
     ([0, 0], [1, 0, 0, 2, 2, 0], [], 4),
@@ -168,6 +176,14 @@ CASES = [
     # 5: across sides, both ways
     ([0, 1], [0, 1], [], 4),
     ([0, 1, 0], [2, 0, 1, 0], [], 9),
+    # user groups and folders are on sides: each box in each of its side, the group or folder in itself left out; then across
+    ([0, 2, 2], [1, 0], [], 9),
+    ([0, 2, 2], [0, 1], [], 9),
+    ([0, 2, 2], [1, 2], [], 9),
+    ([1, 3, 3], [1, 0], [], 9),
+    ([1, 3, 3], [0, 1], [], 9),
+    ([1, 3, 3], [1, 2], [], 9),
+    *[([a, b], [0, 1], [], 4) for a, b in ((0, 3), (2, 3), (2, 1), (1, 2), (3, 2), (3, 0))],
     # 6: tail or head of the wrong side or no box, the lowest row; before 7
     ([0, 1], [], [0, 1, 0, 1, 1, 1, 0, 1], 4),
     ([0, 1], [], [0, 0, 0, 1], 4),
@@ -175,6 +191,8 @@ CASES = [
     ([0, 1], [], [0, 1, 0, 0, 0, 2, 0, 1], 4),
     ([0, 1], [], [0, 1, 9, 0, 1, 0, 0, 1], 4),
     ([], [], [0, 0, 0, 0], 0),
+    # from a user group, to a folder, between both; from a folder, to a user group
+    *[([a, b], [], [0, 1, 0, 1], 4) for a, b in ((2, 1), (0, 3), (2, 3), (3, 1), (3, 3), (0, 2), (2, 2), (1, 3))],
     # 7: modes 7 and 8, signs 1 and 2
     ([0, 1], [], [0, 1, 7, 1], 4),
     ([0, 1], [], [0, 1, 0, 1, 0, 1, 8, 1], 4),
@@ -210,6 +228,10 @@ F = [0, 0, 1, 1], [1, 0, 3, 2], [1, 2, 0, 1, 0, 3, 0, 0]
 G = [0, 1], [], []
 H = [0], [0, 0], []
 I = [0, 0, 1], [1, 0], [1, 2, 0, 1, 0, 2, 0, 1]
+# Groups that have emptied: one; one in a box of byte 0; a group and a folder beside others that hold something.
+EMPTIED = [0, 2, 1], [], [1, 2, 0, 1]
+AROUND = [0, 0, 2, 1], [1, 2], [1, 3, 0, 1, 0, 3, 0, 0]
+GROUPS = [0, 0, 2, 2, 1, 3, 3], [2, 0, 2, 1, 5, 4], [2, 5, 0, 1, 3, 5, 0, 0, 2, 6, 0, 0]
 
 # Worked by hand: a picture, a mode, what the judge says, and the answers of the mode by user, then file.
 # A judge's line is () or refusal 10 or 12; an answer is the word's first letter (g, d, u, or - for default) and its arrows.
@@ -250,10 +272,20 @@ WORKED = [
     # files in nested folders: 1 in 2 in 3, and 4 in 3
     (([0, 1, 1, 1, 1], [2, 1, 3, 2, 3, 4], [0, 3, 0, 0, 0, 2, 0, 1]), 0, (), "g1 d0"),
     (([0, 1, 1, 1, 1], [2, 1, 3, 2, 3, 4], [0, 3, 0, 0, 0, 2, 0, 1, 0, 1, 0, 0]), 0, (), "d2 d0"),
-    # denials: by an arrow, by default in another mode, and an emptied group that is a user
+    # denials: by an arrow, by default in another mode; a box of byte 0 that holds nothing is a user
     (([0, 1], [], [0, 1, 2, 0]), 2, (), "d0"),
     (([0, 1], [], [0, 1, 2, 0]), 1, (), "-"),
     (([0, 0, 1], [], [1, 2, 0, 1]), 0, (), "- g0"),
+    # of byte 2 it is none, and its arrow reaches nothing; a folder; a box around an emptied group; emptied boxes only
+    (EMPTIED, 0, (), "-"),
+    (([0, 3, 1], [], [0, 1, 0, 1]), 0, (), "-"),
+    (AROUND, 0, (), "d1"),
+    (([2, 3], [], [0, 1, 0, 1]), 0, (), ""),
+    # groups and folders that hold something, beside emptied ones with denials
+    (GROUPS, 0, (), "g0 g0"),
+    # B with its group said to be one; J with all its groups and folders said to be
+    (([0, 0, 2, 1], *B[1:]), 0, (), "g0 d1"),
+    (([0, 0, 2, 2, 2, 2, 1, 1, 3, 3, 3, 3], *J[1:]), 0, (), "d1 g0 g2 d3"),
 ]
 
 
@@ -287,6 +319,18 @@ FAULTS = [
     ([0, 0, 1], [1, 1], [], 9, 0, 0, 2, 0, 0),
     ([0, 0, 1], [1, 1], [], 9, 0, 1, 2, 1, 1),
     ([0, 1, 1], [1, 1], [0, 3, 9, 9], 9, 9, 9, 9, 0, 0),
+    # a user group, a folder, and a box around an emptied group are not atomic; the matrix needs a place for each pair of atomic ones
+    (*EMPTIED, 9, 0, 1, 2, 1, 1),
+    (*EMPTIED, 9, 0, 0, 2, 0, 1),
+    (*EMPTIED, 9, 0, 0, 2, 1, 0),
+    (*AROUND, 16, 0, 1, 3, 1, 1),
+    (*AROUND, 16, 0, 2, 3, 1, 1),
+    (*GROUPS, 49, 0, 3, 4, 2, 2),
+    (*GROUPS, 49, 0, 0, 6, 2, 2),
+    (*GROUPS, 49, 0, 2, 5, 1, 2),
+    # counted before 10
+    ([0, 2, 1], [1, 1], [], 9, 0, 0, 2, 0, 0),
+    ([0, 2, 1], [1, 1], [], 9, 0, 0, 2, 1, 1),
 ]
 
 # Scratches, worked by hand: a picture, and a digit for each byte of its scratch.
@@ -351,6 +395,13 @@ LISTS = [
     # an unclear pair in mode 2 and none in mode 1
     (UNCLEAR, 1, ENOUGH, "written 2", [1, 0]),
     (UNCLEAR, 2, ENOUGH, "refused 12 2 1 4", []),
+    # groups that have emptied: an arrow that reaches nothing takes a place of the buffer, but stands in no list
+    (EMPTIED, 0, (9, 1, 1), "written 0", []),
+    (EMPTIED, 0, (9, 0, 1), "refused 9 3 1 0", []),
+    (EMPTIED, 0, (9, 1, 0), "refused 9 4 1 0", []),
+    (AROUND, 0, (16, 2, 1), "written 1", [1]),
+    (([2, 3], [], [0, 1, 0, 1]), 0, (4, 1, 0), "written 0", []),
+    (GROUPS, 0, (49, 3, 2), "written 1", [0]),
     # 512 arrows of mode 3: from each of 16 users to each of 32 files, every third of them positive
     (([0] * 16 + [1] * 32, [], [x for k in range(512) for x in (k // 32, 16 + k % 32, 3, k % 3 % 2)]), 3, ENOUGH, "written 512", [*range(512)]),
 ]
@@ -382,8 +433,16 @@ HEADINGS = [
     (*B[:2], 1, 0, "refused 9 11 2 0", [], []),
     (*B[:2], 0, 9, "refused 9 11 2 0", [], []),
     (*B[:2], 9, 0, "refused 9 12 1 0", [], []),
-    # box 1 is an empty group, box 4 an empty folder; box 2 holds box 0, by two rows
+    # boxes 1 and 4 hold nothing; box 2 holds box 0, by two rows
     ([0, 0, 0, 1, 1], [2, 0, 2, 0], 2, 2, "written 2 2", [0, 1], [3, 4]),
+    # as a user group and a folder they are not atomic; nor is a box around them, nor where they hold something
+    ([0, 2, 0, 1, 3], [2, 0, 2, 0], 1, 1, "written 1 1", [0], [3]),
+    (*EMPTIED[:2], 1, 1, "written 1 1", [0], [2]),
+    (*AROUND[:2], 1, 1, "written 1 1", [0], [3]),
+    (*GROUPS[:2], 2, 1, "written 2 1", [0, 1], [4]),
+    (*GROUPS[:2], 1, 1, "refused 9 11 2 0", [], []),
+    ([2, 3], [], 0, 0, "written 0 0", [], []),
+    ([2] * 256, [], 0, 0, "written 0 0", [], []),
     # sides that take turns; groups in groups
     ([1, 0, 1, 0, 1, 0], [4, 0, 5, 1], 2, 2, "written 2 2", [1, 3], [0, 2]),
     ([0, 0, 0, 1], [0, 1, 1, 2], 9, 9, "written 1 1", [2], [3]),
@@ -402,12 +461,14 @@ HEADINGS = [
     # 1 to 5, each before the next and before 9
     ([0] * 257, [1], 0, 0, "refused 1 1 1 0", [], []),
     ([0] * 257, [1, 0] * 1025, 0, 0, "refused 2 0 257 0", [], []),
-    ([2, 0], [1, 0] * 1025, 0, 0, "refused 2 1 1025 0", [], []),
-    ([0, 2], [0, 2], 0, 0, "refused 3 1 0 0", [], []),
+    ([4, 0], [1, 0] * 1025, 0, 0, "refused 2 1 1025 0", [], []),
+    ([0, 4], [0, 2], 0, 0, "refused 3 1 0 0", [], []),
     ([0, 1], [0, 1, 1, 2], 0, 0, "refused 4 1 0 0", [], []),
     ([0, 1], [2, 0], 9, 9, "refused 4 0 0 0", [], []),
     ([0, 1], [0, 0, 1, 0], 0, 0, "refused 5 1 0 0", [], []),
     ([0, 1], [0, 1], 9, 9, "refused 5 0 0 0", [], []),
+    ([2, 3], [0, 1], 9, 9, "refused 5 0 0 0", [], []),
+    ([0, 2, 3], [1, 0, 0, 2], 9, 9, "refused 5 1 0 0", [], []),
 ]
 
 
