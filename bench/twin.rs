@@ -62,8 +62,13 @@ fn arrow_at(arrows: &[u16], k: u16) -> Arrow {
     arrow_of(&arrows[4 * k..4 * k + 4])
 }
 
+/// 0 users, 1 files, 2 user groups, 3 folders.
+fn side_of(byte: u8) -> u8 {
+    byte % 2
+}
+
 fn on_side(boxes: &[u8], side: u8, b: usize) -> bool {
-    boxes.get(b) == Some(&side)
+    boxes.get(b).is_some_and(|&byte| side_of(byte) == side)
 }
 
 fn check_counts(boxes: usize, rows: usize, arrows: usize) -> Result<(), Refusal> {
@@ -107,7 +112,7 @@ fn check(t: Tables) -> Result<(), Refusal> {
         return refuse(1, 2, arrows.len(), 0);
     }
     check_counts(boxes.len(), rows.len() / 2, arrows.len() / 4)?;
-    if let Some(b) = boxes.iter().position(|&b| b > 1) {
+    if let Some(b) = boxes.iter().position(|&b| b > 3) {
         return refuse(3, b, 0, 0);
     }
     let n = boxes.len();
@@ -117,7 +122,7 @@ fn check(t: Tables) -> Result<(), Refusal> {
         }
     }
     for (k, row) in rows.chunks_exact(2).enumerate() {
-        if boxes[row[0] as usize] != boxes[row[1] as usize] {
+        if side_of(boxes[row[0] as usize]) != side_of(boxes[row[1] as usize]) {
             return refuse(5, k, 0, 0);
         }
     }
@@ -138,7 +143,7 @@ fn check(t: Tables) -> Result<(), Refusal> {
 
 /// Whether b is an atomic box of the side.
 fn is_atom(boxes: &[u8], rows: &[u16], side: u8, b: usize) -> bool {
-    on_side(boxes, side, b) && !rows.chunks_exact(2).any(|row| row[0] as usize == b)
+    boxes.get(b) == Some(&side) && !rows.chunks_exact(2).any(|row| row[0] as usize == b)
 }
 
 /// Writes the atomic boxes of a side and answers how many.
@@ -148,8 +153,8 @@ fn atoms_of(boxes: &[u8], rows: &[u16], side: u8, out: &mut [u16]) -> usize {
         outer[row[0] as usize] = true;
     }
     let mut count = 0;
-    for (b, &s) in boxes.iter().enumerate() {
-        if s == side && !outer[b] {
+    for (b, &byte) in boxes.iter().enumerate() {
+        if byte == side && !outer[b] {
             out[count] = b as u16;
             count += 1;
         }

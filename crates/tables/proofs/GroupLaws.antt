@@ -1,41 +1,32 @@
 -- What the byte of a box says of its side and of its being atomic (document 02, P6). Assumes nothing.
 use mathlib.Core.Path.{_≡_, refl, ap, fun-ext, _∙_}
-use mathlib.Core.Logic.{_⊎_, inl, inr, _↔_}
-use mathlib.Core.Bool.{Bool, false, not, _&&_, and-true, and-false}
+use mathlib.Core.Logic.{_↔_}
+use mathlib.Core.Bool.{Bool, true, false, not, _&&_, and-true, and-false}
 use mathlib.Core.List.{List}
-use Prim.Native.Nat.{ℕ, zero, suc, _<_, _≤_, _%_}
+use Prim.Native.Nat.{ℕ, zero, suc, _<_, _≤_}
 use native.Mathlib.Omega.{arith}
-use lib.Dec.{T, T-not, not-T, eqb, ltb, eqb→eq, ltb→lt, lt→ltb}
+use lib.Dec.{T, T-not, not-T, eqb, ltb, eqb→eq, ltb→lt}
 use lib.ListN.{length, getD}
 use Rattle.tables.specs.Search.{select}
 use Rattle.tables.specs.Rows.{user, file, userGroup, folder, sideOf, isGroup, onSide}
 use Rattle.tables.specs.Atoms.{outer, atom, atoms}
 use Rattle.tables.specs.Faults.{byteFault, namesNoBox, acrossSides, wrongEnds, tableFault}
-use Rattle.tables.proofs.Tests.{and-T, T-and, T-eqb, T?, T-true, not-false}
+use Rattle.tables.proofs.Tests.{and-T, T-and, T?, T-true, not-false}
 
 -- 0 and 2 are on the user side, 1 and 3 on the file side
 pub sides : (sideOf user ≡ user) × (sideOf userGroup ≡ user) × (sideOf file ≡ file) × (sideOf folder ≡ file)
 unfolding sideOf
 sides = (refl, refl, refl, refl)
 
--- there is no third side
-pub two-sides : (byte : ℕ) → (sideOf byte ≡ user) ⊎ (sideOf byte ≡ file)
-unfolding sideOf
-two-sides byte = go (byte % 2) (omega arith)
-  where
-    go : (n : ℕ) → n < 2 → (n ≡ 0) ⊎ (n ≡ 1)
-    go zero h = inl refl
-    go (suc zero) h = inr refl
-    go (suc (suc n)) h = absurd (omega arith)
+-- 2 and 3 are the bytes of groups and folders
+pub groups : (isGroup user ≡ false) × (isGroup file ≡ false) × (isGroup userGroup ≡ true) × (isGroup folder ≡ true)
+unfolding isGroup
+groups = (refl, refl, refl, refl)
 
 module _ (boxes : List ℕ) where
   pub onSide-there : (s b : ℕ) → T (onSide boxes s b) → b < length boxes
   unfolding onSide
   onSide-there s b t = ltb→lt b (length boxes) (and-T (ltb b (length boxes)) _ t .0)
-
-  pub onSide-is : (s b : ℕ) → b < length boxes → sideOf (getD boxes b 0) ≡ s → T (onSide boxes s b)
-  unfolding onSide
-  onSide-is s b l e = T-and (ltb b (length boxes)) _ (lt→ltb b (length boxes) l) (T-eqb e)
 
   pub onSide-side : (s b : ℕ) → T (onSide boxes s b) → sideOf (getD boxes b 0) ≡ s
   unfolding onSide
@@ -91,7 +82,7 @@ module _ (boxes rows : List ℕ) (s b : ℕ) where
 pub record SameBoxes (boxes others rows : List ℕ) : Type 0 where
   pub lengths : length boxes ≡ length others
   pub sides-of : (b : ℕ) → sideOf (getD boxes b 0) ≡ sideOf (getD others b 0)
-  pub groups : (b : ℕ) → (T (outer rows b) → ⊥) → isGroup (getD boxes b 0) ≡ isGroup (getD others b 0)
+  pub groups-of : (b : ℕ) → (T (outer rows b) → ⊥) → isGroup (getD boxes b 0) ≡ isGroup (getD others b 0)
 
 module _ (boxes others rows : List ℕ) (same : SameBoxes boxes others rows) where
   same-onSide : (s b : ℕ) → onSide boxes s b ≡ onSide others s b
@@ -104,7 +95,7 @@ module _ (boxes others rows : List ℕ) (same : SameBoxes boxes others rows) whe
     where
       go : Dec (T (outer rows b)) → atom boxes rows s b ≡ atom others rows s b
       go (yes o) = rw (T-true (outer rows b) o, and-false, and-false)
-      go (no n) = rw (same-onSide s b, same .groups b n)
+      go (no n) = rw (same-onSide s b, same .groups-of b n)
 
   -- they have the same atomic boxes
   pub atoms-by-bytes : (s : ℕ) → atoms boxes rows s ≡ atoms others rows s
@@ -114,4 +105,4 @@ module _ (boxes others rows : List ℕ) (same : SameBoxes boxes others rows) whe
   -- and, where check 3 passes both, the same faults by 1 to 7
   pub faults-by-bytes : (arrows : List ℕ) → byteFault boxes ≡ byteFault others → tableFault boxes rows arrows ≡ tableFault others rows arrows
   unfolding tableFault namesNoBox acrossSides wrongEnds
-  faults-by-bytes arrows e = simp (same .lengths, e, same-onSide)
+  faults-by-bytes arrows e = simp (same .lengths, e, same .sides-of, same-onSide)

@@ -1,7 +1,6 @@
 -- What holds of tables that pass checks 1 to 7. Assumes nothing.
-use mathlib.Core.Path.{_≡_, refl, sym, _∙_}
-use mathlib.Core.Logic.{_⊎_, inl, inr}
-use mathlib.Core.Bool.{Bool, true, false, not, _&&_}
+use mathlib.Core.Path.{_≡_, refl}
+use mathlib.Core.Bool.{Bool, true, false, not, _&&_, _||_}
 use mathlib.Core.List.{List}
 use mathlib.Core.Option.{Option, none, some}
 use Prim.Native.Nat.{ℕ, _<_, _≤_, _%_}
@@ -15,8 +14,7 @@ use Rattle.tables.specs.Faults.{raggedFault, countFault, byteFault, name
 use Rattle.tables.specs.Steps.{SoundRows, SoundArrows}
 use Rattle.tables.specs.declared.Refusal.{Refusal}
 use Rattle.tables.specs.declared.Containment.{Containment}
-use Rattle.tables.proofs.Tests.{and-T, T-and, T-or₁, T-or₂}
-use Rattle.tables.proofs.GroupLaws.{two-sides, onSide-is}
+use Rattle.tables.proofs.Tests.{and-T, T-or₁, T-or₂, not-false, false-not}
 use Rattle.tables.proofs.SearchLaws.{first-none, given-none, some-none}
 
 -- neither of two checks found a fault
@@ -58,26 +56,16 @@ no-row : (check : ℕ) (bad : ℕ → Bool) (count : ℕ) → rowFault check bad
 unfolding rowFault
 no-row check bad count e k l = given-none (bad k) (badRow check k) (first-none (λ j. given (bad j) (badRow check j)) count e k l)
 
--- boxes that are there and not across sides are on one side
-not-across : (boxes : List ℕ) (r : Containment) → r .outer < length boxes → r .inner < length boxes → (T (acrossSides boxes r) → ⊥)
-    → sideOf (getD boxes (r .outer) 0) ≡ sideOf (getD boxes (r .inner) 0)
-unfolding acrossSides
-not-across boxes r o i n = go (two-sides (getD boxes (r .outer) 0)) (two-sides (getD boxes (r .inner) 0))
-  where
-    on : (s b : ℕ) → b < length boxes → sideOf (getD boxes b 0) ≡ s → T (onSide boxes s b)
-    on = onSide-is boxes
-
-    go : (sideOf (getD boxes (r .outer) 0) ≡ user) ⊎ (sideOf (getD boxes (r .outer) 0) ≡ file)
-        → (sideOf (getD boxes (r .inner) 0) ≡ user) ⊎ (sideOf (getD boxes (r .inner) 0) ≡ file)
-        → sideOf (getD boxes (r .outer) 0) ≡ sideOf (getD boxes (r .inner) 0)
-    go (inl a) (inl b) = a ∙ sym b
-    go (inr a) (inr b) = a ∙ sym b
-    go (inl a) (inr b) =
-        absurd (n (T-or₁ (onSide boxes user (r .outer) && onSide boxes file (r .inner)) _
-        (T-and (onSide boxes user (r .outer)) _ (on user _ o a) (on file _ i b))))
-    go (inr a) (inl b) =
-        absurd (n (T-or₂ (onSide boxes user (r .outer) && onSide boxes file (r .inner)) _
-        (T-and (onSide boxes file (r .outer)) _ (on file _ o a) (on user _ i b))))
+-- a row that check 4 passes names boxes that are there
+pub boxes-there : (boxes : List ℕ) (r : Containment) → namesNoBox boxes r ≡ false → (r .outer < length boxes) × (r .inner < length boxes)
+unfolding namesNoBox
+boxes-there boxes r e =
+    let o = leb (length boxes) (r .outer) in
+    let i = leb (length boxes) (r .inner) in
+    let none = false-not (o || i) e in (
+      nleb→lt (length boxes) (r .outer) (not-T o (λ t. none (T-or₁ o i t))),
+      nleb→lt (length boxes) (r .inner) (not-T i (λ t. none (T-or₂ o i t))),
+    )
 
 module _ (boxes rows arrows : List ℕ) (e : tableFault boxes rows arrows ≡ none) where
   Checks : Type 0
@@ -115,19 +103,19 @@ module _ (boxes rows arrows : List ℕ) (e : tableFault boxes rows arrows ≡ no
   unfolding byteFault Checks
   bytes b l = at-most 3 (getD boxes b 0) (badByte b) (first-none (λ b. given (ltb 3 (getD boxes b 0)) (badByte b)) (length boxes) (checks .2) b l)
 
+  named : (k : ℕ) → k < rowCount rows → namesNoBox boxes (rowAt rows k) ≡ false
+  unfolding Checks
+  named k l = not-false _ (no-row 4 (λ k. namesNoBox boxes (rowAt rows k)) (rowCount rows) (checks .3) k l)
+
   there : (k : ℕ) → k < rowCount rows → (rowAt rows k .outer < length boxes) × (rowAt rows k .inner < length boxes)
-  unfolding namesNoBox Checks
-  there k l =
-      let o = leb (length boxes) (rowAt rows k .outer) in
-      let i = leb (length boxes) (rowAt rows k .inner) in
-      let n = no-row 4 (λ k. namesNoBox boxes (rowAt rows k)) (rowCount rows) (checks .3) k l in
-      (nleb→lt (length boxes) (rowAt rows k .outer) (not-T o (λ t. n (T-or₁ o i t))), nleb→lt (length boxes) (rowAt rows k .inner) (not-T i (λ t. n (T-or₂ o i t))))
+  there k l = boxes-there boxes (rowAt rows k) (named k l)
 
   one-side : (k : ℕ) → k < rowCount rows → sideOf (getD boxes (rowAt rows k .outer) 0) ≡ sideOf (getD boxes (rowAt rows k .inner) 0)
-  unfolding Checks
+  unfolding acrossSides Checks
   one-side k l =
-      not-across boxes (rowAt rows k) (there k l .0) (there k l .1)
-      (no-row 5 (λ k. acrossSides boxes (rowAt rows k)) (rowCount rows) (checks .4) k l)
+      let o = sideOf (getD boxes (rowAt rows k .outer) 0) in
+      let i = sideOf (getD boxes (rowAt rows k .inner) 0) in
+      eqb→eq o i (not-not (eqb o i) (λ t. no-row 5 (λ k. acrossSides boxes (rowAt rows k)) (rowCount rows) (checks .4) k l (rw (named k l) t)))
 
   ends : (k : ℕ) → k < arrowCount arrows → T (onSide boxes user (arrowAt arrows k .tail)) × T (onSide boxes file (arrowAt arrows k .head))
   unfolding wrongEnds Checks

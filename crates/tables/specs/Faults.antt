@@ -6,7 +6,7 @@ use Prim.Native.Nat.{ℕ, _%_}
 use lib.Dec.{eqb, ltb, leb}
 use lib.ListN.{length, getD}
 use Rattle.tables.specs.Search.{orElse, given, first}
-use Rattle.tables.specs.Rows.{user, file, onSide, rowCount, rowAt, arrowCount, arrowAt}
+use Rattle.tables.specs.Rows.{user, file, sideOf, onSide, rowCount, rowAt, arrowCount, arrowAt}
 use Rattle.tables.specs.Refusals.{ragged, tooMany, badByte, badRow, noMode, tooShort}
 use Rattle.tables.specs.declared.Refusal.{Refusal}
 use Rattle.tables.specs.declared.Containment.{Containment}
@@ -33,11 +33,9 @@ byteFault boxes = first (λ b. given (ltb 3 (getD boxes b 0)) (badByte b)) (leng
 unfoldable pub namesNoBox : List ℕ → Containment → Bool
 namesNoBox boxes r = leb (length boxes) (r .outer) || leb (length boxes) (r .inner)
 
--- 5: a containment across sides
+-- 5: a containment across sides: its boxes are there, and on two sides
 unfoldable pub acrossSides : List ℕ → Containment → Bool
-acrossSides boxes r =
-    onSide boxes user (r .outer) && onSide boxes file (r .inner)
-    || onSide boxes file (r .outer) && onSide boxes user (r .inner)
+acrossSides boxes r = not (namesNoBox boxes r) && not (eqb (sideOf (getD boxes (r .outer) 0)) (sideOf (getD boxes (r .inner) 0)))
 
 -- 6: an arrow whose tail is no user box or head no file box
 unfoldable pub wrongEnds : List ℕ → Arrow → Bool

@@ -1,8 +1,8 @@
 -- The three lent tables of a picture (document 01, "The picture and its tables"; box bytes 2 and 3: document 02, P6). Assumes nothing.
-use mathlib.Core.Bool.{Bool, _&&_, _||_}
+use mathlib.Core.Bool.{Bool, _&&_}
 use mathlib.Core.List.{List}
 use Prim.Native.Nat.{ℕ, _+_, _*_, _/_, _%_}
-use lib.Dec.{eqb, ltb}
+use lib.Dec.{eqb, ltb, leb}
 use lib.ListN.{length, getD}
 use Rattle.tables.specs.declared.Containment.{Containment}
 use Rattle.tables.specs.declared.Arrow.{Arrow}
@@ -27,7 +27,7 @@ sideOf byte = byte % 2
 
 -- the byte is that of a user group or a folder
 unfoldable pub isGroup : ℕ → Bool
-isGroup byte = eqb byte userGroup || eqb byte folder
+isGroup byte = leb userGroup byte
 
 -- b is a box of side s
 unfoldable pub onSide : List ℕ → ℕ → ℕ → Bool

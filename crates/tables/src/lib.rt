@@ -156,7 +156,7 @@ fn side_of(byte: u8) -> u8
 fn is_group(byte: u8) -> bool
     ensures { λ r. ⌜ r ≡ isGroup byte ⌝ }
 {
-    byte == BoxRow::GROUP || byte == BoxRow::FOLDER
+    BoxRow::GROUP <= byte
 }
 
 // Whether b is a box of the side.
@@ -193,7 +193,7 @@ fn check_bytes(boxes: &[u8]) -> Verdict
     ensures { λ r. ⌜ r ≡ verdictOf (byteFault (now (boxes .entry))) ⌝ }
 {
     for b in 0..boxes.len() {
-        if 3 < boxes[b] {
+        if BoxRow::FOLDER < boxes[b] {
             return Verdict::refused(3, b, 0, 0);
         }
     }
@@ -207,14 +207,13 @@ fn names_no_box(boxes: &[u8], row: Containment) -> bool
     boxes.len() <= wide(row.outer) || boxes.len() <= wide(row.inner)
 }
 
-// Check 5 of a row: its boxes are on two sides.
+// Check 5 of a row: its boxes are there, and on two sides.
 fn across_sides(boxes: &[u8], row: Containment) -> bool
     ensures { λ r. ⌜ r ≡ acrossSides (now (boxes .entry)) row ⌝ }
 {
     let outer = wide(row.outer);
     let inner = wide(row.inner);
-    on_side(boxes, BoxRow::USER, outer) & on_side(boxes, BoxRow::FILE, inner)
-        | on_side(boxes, BoxRow::FILE, outer) & on_side(boxes, BoxRow::USER, inner)
+    !names_no_box(boxes, row) && side_of(boxes[outer]) != side_of(boxes[inner])
 }
 
 // Check 6 of an arrow: its tail is no user box or its head no file box.
