@@ -641,7 +641,7 @@ fn wrong_end(r: &mut Random, t: &mut Tables, arrow: usize) {
 fn spoil(r: &mut Random, t: &mut Tables) {
     let n = t.boxes.len();
     let (rows, arrows) = (t.rows.len() / 2, t.arrows.len() / 4);
-    match r.below(10) {
+    match r.below(11) {
         0 if r.percent(50) => t.rows.push(r.below(n + 1) as u16),
         0 => {
             for _ in 0..r.from_to(1, 3) {
@@ -665,11 +665,11 @@ fn spoil(r: &mut Random, t: &mut Tables) {
             let row = r.below(rows);
             cross_sides(r, t, row);
         }
-        7 if arrows > 0 => {
+        7 | 10 if arrows > 0 => {
             let arrow = r.below(arrows);
-            match r.below(4) {
+            match r.below(5) {
                 0 => t.arrows.swap(4 * arrow, 4 * arrow + 1),
-                1 | 2 => wrong_end(r, t, arrow),
+                1..=3 => wrong_end(r, t, arrow),
                 _ => t.arrows[4 * arrow + r.below(2)] = no_box(r, n),
             }
         }
