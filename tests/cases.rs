@@ -1463,14 +1463,18 @@ fn long_chain(report: &mut Report) {
     report.same("chain of 256 boxes: scratch", model.scratch == want, true);
 }
 
-/// That every call on these tables is refused so, if at all, by checks 1 to 7; without a refusal
-/// all of them pass these checks.
-fn table_checks(what: &str, t: &Tables, want: Option<Refused>, report: &mut Report) {
-    let picture = lent::Tables {
+fn lend(t: &Tables) -> lent::Tables<'_> {
+    lent::Tables {
         boxes: &t.boxes,
         containments: &t.rows,
         arrows: &t.arrows,
-    };
+    }
+}
+
+/// That every call on these tables is refused so, if at all, by checks 1 to 7; without a refusal
+/// all of them pass these checks.
+fn table_checks(what: &str, t: &Tables, want: Option<Refused>, report: &mut Report) {
+    let picture = lend(t);
     // A mode that isn't there comes next for three of the calls, a short scratch for judge.
     let n = t.boxes.len();
     let short = (n > 0).then_some((9, [0, (n * n) as u64, 0]));
@@ -1523,14 +1527,6 @@ fn bytes_and_sides(report: &mut Report) {
         let what = format!("an arrow from byte {a} to byte {b}");
         let want = (!ARROWS.contains(&(a, b))).then_some((6, [0, 0, 0]));
         table_checks(&what, &t, want, report);
-    }
-}
-
-fn lend(t: &Tables) -> lent::Tables<'_> {
-    lent::Tables {
-        boxes: &t.boxes,
-        containments: &t.rows,
-        arrows: &t.arrows,
     }
 }
 
@@ -1621,6 +1617,10 @@ fn refused(report: &mut Report) {
     };
     let got = group.entry(1, 2, 7, &mut [9; 9]);
     report.same("a group is no user", numbers(&got), Some((11, [1, 2, 0])));
+}
+
+/// An entry that asks for an empty group or folder, or for both, and one beside them.
+fn asked_empty(report: &mut Report) {
     let empty = lent::Tables {
         boxes: &[0, 2, 1, 3],
         containments: &[],
@@ -1751,6 +1751,7 @@ pub fn run() -> Report {
     limits(&mut report);
     long_chain(&mut report);
     refused(&mut report);
+    asked_empty(&mut report);
     for case in ATOMS {
         one_atoms(case, &mut report);
     }

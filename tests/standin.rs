@@ -178,7 +178,6 @@ ways! {
     AroundEmptyIsAtom: "a box of byte 0 or 1 that holds only empty groups or folders is atomic",
     AroundGroupsIsAtom: "a box of byte 0 or 1 that holds only groups or folders is atomic",
     EmptyInJudge: "judge takes empty groups and folders for atomic",
-    EmptyInEntry: "an entry takes empty groups and folders for atomic",
     EmptyInMatrix: "the matrix takes empty groups and folders for atomic",
     EmptyInList: "the list takes empty groups and folders for atomic",
     EmptyNamed: "empty groups and folders are named among the atomic boxes",
@@ -280,9 +279,12 @@ impl Tables<'_> {
         empty[self.tail(k)] || empty[self.head(k)]
     }
 
-    /// An arrow's number if arrows at empty groups and folders had none.
-    fn renumbered(&self, k: usize) -> usize {
-        (0..k).filter(|&m| !self.at_empty(m)).count()
+    /// The number that is shown for an arrow: its row.
+    fn number(&self, k: usize) -> usize {
+        if is(Wrong::EmptyUnnumbered) {
+            return (0..k).filter(|&m| !self.at_empty(m)).count();
+        }
+        k
     }
 
     fn tail(&self, k: usize) -> usize {
@@ -798,15 +800,10 @@ fn entry(t: &Tables, user: u16, file: u16, mode: u16, scratch: &mut [u8]) -> Rep
     }
     t.fill(scratch);
     let (u, f) = (user as usize, file as usize);
-    let [mut users, mut files] = [0, 1].map(|side| t.atoms(side, Wrong::EmptyInEntry));
+    let mut users = t.atoms(0, Wrong::EntryEmptyGroup);
+    let files = t.atoms(1, Wrong::EntryEmptyFolder);
     if is(Wrong::EntryTakesGroups) {
         users = (0..t.n()).filter(|&b| t.side(b) == 0).collect();
-    }
-    if is(Wrong::EntryEmptyGroup) {
-        users = t.atoms(0, Wrong::EntryEmptyGroup);
-    }
-    if is(Wrong::EntryEmptyFolder) {
-        files = t.atoms(1, Wrong::EntryEmptyFolder);
     }
     let wrong = !users.contains(&u) || !files.contains(&f);
     let named = if is(Wrong::EntryNamesOne) && users.contains(&u) {
@@ -823,12 +820,9 @@ fn entry(t: &Tables, user: u16, file: u16, mode: u16, scratch: &mut [u8]) -> Rep
     if wrong {
         return named;
     }
-    let world = World::new(t, scratch, Wrong::EmptyInEntry);
+    let world = World::new(t, scratch, Wrong::EntryEmptyGroup);
     let (kind, a, b) = world.cell(&t.of_mode(mode), u, f);
-    if is(Wrong::EmptyUnnumbered) {
-        return reply(kind, t.renumbered(a), t.renumbered(b), 0);
-    }
-    reply(kind, a, b, 0)
+    reply(kind, t.number(a), t.number(b), 0)
 }
 
 /// Refusals 8 and 9 of the matrix and list calls; `buffers` are number, length lent, length
@@ -910,10 +904,8 @@ fn matrix(
             }
             let arrow = if is(Wrong::LongArrowNumbers) {
                 arrow % 256
-            } else if is(Wrong::EmptyUnnumbered) {
-                t.renumbered(arrow)
             } else {
-                arrow
+                t.number(arrow)
             };
             (bytes[place], numbers[place]) = match kind {
                 GRANTED => (1, arrow as u16),
