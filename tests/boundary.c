@@ -1,7 +1,7 @@
 /*
  * Case B through the C header, call by call: that the header and the library fit together, with
- * the kinds, lengths and names of the header. Last a picture that shows which pair 13 names, and
- * whose scratch holds all three values.
+ * the kinds, lengths and names of the header. Then a group and a folder that have emptied. Last a
+ * picture that shows which pair 13 names, and whose scratch holds all three values.
  */
 
 #include "rights.h"
@@ -73,6 +73,64 @@ static void ring(void) {
            rights_list(boxes, 14, rows, 24, arrows, 20, 0, scratch, 197, list, 5, work, 9),
            RIGHTS_REFUSED, RIGHTS_NO_ORDER, 0, 1, 8);
     hold("scratch after 13", memcmp(scratch, contained, 196) == 0 && scratch[196] == 9);
+}
+
+static const uint16_t no_rows[1] = {9};
+
+/*
+ * The calls on a picture of three boxes without rows: user 0, file 2, and box 1, a group or folder
+ * that has emptied and whose arrow reaches nothing. user and file name box 1 on its side.
+ */
+static void emptied(const uint8_t *boxes, const uint16_t *arrows, uint16_t user, uint16_t file) {
+    uint8_t scratch[10], bytes[2] = {9, 9}, work[2] = {9, 9};
+    uint16_t numbers[2] = {9, 9}, list[2] = {9, 9}, users[2] = {9, 9}, files[2] = {9, 9};
+    memset(scratch, 9, sizeof scratch);
+    expect("emptied: atoms", rights_atoms(boxes, 3, no_rows, 0, users, 2, files, 2), RIGHTS_DONE,
+           0, 1, 1, 0);
+    hold("emptied: users", users[0] == 0 && users[1] == 9);
+    hold("emptied: files", files[0] == 2 && files[1] == 9);
+    expect("emptied: judge", rights_judge(boxes, 3, no_rows, 0, arrows, 4, scratch, 9),
+           RIGHTS_DONE, 0, 0, 0, 0);
+    expect("emptied: entry",
+           rights_entry(boxes, 3, no_rows, 0, arrows, 4, user, file, 0, scratch, 9),
+           RIGHTS_REFUSED, RIGHTS_NOT_ATOMIC, user, file, 0);
+    expect("emptied: entry beside it",
+           rights_entry(boxes, 3, no_rows, 0, arrows, 4, 0, 2, 0, scratch, 9),
+           RIGHTS_DENIED_BY_DEFAULT, 0, 0, 0, 0);
+    expect("emptied: matrix",
+           rights_matrix(boxes, 3, no_rows, 0, arrows, 4, 0, scratch, 9, bytes, 1, numbers, 1),
+           RIGHTS_DONE, 0, 0, 0, 0);
+    hold("emptied: bytes", bytes[0] == RIGHTS_DENIED && bytes[1] == 9);
+    hold("emptied: numbers", numbers[0] == RIGHTS_NO_ARROW && numbers[1] == 9);
+    expect("emptied: no list places",
+           rights_list(boxes, 3, no_rows, 0, arrows, 4, 0, scratch, 9, list, 0, work, 1),
+           RIGHTS_REFUSED, RIGHTS_BUFFER_SHORT, RIGHTS_LIST, 1, 0);
+    expect("emptied: list",
+           rights_list(boxes, 3, no_rows, 0, arrows, 4, 0, scratch, 9, list, 1, work, 1),
+           RIGHTS_DONE, 0, 0, 0, 0);
+    hold("emptied: list and work", list[0] == 9 && work[0] == 0 && work[1] == 9);
+    hold("emptied: scratch beyond", scratch[9] == 9);
+}
+
+/* The bytes of boxes, a group and a folder that have emptied, and what refusals 3 and 5 say. */
+static void groups(void) {
+    const uint8_t group[3] = {RIGHTS_USER, RIGHTS_GROUP, RIGHTS_FILE};
+    const uint8_t folder[3] = {RIGHTS_USER, RIGHTS_FOLDER, RIGHTS_FILE};
+    const uint8_t above[2] = {RIGHTS_FOLDER, RIGHTS_FOLDER + 1};
+    const uint16_t from_group[4] = {1, 2, 0, 1}, to_folder[4] = {0, 1, 0, 1}, row[2] = {0, 1};
+    uint16_t users[1] = {9}, files[1] = {9};
+    hold("bytes of boxes", RIGHTS_USER == 0 && RIGHTS_FILE == 1 && RIGHTS_GROUP == 2
+                               && RIGHTS_FOLDER == 3);
+    emptied(group, from_group, 1, 2);
+    emptied(folder, to_folder, 0, 1);
+    expect("byte 4", rights_atoms(above, 2, no_rows, 0, users, 1, files, 1), RIGHTS_REFUSED,
+           RIGHTS_BOX_BYTE, 1, 0, 0);
+    expect("a folder in a user box", rights_atoms(folder, 3, row, 2, users, 1, files, 1),
+           RIGHTS_REFUSED, RIGHTS_ACROSS_SIDES, 0, 0, 0);
+    hold("refused: users and files", users[0] == 9 && files[0] == 9);
+    expect("a group in a user box", rights_atoms(group, 3, row, 2, users, 1, files, 1),
+           RIGHTS_DONE, 0, 0, 1, 0);
+    hold("around a group: users and files", users[0] == 9 && files[0] == 2);
 }
 
 int main(void) {
@@ -162,6 +220,7 @@ int main(void) {
            RIGHTS_REFUSED, RIGHTS_FILE_LENGTH, 511, 0, 0);
 
     name("refusal 0", rights_refusal_name(0), "no refusal");
+    name("refusal 3", rights_refusal_name(RIGHTS_BOX_BYTE), "box byte above 3");
     name("refusal 9", rights_refusal_name(RIGHTS_BUFFER_SHORT), "buffer too short");
     name("refusal 13", rights_refusal_name(RIGHTS_NO_ORDER), "no order");
     name("refusal 17", rights_refusal_name(RIGHTS_FILLER), "filler not zero");
@@ -170,6 +229,7 @@ int main(void) {
     name("buffer 8", rights_buffer_name(8), "unknown buffer");
     name("buffer 12", rights_buffer_name(RIGHTS_ATOMIC_FILES), "atomic files");
 
+    groups();
     ring();
     printf("boundary: %s\n", failed ? "FAILED" : "passed");
     return failed != 0;

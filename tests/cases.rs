@@ -1,9 +1,10 @@
-//! The lettered pictures A to J, the three traps, lists, scratches, the limits and some orders of
-//! refusals, with expectations written by hand from documents 01 and 02. Each is put to the library
-//! through the Rust package and to the model.
+//! The lettered pictures A to J, the three traps, lists, scratches, groups that have emptied, the
+//! limits and some orders of refusals, with expectations written by hand from documents 01 and 02.
+//! Each is put to the library through the Rust package and to the model.
 
 use super::checker::{self, Answer, Known, Lists, Tables};
 use super::compare_answer;
+use super::generator::{self, Random};
 use rights::lent::{self, Counts};
 
 /// Number and three numbers of a refusal.
@@ -176,7 +177,7 @@ const CASES: &[Case] = &[
         list: List::Refused((12, [0, 0, 1])),
     },
     Case {
-        name: "an empty group is a user, a repeated row changes nothing",
+        name: "a box of byte 0 with nothing in it is a user, a repeated row changes nothing",
         boxes: &[0, 0, 0, 1],
         rows: &[1, 0, 1, 0],
         arrows: &[2, 3, 0, 1],
@@ -321,7 +322,8 @@ const REFUSED: &[(&str, &[u8], &[u16], &[u16], Refused)] = &[
         (1, [1, 3, 0]),
     ),
     ("ragged arrows", &[0], &[], &[0, 0], (1, [2, 2, 0])),
-    ("box byte", &[1, 2, 3], &[9, 9], &[], (3, [1, 0, 0])),
+    ("box byte", &[3, 4, 255], &[9, 9], &[], (3, [1, 0, 0])),
+    ("box byte 4", &[0, 4, 1], &[], &[], (3, [1, 0, 0])),
     (
         "4 in row 1 before 5 in row 0",
         &[0, 1],
@@ -330,6 +332,21 @@ const REFUSED: &[(&str, &[u8], &[u16], &[u16], Refused)] = &[
         (4, [1, 0, 0]),
     ),
     ("across sides", &[0, 1], &[0, 0, 1, 0], &[], (5, [1, 0, 0])),
+    ("a folder in a group", &[2, 3], &[0, 1], &[], (5, [0, 0, 0])),
+    (
+        "an arrow from a folder",
+        &[3, 3],
+        &[],
+        &[0, 1, 0, 1],
+        (6, [0, 0, 0]),
+    ),
+    (
+        "an arrow to a group, behind one to a folder",
+        &[2, 2, 3],
+        &[],
+        &[0, 2, 0, 1, 0, 1, 0, 1],
+        (6, [1, 0, 0]),
+    ),
     (
         "6 in row 1 before 7 in row 0",
         &[0, 1],
@@ -355,15 +372,15 @@ const REFUSED: &[(&str, &[u8], &[u16], &[u16], Refused)] = &[
 ];
 
 /// A call for the atomic boxes. Its buffers hold nines before.
-struct AtomsCase {
+struct AtomsCase<'a> {
     name: &'static str,
     boxes: &'static [u8],
     rows: &'static [u16],
     /// How many atomic users and files, or the refusal.
     result: Result<[usize; 2], Refused>,
     /// The buffers afterwards.
-    users: &'static [u16],
-    files: &'static [u16],
+    users: &'a [u16],
+    files: &'a [u16],
 }
 
 const BOXES_B: &[u8] = &[0, 0, 0, 1];
@@ -423,7 +440,7 @@ const ATOMS: &[AtomsCase] = &[
         files: &[6, 7],
     },
     AtomsCase {
-        name: "atoms of both sides in turns; box 4 is an empty group",
+        name: "atoms of both sides in turns; boxes 1 to 4 are in no row",
         boxes: &[1, 0, 1, 0, 0, 1],
         rows: &[5, 0, 5, 0],
         result: Ok([3, 2]),
@@ -432,7 +449,7 @@ const ATOMS: &[AtomsCase] = &[
     },
     AtomsCase {
         name: "atoms: ragged containments",
-        boxes: &[2],
+        boxes: &[4],
         rows: &[0, 0, 0],
         result: Err((1, [1, 3, 0])),
         users: &[9, 9],
@@ -440,7 +457,7 @@ const ATOMS: &[AtomsCase] = &[
     },
     AtomsCase {
         name: "atoms: a box byte",
-        boxes: &[0, 2],
+        boxes: &[3, 4],
         rows: &[9, 9],
         result: Err((3, [1, 0, 0])),
         users: &[],
@@ -635,6 +652,358 @@ const SCRATCHES: &[ScratchCase] = &[
             "000000200000", // 10 holds 6
             "000000120020", // 11 holds 10 and 7, so 6
         ],
+    },
+];
+
+/// A picture with user groups or folders, through every call.
+struct GroupCase {
+    case: Case,
+    /// The atomic users and files.
+    users: &'static [u16],
+    files: &'static [u16],
+    /// The scratch, a line for each outer box, a digit for each inner one.
+    scratch: &'static [&'static str],
+    listing: &'static str,
+}
+
+const GROUPS: &[GroupCase] = &[
+    GroupCase {
+        case: Case {
+            name: "a group, drawn with 0, that holds user 0",
+            boxes: &[0, 0, 1],
+            rows: &[1, 0],
+            arrows: &[1, 2, 0, 1],
+            judge: None,
+            matrix: Some((&[1], &[0])),
+            entries: &[(0, 2, Answer::Granted(0))],
+            list: List::Written(&[0]),
+        },
+        users: &[0],
+        files: &[2],
+        scratch: &["000", "200", "000"],
+        listing: "boxes 3 containments 1 arrows 1\n\
+            0 0 2 pos 0\n\
+            accepted\n",
+    },
+    GroupCase {
+        case: Case {
+            name: "the same group drawn with 2",
+            boxes: &[0, 2, 1],
+            rows: &[1, 0],
+            arrows: &[1, 2, 0, 1],
+            judge: None,
+            matrix: Some((&[1], &[0])),
+            entries: &[(0, 2, Answer::Granted(0))],
+            list: List::Written(&[0]),
+        },
+        users: &[0],
+        files: &[2],
+        scratch: &["000", "200", "000"],
+        listing: "boxes 3 containments 1 arrows 1\n\
+            0 0 2 pos 0\n\
+            accepted\n",
+    },
+    GroupCase {
+        case: Case {
+            name: "user 0 has left the group drawn with 0, which turns into a user",
+            boxes: &[0, 0, 1],
+            rows: &[],
+            arrows: &[1, 2, 0, 1],
+            judge: None,
+            matrix: Some((&[0, 1], &[NONE, 0])),
+            entries: &[(0, 2, Answer::Default), (1, 2, Answer::Granted(0))],
+            list: List::Written(&[0]),
+        },
+        users: &[0, 1],
+        files: &[2],
+        scratch: &["000", "000", "000"],
+        listing: "boxes 3 containments 0 arrows 1\n\
+            0 0 2 neg -\n\
+            0 1 2 pos 0\n\
+            accepted\n",
+    },
+    GroupCase {
+        case: Case {
+            name: "user 0 has left the group drawn with 2, which stays a group",
+            boxes: &[0, 2, 1],
+            rows: &[],
+            arrows: &[1, 2, 0, 1],
+            judge: None,
+            matrix: Some((&[0], &[NONE])),
+            entries: &[(0, 2, Answer::Default)],
+            list: List::Written(&[]),
+        },
+        users: &[0],
+        files: &[2],
+        scratch: &["000", "000", "000"],
+        listing: "boxes 3 containments 0 arrows 1\n\
+            0 0 2 neg -\n\
+            accepted\n",
+    },
+    GroupCase {
+        case: Case {
+            name: "file 2 in the folder drawn with 3",
+            boxes: &[0, 3, 1],
+            rows: &[1, 2],
+            arrows: &[0, 1, 0, 1],
+            judge: None,
+            matrix: Some((&[1], &[0])),
+            entries: &[(0, 2, Answer::Granted(0))],
+            list: List::Written(&[0]),
+        },
+        users: &[0],
+        files: &[2],
+        scratch: &["000", "002", "000"],
+        listing: "boxes 3 containments 1 arrows 1\n\
+            0 0 2 pos 0\n\
+            accepted\n",
+    },
+    GroupCase {
+        case: Case {
+            name: "file 2 has left the folder drawn with 3, which stays a folder",
+            boxes: &[0, 3, 1],
+            rows: &[],
+            arrows: &[0, 1, 0, 1],
+            judge: None,
+            matrix: Some((&[0], &[NONE])),
+            entries: &[(0, 2, Answer::Default)],
+            list: List::Written(&[]),
+        },
+        users: &[0],
+        files: &[2],
+        scratch: &["000", "000", "000"],
+        listing: "boxes 3 containments 0 arrows 1\n\
+            0 0 2 neg -\n\
+            accepted\n",
+    },
+    GroupCase {
+        case: Case {
+            name: "file 2 has left the folder drawn with 1, which turns into a file",
+            boxes: &[0, 1, 1],
+            rows: &[],
+            arrows: &[0, 1, 0, 1],
+            judge: None,
+            matrix: Some((&[1, 0], &[0, NONE])),
+            entries: &[(0, 1, Answer::Granted(0)), (0, 2, Answer::Default)],
+            list: List::Written(&[0]),
+        },
+        users: &[0],
+        files: &[1, 2],
+        scratch: &["000", "000", "000"],
+        listing: "boxes 3 containments 0 arrows 1\n\
+            0 0 1 pos 0\n\
+            0 0 2 neg -\n\
+            accepted\n",
+    },
+    GroupCase {
+        case: Case {
+            name: "a box of byte 0 around an empty group only is no user",
+            boxes: &[0, 0, 2, 1],
+            rows: &[1, 2],
+            arrows: &[1, 3, 0, 1, 0, 3, 0, 0],
+            judge: None,
+            matrix: Some((&[0], &[1])),
+            entries: &[(0, 3, Answer::Denied(1))],
+            list: List::Written(&[1]),
+        },
+        users: &[0],
+        files: &[3],
+        scratch: &["0000", "0020", "0000", "0000"],
+        listing: "boxes 4 containments 1 arrows 2\n\
+            0 0 3 neg 1\n\
+            accepted\n",
+    },
+    GroupCase {
+        case: Case {
+            name: "a box of byte 1 around an empty folder only is no file",
+            boxes: &[1, 1, 3, 0],
+            rows: &[1, 2],
+            arrows: &[3, 1, 0, 1, 3, 0, 0, 0],
+            judge: None,
+            matrix: Some((&[0], &[1])),
+            entries: &[(3, 0, Answer::Denied(1))],
+            list: List::Written(&[1]),
+        },
+        users: &[3],
+        files: &[0],
+        scratch: &["0000", "0020", "0000", "0000"],
+        listing: "boxes 4 containments 1 arrows 2\n\
+            0 3 0 neg 1\n\
+            accepted\n",
+    },
+    GroupCase {
+        case: Case {
+            name: "nothing but an empty group and an empty folder: no pairs",
+            boxes: &[2, 3],
+            rows: &[],
+            arrows: &[0, 1, 0, 1],
+            judge: None,
+            matrix: Some((&[], &[])),
+            entries: &[],
+            list: List::Written(&[]),
+        },
+        users: &[],
+        files: &[],
+        scratch: &["00", "00"],
+        listing: "boxes 2 containments 0 arrows 1\n\
+            accepted\n",
+    },
+    GroupCase {
+        case: Case {
+            name: "users, but folders only",
+            boxes: &[0, 3, 0],
+            rows: &[],
+            arrows: &[2, 1, 0, 0, 0, 1, 5, 1],
+            judge: None,
+            matrix: Some((&[], &[])),
+            entries: &[],
+            list: List::Written(&[]),
+        },
+        users: &[0, 2],
+        files: &[],
+        scratch: &["000", "000", "000"],
+        listing: "boxes 3 containments 0 arrows 2\n\
+            accepted\n",
+    },
+    GroupCase {
+        case: Case {
+            name: "both signs from an empty group are no conflict",
+            boxes: &[2, 0, 1],
+            rows: &[],
+            arrows: &[0, 2, 0, 1, 0, 2, 0, 0, 1, 2, 0, 1],
+            judge: None,
+            matrix: Some((&[1], &[2])),
+            entries: &[(1, 2, Answer::Granted(2))],
+            list: List::Written(&[2]),
+        },
+        users: &[1],
+        files: &[2],
+        scratch: &["000", "000", "000"],
+        listing: "boxes 3 containments 0 arrows 3\n\
+            0 1 2 pos 2\n\
+            accepted\n",
+    },
+    GroupCase {
+        case: Case {
+            // Box 0 holds group 1, which holds group 2.
+            name: "groups that hold only each other are all empty",
+            boxes: &[0, 2, 2, 0, 1],
+            rows: &[1, 2, 0, 1],
+            arrows: &[0, 4, 0, 1, 2, 4, 0, 0, 3, 4, 0, 1, 1, 4, 0, 0],
+            judge: None,
+            matrix: Some((&[1], &[2])),
+            entries: &[(3, 4, Answer::Granted(2))],
+            list: List::Written(&[2]),
+        },
+        users: &[3],
+        files: &[4],
+        scratch: &["02100", "00200", "00000", "00000", "00000"],
+        listing: "boxes 5 containments 2 arrows 4\n\
+            0 3 4 pos 2\n\
+            accepted\n",
+    },
+    GroupCase {
+        case: Case {
+            // Group 1 holds user 0 and the empty group 2.
+            name: "an arrow from an empty group does not reach those beside it",
+            boxes: &[0, 2, 2, 1],
+            rows: &[1, 0, 1, 2],
+            arrows: &[2, 3, 0, 1, 1, 3, 0, 0],
+            judge: None,
+            matrix: Some((&[0], &[1])),
+            entries: &[(0, 3, Answer::Denied(1))],
+            list: List::Written(&[1]),
+        },
+        users: &[0],
+        files: &[3],
+        scratch: &["0000", "2020", "0000", "0000"],
+        listing: "boxes 4 containments 2 arrows 2\n\
+            0 0 3 neg 1\n\
+            accepted\n",
+    },
+    GroupCase {
+        case: Case {
+            name: "B, its group drawn with 2",
+            boxes: &[0, 0, 2, 1],
+            rows: ROWS_B,
+            arrows: &[0, 3, 0, 1, 2, 3, 0, 0],
+            judge: None,
+            matrix: Some((&[1, 0], &[0, 1])),
+            entries: &[(0, 3, Answer::Granted(0)), (1, 3, Answer::Denied(1))],
+            list: List::Written(&[0, 1]),
+        },
+        users: &[0, 1],
+        files: &[3],
+        scratch: &["0000", "0000", "2200", "0000"],
+        listing: LISTING_B,
+    },
+    GroupCase {
+        case: Case {
+            name: "D, its groups drawn with 2 and 0",
+            boxes: &[0, 2, 0, 1],
+            rows: &[1, 0, 2, 0],
+            arrows: &[1, 3, 0, 1, 2, 3, 0, 0],
+            judge: Some((12, [0, 0, 3])),
+            matrix: Some((&[2], &[NONE])),
+            entries: &[(0, 3, Answer::Unclear(0, 1))],
+            list: List::Refused((12, [0, 0, 3])),
+        },
+        users: &[0],
+        files: &[3],
+        scratch: &["0000", "2000", "2000", "0000"],
+        listing: "boxes 4 containments 2 arrows 2\n\
+            0 0 3 ambig 0 1\n\
+            ambiguous 0 0 3\n",
+    },
+    GroupCase {
+        case: Case {
+            name: "J, its groups drawn with 2, its folders with 3",
+            boxes: &[0, 0, 2, 2, 2, 2, 1, 1, 3, 3, 3, 3],
+            rows: ROWS_J,
+            arrows: &[2, 8, 0, 1, 3, 9, 0, 0, 4, 10, 0, 1, 5, 11, 0, 0],
+            judge: None,
+            matrix: Some((&[0, 1, 1, 0], &[1, 0, 2, 3])),
+            entries: &[(0, 6, Answer::Denied(1)), (0, 7, Answer::Granted(0))],
+            list: List::Refused((13, [0, 0, 7])),
+        },
+        users: &[0, 1],
+        files: &[6, 7],
+        scratch: &[
+            "000000000000",
+            "000000000000",
+            "210002000000",
+            "200000000000",
+            "120200000000",
+            "020000000000",
+            "000000000000",
+            "000000000000",
+            "000000020000",
+            "000000212000",
+            "000000200000",
+            "000000120020",
+        ],
+        listing: "boxes 12 containments 12 arrows 4\n\
+            0 0 6 neg 1\n\
+            0 0 7 pos 0\n\
+            0 1 6 pos 2\n\
+            0 1 7 neg 3\n\
+            accepted\n",
+    },
+    GroupCase {
+        case: Case {
+            name: "two groups that hold each other",
+            boxes: &[2, 2, 3],
+            rows: &[0, 1, 1, 0],
+            arrows: &[1, 2, 0, 1],
+            judge: Some((10, [0, 0, 0])),
+            matrix: None,
+            entries: &[],
+            list: List::Refused((10, [0, 0, 0])),
+        },
+        users: &[],
+        files: &[],
+        scratch: &["120", "210", "000"],
+        listing: "refused 10 0 0 0\n",
     },
 ];
 
@@ -881,6 +1250,129 @@ fn one_scratch(case: &ScratchCase, before: u8, report: &mut Report) {
     }
 }
 
+impl GroupCase {
+    /// The scratch after every call, where the entry asks for these boxes.
+    fn scratch_case(&self, asked: (u16, u16), entry: Option<Refused>) -> ScratchCase {
+        let loops = self.case.judge.filter(|(number, _)| *number == 10);
+        let list = match self.case.list {
+            List::Written(_) => None,
+            List::Refused(refused) => Some(refused),
+        };
+        ScratchCase {
+            name: self.case.name,
+            boxes: self.case.boxes,
+            rows: self.case.rows,
+            arrows: self.case.arrows,
+            asked,
+            refused: [self.case.judge, loops.or(entry), loops, list],
+            scratch: self.scratch,
+        }
+    }
+
+    /// Every box of the user side with every one of the file side: refused by 11 unless both are
+    /// atomic.
+    fn entries(&self, report: &mut Report) {
+        let boxes = self.case.boxes;
+        let of_side = |side: u8| {
+            let numbers = (0..boxes.len() as u16).zip(boxes);
+            numbers.filter(move |(_, byte)| **byte % 2 == side)
+        };
+        for (user, _) in of_side(0) {
+            for (file, _) in of_side(1) {
+                let atomic = self.users.contains(&user) && self.files.contains(&file);
+                let eleven = Some((11, [user as u64, file as u64, 0]));
+                let refused = if atomic { None } else { eleven };
+                one_scratch(&self.scratch_case((user, file), refused), 9, report);
+            }
+        }
+    }
+
+    /// The atomic boxes in places that just suffice, in more, and in fewer.
+    fn atoms(&self, report: &mut Report) {
+        let (users, files) = (self.users, self.files);
+        let result = Ok([users.len(), files.len()]);
+        let (more_users, more_files) = ([users, &[9]].concat(), [files, &[9]].concat());
+        let mut ends = vec![(result, users, files), (result, &more_users, &more_files)];
+        let (fewer_users, fewer_files) = (vec![9; users.len()], vec![9; files.len()]);
+        if let [_, fewer @ ..] = &fewer_users[..] {
+            ends.push((Err((9, [11, users.len() as u64, 0])), fewer, &[]));
+        }
+        if let [_, fewer @ ..] = &fewer_files[..] {
+            let short = Err((9, [12, files.len() as u64, 0]));
+            ends.push((short, &fewer_users, fewer));
+        }
+        for (result, users, files) in ends {
+            let case = AtomsCase {
+                name: self.case.name,
+                boxes: self.case.boxes,
+                rows: self.case.rows,
+                result,
+                users,
+                files,
+            };
+            one_atoms(&case, report);
+        }
+    }
+
+    /// Refusal 9 for the places of pairs and of the mode's arrows, one place short each.
+    fn short_buffers(&self, report: &mut Report) {
+        let (picture, pairs) = (self.case.lend(), self.users.len() * self.files.len());
+        let arrows = self.case.arrows.chunks(4).filter(|row| row[2] == 0).count();
+        let needed = self.case.boxes.len() * self.case.boxes.len();
+        let short = |buffer: u64, needed: usize| Some((9, [buffer, needed as u64, 0]));
+        let mut matrix = |bytes: usize, arrows: usize, want: Option<Refused>| {
+            let mut lent = (vec![9; needed], vec![9; bytes], vec![9; arrows]);
+            let before = lent.clone();
+            let got = picture.matrix(0, &mut lent.0, &mut lent.1, &mut lent.2);
+            report.same(self.case.name, (numbers(&got), lent), (want, before));
+        };
+        if pairs > 0 {
+            matrix(pairs - 1, pairs, short(1, pairs));
+            matrix(pairs, pairs - 1, short(2, pairs));
+        }
+        let mut list = |list: usize, work: usize, want: Option<Refused>| {
+            let mut lent = (vec![9; needed], vec![9; list], vec![9; work]);
+            let before = lent.clone();
+            let got = picture.list(0, &mut lent.0, &mut lent.1, &mut lent.2);
+            report.same(self.case.name, (numbers(&got), lent), (want, before));
+        };
+        if arrows > 0 {
+            list(arrows - 1, pairs, short(3, arrows));
+        }
+        if pairs > 0 {
+            list(arrows, pairs - 1, short(4, pairs));
+        }
+    }
+
+    /// The picture as a file: what is read and what the listing says.
+    fn file(&self, report: &mut Report) {
+        let tables = Tables {
+            boxes: self.case.boxes.to_vec(),
+            rows: self.case.rows.to_vec(),
+            arrows: self.case.arrows.to_vec(),
+        };
+        let file = generator::pack(&mut Random::new(0), &tables, false);
+        let mut read = Tables {
+            boxes: vec![9; tables.boxes.len()],
+            rows: vec![9; tables.rows.len()],
+            arrows: vec![9; tables.arrows.len()],
+        };
+        let got = lent::read(&file, &mut read.boxes, &mut read.rows, &mut read.arrows);
+        report.same(self.case.name, numbers(&got), None);
+        report.same(self.case.name, &read, &tables);
+        let what = format!("{}: listing", self.case.name);
+        report.same(&what, &checker::listing(&file)[..], self.listing);
+    }
+}
+
+fn one_group(group: &GroupCase, report: &mut Report) {
+    one_case(&group.case, report);
+    group.entries(report);
+    group.atoms(report);
+    group.short_buffers(report);
+    group.file(report);
+}
+
 /// Document 01 says of case B: "One list that qualifies is 0, 1; another is 0. The list 1, 0
 /// doesn't."
 fn lists_of_b(report: &mut Report) {
@@ -971,22 +1463,138 @@ fn long_chain(report: &mut Report) {
     report.same("chain of 256 boxes: scratch", model.scratch == want, true);
 }
 
+fn lend(t: &Tables) -> lent::Tables<'_> {
+    lent::Tables {
+        boxes: &t.boxes,
+        containments: &t.rows,
+        arrows: &t.arrows,
+    }
+}
+
+/// That every call on these tables is refused so, if at all, by checks 1 to 7; without a refusal
+/// all of them pass these checks.
+fn table_checks(what: &str, t: &Tables, want: Option<Refused>, report: &mut Report) {
+    let picture = lend(t);
+    // A mode that isn't there comes next for three of the calls, a short scratch for judge.
+    let n = t.boxes.len();
+    let short = (n > 0).then_some((9, [0, (n * n) as u64, 0]));
+    report.same(what, numbers(&picture.judge(&mut [])), want.or(short));
+    let asked = want.or(Some((8, [8, 0, 0])));
+    let got = picture.entry(9, 9, 8, &mut []);
+    report.same(what, numbers(&got), asked);
+    let got = picture.matrix(8, &mut [], &mut [], &mut []);
+    report.same(what, numbers(&got), asked);
+    let got = picture.list(8, &mut [], &mut [], &mut []);
+    report.same(what, numbers(&got), asked);
+    let known = Known::new(t);
+    report.same(what, model_numbers(&known.sound()), want);
+}
+
+/// Each box byte, each row and each arrow between boxes of two bytes.
+fn bytes_and_sides(report: &mut Report) {
+    for byte in 0..=255 {
+        let t = Tables {
+            boxes: vec![byte],
+            ..Tables::default()
+        };
+        let want = (byte > 3).then_some((3, [0, 0, 0]));
+        table_checks(&format!("a box of byte {byte}"), &t, want, report);
+    }
+    // Rows within a side pass: 0 and 2 are users, 1 and 3 files.
+    const ROWS: [(u8, u8); 8] = [
+        (0, 0),
+        (0, 2),
+        (2, 0),
+        (2, 2),
+        (1, 1),
+        (1, 3),
+        (3, 1),
+        (3, 3),
+    ];
+    const ARROWS: [(u8, u8); 4] = [(0, 1), (0, 3), (2, 1), (2, 3)];
+    for (a, b) in (0..16).map(|k| (k / 4, k % 4)) {
+        let mut t = Tables {
+            boxes: vec![a, b],
+            rows: vec![0, 1],
+            arrows: vec![],
+        };
+        let what = format!("a row from byte {a} to byte {b}");
+        let want = (!ROWS.contains(&(a, b))).then_some((5, [0, 0, 0]));
+        table_checks(&what, &t, want, report);
+        let atoms = lend(&t).atoms(&mut [9; 2], &mut [9; 2]);
+        report.same(&what, numbers(&atoms), want);
+        (t.rows, t.arrows) = (vec![], vec![0, 1, 7, 1]);
+        let what = format!("an arrow from byte {a} to byte {b}");
+        let want = (!ARROWS.contains(&(a, b))).then_some((6, [0, 0, 0]));
+        table_checks(&what, &t, want, report);
+    }
+}
+
+/// Places for pairs are counted, without the empty group, before 10 is found.
+fn pairs_before_loops(report: &mut Report) {
+    let picture = lent::Tables {
+        boxes: &[0, 2, 2, 1],
+        containments: &[2, 2],
+        arrows: &[1, 3, 0, 1],
+    };
+    for (bytes, numbers_len, want) in [
+        (0, 1, (9, [1, 1, 0])),
+        (1, 0, (9, [2, 1, 0])),
+        (1, 1, (10, [2, 0, 0])),
+    ] {
+        let (mut scratch, mut bytes) = (vec![9; 16], vec![9; bytes]);
+        let mut arrows = vec![9; numbers_len];
+        let got = picture.matrix(0, &mut scratch, &mut bytes, &mut arrows);
+        report.same("pairs before a loop", numbers(&got), Some(want));
+        let filled = if want.0 == 10 { 2 } else { 9 };
+        report.same("pairs before a loop: scratch", scratch[10], filled);
+    }
+    let got = picture.list(0, &mut [9; 16], &mut [9], &mut []);
+    report.same("pairs before a loop", numbers(&got), Some((9, [4, 1, 0])));
+    let got = picture.list(0, &mut [9; 16], &mut [], &mut [9]);
+    report.same("pairs before a loop", numbers(&got), Some((9, [3, 1, 0])));
+    let got = picture.list(0, &mut [9; 16], &mut [9], &mut [9]);
+    report.same("pairs before a loop", numbers(&got), Some((10, [2, 0, 0])));
+}
+
+/// A file of 256 boxes with every byte there is: reading passes them on, judging refuses box 4.
+fn any_byte(report: &mut Report) {
+    let tables = Tables {
+        boxes: (0..=255).collect(),
+        ..Tables::default()
+    };
+    let file = generator::pack(&mut Random::new(0), &tables, false);
+    let mut boxes = [9; 257];
+    let got = lent::read(&file, &mut boxes, &mut [], &mut []);
+    let counts = Counts {
+        boxes: 256,
+        containments: 0,
+        arrows: 0,
+    };
+    report.same("a file of every byte", got, Ok(counts));
+    let kept = boxes[..256] == tables.boxes && boxes[256] == 9;
+    report.same("a file of every byte: boxes", kept, true);
+    let model = checker::read(&file, &[9; 257], &[], &[]);
+    let kept = model.boxes == boxes;
+    report.same("a file of every byte: model", kept, true);
+    let got = lent::Tables {
+        boxes: &boxes[..256],
+        ..lent::Tables::default()
+    }
+    .judge(&mut []);
+    report.same("every byte", numbers(&got), Some((3, [4, 0, 0])));
+    let listing = checker::listing(&file);
+    report.same("every byte: listing", &listing[..], "refused 3 4 0 0\n");
+}
+
 fn refused(report: &mut Report) {
     for &(what, boxes, rows, arrows, want) in REFUSED {
-        let picture = lent::Tables {
-            boxes,
-            containments: rows,
-            arrows,
-        };
-        // A mode that isn't there and no scratch: both come later.
-        let got = picture.matrix(8, &mut [], &mut [], &mut []);
-        report.same(what, numbers(&got), Some(want));
-        let known = Known::new(&Tables {
+        let t = Tables {
             boxes: boxes.to_vec(),
             rows: rows.to_vec(),
             arrows: arrows.to_vec(),
-        });
-        report.same(what, model_numbers(&known.sound()), Some(want));
+        };
+        table_checks(what, &t, Some(want), report);
     }
     // 8 before 9 before 10 before 11.
     let loop_h = lent::Tables {
@@ -1011,36 +1619,50 @@ fn refused(report: &mut Report) {
     report.same("a group is no user", numbers(&got), Some((11, [1, 2, 0])));
 }
 
-fn atoms(report: &mut Report) {
-    for case in ATOMS {
-        // Arrows are no part of the call, however wrong.
-        let picture = lent::Tables {
-            boxes: case.boxes,
-            containments: case.rows,
-            arrows: &[9, 9, 9],
-        };
-        let (mut users, mut files) = (vec![9; case.users.len()], vec![9; case.files.len()]);
-        let model = checker::atoms(
-            &Tables {
-                boxes: case.boxes.to_vec(),
-                rows: case.rows.to_vec(),
-                arrows: vec![9, 9, 9],
-            },
-            &users,
-            &files,
-        );
-        let got = picture.atoms(&mut users, &mut files);
-        let got = got.map(|counts| [counts.users, counts.files]);
-        let result = got.map_err(|refusal| refusal.numbers());
-        let want = (case.result, case.users, case.files);
-        report.same(case.name, (result, &users[..], &files[..]), want);
-        let result = model.result.map_err(|r| (r.number, r.places));
-        report.same(
-            case.name,
-            (result, &model.users[..], &model.files[..]),
-            want,
-        );
+/// An entry that asks for an empty group or folder, or for both, and one beside them.
+fn asked_empty(report: &mut Report) {
+    let empty = lent::Tables {
+        boxes: &[0, 2, 1, 3],
+        containments: &[],
+        arrows: &[],
+    };
+    for (user, file) in [(1, 2), (0, 3), (1, 3)] {
+        let got = empty.entry(user, file, 7, &mut [9; 16]);
+        let want = Some((11, [user as u64, file as u64, 0]));
+        report.same("an empty group or folder", numbers(&got), want);
     }
+    let got = empty.entry(0, 2, 7, &mut [9; 16]);
+    report.same("beside both", got, Ok(rights::Answer::DeniedByDefault));
+}
+
+fn one_atoms(case: &AtomsCase, report: &mut Report) {
+    // Arrows are no part of the call, however wrong.
+    let picture = lent::Tables {
+        boxes: case.boxes,
+        containments: case.rows,
+        arrows: &[9, 9, 9],
+    };
+    let (mut users, mut files) = (vec![9; case.users.len()], vec![9; case.files.len()]);
+    let model = checker::atoms(
+        &Tables {
+            boxes: case.boxes.to_vec(),
+            rows: case.rows.to_vec(),
+            arrows: vec![9, 9, 9],
+        },
+        &users,
+        &files,
+    );
+    let got = picture.atoms(&mut users, &mut files);
+    let got = got.map(|counts| [counts.users, counts.files]);
+    let result = got.map_err(|refusal| refusal.numbers());
+    let want = (case.result, case.users, case.files);
+    report.same(case.name, (result, &users[..], &files[..]), want);
+    let result = model.result.map_err(|r| (r.number, r.places));
+    report.same(
+        case.name,
+        (result, &model.users[..], &model.files[..]),
+        want,
+    );
 }
 
 fn limits_of_atoms(report: &mut Report) {
@@ -1119,13 +1741,22 @@ pub fn run() -> Report {
         one_scratch(case, 2, &mut report);
         one_scratch(case, 9, &mut report);
     }
+    for group in GROUPS {
+        one_group(group, &mut report);
+    }
     lists_of_b(&mut report);
+    bytes_and_sides(&mut report);
+    pairs_before_loops(&mut report);
+    any_byte(&mut report);
     limits(&mut report);
     long_chain(&mut report);
     refused(&mut report);
-    atoms(&mut report);
+    asked_empty(&mut report);
+    for case in ATOMS {
+        one_atoms(case, &mut report);
+    }
     limits_of_atoms(&mut report);
     files(&mut report);
-    report.same("version", rights::version(), (2, 0, 0));
+    report.same("version", rights::version(), (3, 0, 0));
     report
 }

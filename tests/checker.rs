@@ -1,5 +1,6 @@
-//! The independent model: document 01 with requests P2 (what is drawn directly) and P3 (the order
-//! of lists) of document 02 in plain Rust, written from their text alone.
+//! The independent model: document 01 with requests P2 (what is drawn directly), P3 (the order of
+//! lists) and P6 (groups that have emptied) of document 02 in plain Rust, written from their text
+//! alone.
 //!
 //! Each call is a pure function from what was lent (the tables and the contents of every buffer
 //! before the call) to the answer and the contents of every buffer after it.
@@ -55,6 +56,52 @@ pub struct Arrow {
 }
 
 // ---------------------------------------------------------------------------------------------
+// What boxes are
+
+/// The two sides of a picture.
+#[derive(Clone, Copy, Debug, PartialEq, Eq)]
+enum Side {
+    User,
+    File,
+}
+
+/// The side that a box's byte puts it on. Document 01: "0 user side, 1 file side"; document 02: "2
+/// counts as user and 3 as file". A byte above 3 has no side, and is refused.
+fn side(byte: u8) -> Option<Side> {
+    match byte {
+        0 | 2 => Some(Side::User),
+        1 | 3 => Some(Side::File),
+        _ => None,
+    }
+}
+
+/// Whether a box is a user group or a folder by its byte.
+fn is_group(byte: u8) -> bool {
+    byte == 2 || byte == 3
+}
+
+impl Tables {
+    /// The side of the box with this number; none if there is no such box.
+    fn side_of(&self, number: u16) -> Option<Side> {
+        side(*self.boxes.get(number as usize)?)
+    }
+
+    /// Document 01: "A box that is the outer one of no row is atomic". Document 02 of user groups and
+    /// folders: "such a box is never atomic, contained rows or not". What the boxes inside are
+    /// doesn't matter: a box of byte 0 that holds only empty groups is not atomic.
+    fn is_atomic(&self, number: u16) -> bool {
+        !is_group(self.boxes[number as usize]) && self.rows.chunks(2).all(|row| row[0] != number)
+    }
+
+    /// The atomic boxes of a side, by rising number.
+    fn atomic_boxes(&self, side: Side) -> Vec<u16> {
+        (0..self.boxes.len() as u16)
+            .filter(|&number| self.side_of(number) == Some(side) && self.is_atomic(number))
+            .collect()
+    }
+}
+
+// ---------------------------------------------------------------------------------------------
 // Checks 1 to 7
 
 fn ragged(t: &Tables) -> Result<(), Refusal> {
@@ -96,16 +143,15 @@ fn table_checks(t: &Tables) -> Result<(), Refusal> {
     let n = t.boxes.len();
     ragged(t)?;
     too_many([n, t.rows.len() / 2, t.arrows.len() / 4])?;
-    first_bad(3, t.boxes.iter(), |&byte| byte > 1)?;
+    first_bad(3, t.boxes.iter(), |&byte| byte > 3)?;
     first_bad(4, t.rows.chunks(2), |row| {
         row[0] as usize >= n || row[1] as usize >= n
     })?;
     first_bad(5, t.rows.chunks(2), |row| {
-        t.boxes[row[0] as usize] != t.boxes[row[1] as usize]
+        t.side_of(row[0]) != t.side_of(row[1])
     })?;
-    let is = |number: u16, side: u8| t.boxes.get(number as usize) == Some(&side);
     first_bad(6, t.arrows.chunks(4), |row| {
-        !is(row[0], 0) || !is(row[1], 1)
+        t.side_of(row[0]) != Some(Side::User) || t.side_of(row[1]) != Some(Side::File)
     })?;
     first_bad(7, t.arrows.chunks(4), |row| row[2] > 7 || row[3] > 1)
 }
@@ -151,10 +197,9 @@ impl Picture {
         for row in t.rows.chunks(2) {
             inner[row[0] as usize].push(row[1] as usize);
         }
-        let atoms = |side: u8| -> Vec<usize> {
-            (0..n)
-                .filter(|&b| t.boxes[b] == side && inner[b].is_empty())
-                .collect()
+        let atoms = |side: Side| -> Vec<usize> {
+            let numbers = t.atomic_boxes(side).into_iter();
+            numbers.map(usize::from).collect()
         };
         let contains: Vec<Vec<bool>> = (0..n).map(|a| found_from(a, &inner)).collect();
         let mut picture = Picture {
@@ -169,8 +214,8 @@ impl Picture {
                     positive: row[3] == 1,
                 })
                 .collect(),
-            users: atoms(0),
-            files: atoms(1),
+            users: atoms(Side::User),
+            files: atoms(Side::File),
             on_loop: (0..n).find(|&b| contains[b][b]),
             contains,
             inner,
@@ -684,23 +729,14 @@ fn list_into(known: &Known, mode: u16, end: &mut ListEnd) -> Result<usize, Refus
 // ---------------------------------------------------------------------------------------------
 // Atomic boxes
 
-/// The atomic users and the atomic files of a picture, arrows left aside, by rising number: the
-/// boxes of each side that are the outer one of no row. Checks 1 to 5, as far as they are about
-/// boxes and containments.
+/// The atomic users and the atomic files of a picture, arrows left aside, by rising number. Checks
+/// 1 to 5, as far as they are about boxes and containments.
 pub fn atoms_of(t: &Tables) -> Result<[Vec<u16>; 2], Refusal> {
     table_checks(&Tables {
         arrows: Vec::new(),
         ..t.clone()
     })?;
-    let outer: Vec<u16> = t.rows.chunks(2).map(|row| row[0]).collect();
-    let of_side = |side: u8| -> Vec<u16> {
-        let boxes = (0u16..).zip(&t.boxes);
-        boxes
-            .filter(|(number, byte)| **byte == side && !outer.contains(number))
-            .map(|(number, _)| number)
-            .collect()
-    };
-    Ok([of_side(0), of_side(1)])
+    Ok([Side::User, Side::File].map(|side| t.atomic_boxes(side)))
 }
 
 pub struct AtomsEnd {

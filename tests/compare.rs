@@ -12,6 +12,7 @@
 mod cases;
 mod checker;
 mod generator;
+mod groups;
 mod owned;
 #[cfg(model)]
 mod standin;
@@ -25,7 +26,8 @@ use std::panic::{catch_unwind, AssertUnwindSafe};
 use std::process::{Command, ExitCode, Stdio};
 use std::time::Instant;
 
-/// From so many pictures on, every refusal number and all of `SHOWN` must have come up.
+/// From so many pictures on, every refusal number, all of `SHOWN` and all of `groups::SHOWN` must
+/// have come up.
 const FULL_RUN: u64 = 10_000;
 
 /// What a picture and its filled scratch can show.
@@ -50,6 +52,9 @@ struct Tally {
     /// Pictures whose scratch judge filled, and of these the ones that show each of `SHOWN`.
     filled: u64,
     shown: [u64; 5],
+    /// Pictures that pass checks 1 to 7, and of these the ones that show each of `groups::SHOWN`.
+    sound: u64,
+    groups: [u64; 10],
     lists: u64,
     /// Refusals 13 that name another pair than the mode's first granted one.
     later_no_order: u64,
@@ -68,10 +73,12 @@ impl Tally {
 
     fn never_seen(&self) -> Vec<String> {
         let refusals = (1..=17).filter(|&k| self.refusals[k] == 0);
-        let shown = (0..SHOWN.len()).filter(|&k| self.shown[k] == 0);
+        let shown = SHOWN.iter().zip(self.shown);
+        let all_shown = shown.chain(groups::SHOWN.iter().zip(self.groups));
+        let not_shown = all_shown.filter(|(_, count)| *count == 0);
         refusals
             .map(|k| format!("refusal {k}"))
-            .chain(shown.map(|k| SHOWN[k].to_string()))
+            .chain(not_shown.map(|(what, _)| what.to_string()))
             .collect()
     }
 
@@ -82,13 +89,15 @@ impl Tally {
             "calls {}; entries granted {}, denied {}, by default {}, unclear {}; judged clear {}",
             self.calls, self.granted, self.denied, self.default, self.unclear, self.clear_pictures
         );
-        let shown = SHOWN.iter().zip(self.shown);
-        let shown: Vec<String> = shown.map(|(what, n)| format!("{what} {n}")).collect();
-        println!(
-            "scratches filled by judge {}: {}",
-            self.filled,
-            shown.join(", ")
-        );
+        let counted = |names: &[&str], counts: &[u64]| {
+            let each = names.iter().zip(counts);
+            let each: Vec<String> = each.map(|(what, n)| format!("{what} {n}")).collect();
+            each.join(", ")
+        };
+        let shown = counted(&SHOWN, &self.shown);
+        println!("scratches filled by judge {}: {shown}", self.filled);
+        let shown = counted(&groups::SHOWN, &self.groups);
+        println!("pictures that pass 1 to 7 {}: {shown}", self.sound);
         println!(
             "lists written {} with {} arrows, each asked for twice; no order {} (not at the \
              first granted pair {}); every list tried {} times",
@@ -452,7 +461,13 @@ impl Trial<'_> {
         let want = checker::atoms(self.tables, users.before(), files.before());
         self.same("atoms", got.map(|c| [c.users, c.files]), want.result)?;
         users.ends_as("atoms: users", &want.users)?;
-        files.ends_as("atoms: files", &want.files)
+        files.ends_as("atoms: files", &want.files)?;
+        if let Ok([u, f]) = want.result {
+            let (users, files) = (&users.after()[..u], &files.after()[..f]);
+            groups::atoms_named(self.tables, users, files)
+                .map_err(|why| format!("atoms: {why}"))?;
+        }
+        Ok(())
     }
 
     fn read(&mut self, file: &[u8]) -> Result<(), String> {
@@ -473,6 +488,19 @@ impl Trial<'_> {
         boxes.ends_as("read: boxes", &want.boxes)?;
         rows.ends_as("read: containments", &want.rows)?;
         arrows.ends_as("read: arrows", &want.arrows)
+    }
+
+    /// What holds of groups by itself, and which of `groups::SHOWN` came up.
+    fn groups(&mut self, mode: u16) -> Result<(), String> {
+        let Known::Sound(p) = self.known else {
+            return Ok(());
+        };
+        self.tally.sound += 1;
+        let shown = groups::shown(self.tables);
+        for (count, shown) in self.tally.groups.iter_mut().zip(shown) {
+            *count += shown as u64;
+        }
+        groups::compare(&mut self.r, self.tables, p, mode)
     }
 
     /// Every call, the mode calls for each mode that comes up and one more.
@@ -515,6 +543,11 @@ impl Trial<'_> {
             let mode = generator::asked_mode(&mut self.r, self.tables);
             self.entry(user, file, mode)?;
         }
+        let beside = generator::asked_beside(&mut self.r, self.tables, &users, &files);
+        if let Some((user, file)) = beside {
+            self.entry(user, file, modes[0])?;
+        }
+        self.groups(modes[0])?;
         let file = generator::file(&mut self.r, self.tables);
         let copy = file.clone();
         self.read(&file)?;

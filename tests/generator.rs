@@ -57,7 +57,8 @@ enum Size {
     Full,
 }
 
-/// A picture in the making: every box has a side, rows and arrows are kept as rows.
+/// A picture in the making: rows and arrows are kept as rows. Boxes have byte 0 or 1 until
+/// `draw_groups` makes user groups (2) and folders (3) of some.
 #[derive(Default)]
 struct Draft {
     boxes: Vec<u8>,
@@ -66,16 +67,26 @@ struct Draft {
 }
 
 impl Draft {
-    fn add_box(&mut self, side: u8) -> u16 {
-        self.boxes.push(side);
+    fn add_box(&mut self, byte: u8) -> u16 {
+        self.boxes.push(byte);
         (self.boxes.len() - 1) as u16
     }
 
+    /// The boxes of a side, 0 for users, 1 for files. User groups and folders are among them.
     fn of_side(&self, side: u8) -> Vec<u16> {
         (0..self.boxes.len())
-            .filter(|&b| self.boxes[b] == side)
+            .filter(|&b| self.boxes[b] % 2 == side)
             .map(|b| b as u16)
             .collect()
+    }
+
+    /// Makes a user group of a box of the user side, a folder of one of the file side.
+    fn make_group(&mut self, b: u16) {
+        self.boxes[b as usize] |= 2;
+    }
+
+    fn holds_something(&self, b: u16) -> bool {
+        self.rows.iter().any(|row| row[0] == b)
     }
 
     fn tables(&self) -> Tables {
@@ -91,8 +102,8 @@ impl Draft {
         let mut new_number: Vec<u16> = (0..self.boxes.len() as u16).collect();
         r.shuffle(&mut new_number);
         let old = self.boxes.clone();
-        for (b, &side) in old.iter().enumerate() {
-            self.boxes[new_number[b] as usize] = side;
+        for (b, &byte) in old.iter().enumerate() {
+            self.boxes[new_number[b] as usize] = byte;
         }
         for row in &mut self.rows {
             *row = row.map(|b| new_number[b as usize]);
@@ -487,20 +498,96 @@ fn repeat_rows(r: &mut Random, d: &mut Draft) {
     }
 }
 
-/// Takes all members of some boxes away: emptied groups become users, emptied folders files.
-fn empty_groups(r: &mut Random, d: &mut Draft) {
+/// Takes all members of some boxes away. With this chance in a hundred such a box is a user group
+/// or folder by its byte; otherwise, if it wasn't one before, it turns into a user or a file.
+fn empty_groups(r: &mut Random, d: &mut Draft, said: usize) {
     for _ in 0..r.from_to(1, 3) {
         if let Some(&[outer, _]) = d.rows.get(r.below(d.rows.len().max(1))) {
             d.rows.retain(|row| row[0] != outer);
+            if r.percent(said) {
+                d.make_group(outer);
+            }
         }
     }
 }
 
-/// Fills the tables up to their limits: more single boxes, and the first containment and arrow
-/// over and over before the others, so that the last rows of full tables count.
+/// Draws user groups and folders into a picture of bytes 0 and 1: boxes that hold something are
+/// said to be groups, groups lose their members, single boxes become empty groups.
+fn draw_groups(r: &mut Random, d: &mut Draft) {
+    let (members, single) = (r.pick(&[0, 50, 100, 100]), r.pick(&[0, 0, 0, 10, 30, 60]));
+    for b in 0..d.boxes.len() as u16 {
+        let chance = if d.holds_something(b) {
+            members
+        } else {
+            single
+        };
+        if r.percent(chance) {
+            d.make_group(b);
+        }
+    }
+    if r.percent(35) {
+        empty_groups(r, d, 85);
+    }
+    if r.percent(30) {
+        hollow(r, d);
+    }
+    if r.percent(5) {
+        // A side, or all, without anything atomic.
+        let sides = r.pick(&[&[0][..], &[1], &[0, 1]]);
+        for b in 0..d.boxes.len() as u16 {
+            if sides.contains(&(d.boxes[b as usize] % 2)) {
+                d.make_group(b);
+            }
+        }
+    }
+    if r.percent(30) {
+        d.mix(r);
+    }
+}
+
+/// Adds groups, or folders, that hold only each other, so that all are empty: in a box of byte 0 or
+/// 1 or not, inside one that stood there before or not, and with arrows at them or not.
+fn hollow(r: &mut Random, d: &mut Draft) {
+    if d.boxes.len() > 250 || d.rows.len() > 1000 || d.arrows.len() > 500 {
+        return;
+    }
+    let side = r.below(2) as u8;
+    let (before, far) = (d.of_side(side), d.of_side(1 - side));
+    let mut nest = vec![d.add_box(side + r.pick(&[0, 2, 2]))];
+    for _ in 0..r.from_to(1, 4) {
+        let inner = d.add_box(side + 2);
+        d.rows.push([r.pick(&nest), inner]);
+        nest.push(inner);
+    }
+    if !before.is_empty() && r.percent(40) {
+        d.rows.push([r.pick(&before), nest[0]]);
+    }
+    if far.is_empty() {
+        return;
+    }
+    let mode = d.arrows.first().map_or(0, |arrow| arrow[2]);
+    for _ in 0..r.below(4) {
+        let mut ends = [r.pick(&nest), r.pick(&far)];
+        if side == 1 {
+            ends.reverse();
+        }
+        let at = r.below(d.arrows.len() + 1);
+        let arrow = [ends[0], ends[1], mode, r.below(2) as u16];
+        d.arrows.insert(at, arrow);
+    }
+}
+
+/// Fills the tables up to their limits: more single boxes, some of them empty groups if there are
+/// groups, and the first containment and arrow over and over before the others, so that the last
+/// rows of full tables count.
 fn fill_up(r: &mut Random, d: &mut Draft) {
+    let bytes = if d.boxes.iter().any(|&byte| byte > 1) {
+        &[0, 0, 1, 1, 2, 3][..]
+    } else {
+        &[0, 1]
+    };
     while d.boxes.len() < 256 {
-        d.add_box(r.below(2) as u8);
+        d.add_box(r.pick(bytes));
     }
     if let Some(&first) = d.rows.first() {
         let more = vec![first; 1024 - d.rows.len()];
@@ -521,11 +608,40 @@ fn no_box(r: &mut Random, n: usize) -> u16 {
     }
 }
 
+/// A row from a box of one side to a box of the other, if there is one. Each may be of either byte
+/// of its side.
+fn cross_sides(r: &mut Random, t: &mut Tables, row: usize) {
+    let n = t.boxes.len();
+    let outer = r.below(n);
+    let across: Vec<usize> = (0..n)
+        .filter(|&b| t.boxes[b] % 2 != t.boxes[outer] % 2)
+        .collect();
+    let inner = *across.get(r.below(across.len())).unwrap_or(&outer);
+    t.rows[2 * row] = outer as u16;
+    t.rows[2 * row + 1] = inner as u16;
+    for b in [outer, inner] {
+        t.boxes[b] ^= r.pick(&[0, 2]);
+    }
+}
+
+/// Puts a box of the wrong side at one end of an arrow, if there is one, of either byte of its side.
+fn wrong_end(r: &mut Random, t: &mut Tables, arrow: usize) {
+    let end = r.below(2);
+    // Tails are of even bytes, heads of odd ones.
+    let wrong: Vec<usize> = (0..t.boxes.len())
+        .filter(|&b| t.boxes[b] as usize % 2 != end)
+        .collect();
+    if let Some(&b) = wrong.get(r.below(wrong.len())) {
+        t.arrows[4 * arrow + end] = b as u16;
+        t.boxes[b] ^= r.pick(&[0, 2]);
+    }
+}
+
 /// One fault that checks 1 to 7 must find. Several may meet in one picture.
 fn spoil(r: &mut Random, t: &mut Tables) {
     let n = t.boxes.len();
     let (rows, arrows) = (t.rows.len() / 2, t.arrows.len() / 4);
-    match r.below(10) {
+    match r.below(11) {
         0 if r.percent(50) => t.rows.push(r.below(n + 1) as u16),
         0 => {
             for _ in 0..r.from_to(1, 3) {
@@ -533,31 +649,28 @@ fn spoil(r: &mut Random, t: &mut Tables) {
             }
         }
         1 => match r.below(3) {
-            0 => t.boxes.resize(r.pick(&[257, 258, 300]), r.below(2) as u8),
+            0 => t.boxes.resize(r.pick(&[257, 258, 300]), r.below(4) as u8),
             1 => t.rows.resize(2 * r.pick(&[1025, 1030]), 0),
             _ => t.arrows.resize(4 * r.pick(&[513, 514, 600]), 0),
         },
         2 | 3 if n > 0 => {
             let b = r.below(n);
-            t.boxes[b] = r.pick(&[2, 3, 255]);
+            t.boxes[b] = r.pick(&[4, 4, 5, 6, 7, 255]);
         }
         4 | 5 if rows > 0 => {
             let at = r.below(2 * rows);
             t.rows[at] = no_box(r, n);
         }
-        6 if rows > 0 => {
-            // Boxes of both sides, if there are any.
-            let row = 2 * r.below(rows);
-            let outer = r.below(n);
-            let across = (0..n).find(|&b| t.boxes[b] != t.boxes[outer]);
-            t.rows[row] = outer as u16;
-            t.rows[row + 1] = across.unwrap_or(outer) as u16;
+        6 if rows > 0 && n > 0 => {
+            let row = r.below(rows);
+            cross_sides(r, t, row);
         }
-        7 if arrows > 0 => {
-            let arrow = 4 * r.below(arrows);
-            match r.below(3) {
-                0 => t.arrows.swap(arrow, arrow + 1),
-                _ => t.arrows[arrow + r.below(2)] = no_box(r, n),
+        7 | 10 if arrows > 0 => {
+            let arrow = r.below(arrows);
+            match r.below(5) {
+                0 => t.arrows.swap(4 * arrow, 4 * arrow + 1),
+                1..=3 => wrong_end(r, t, arrow),
+                _ => t.arrows[4 * arrow + r.below(2)] = no_box(r, n),
             }
         }
         8 if arrows > 0 => t.arrows[4 * r.below(arrows) + 2] = r.pick(&[8, 9, 255, 65_535]),
@@ -597,7 +710,10 @@ pub fn picture(r: &mut Random) -> (Tables, &'static str) {
         repeat_rows(r, &mut d);
     }
     if r.percent(10) {
-        empty_groups(r, &mut d);
+        empty_groups(r, &mut d, 0);
+    }
+    if r.percent(50) {
+        draw_groups(r, &mut d);
     }
     if matches!(size, Size::Full) && r.percent(50) {
         fill_up(r, &mut d);
@@ -746,10 +862,17 @@ fn damage(r: &mut Random, file: &mut Vec<u8>) {
     }
 }
 
-/// A file made from a picture's tables, regular or loose, whole or damaged.
+/// A file made from a picture's tables, regular or loose, whole or damaged. In some the boxes hold
+/// any byte: reading doesn't check what the rows say.
 pub fn file(r: &mut Random, t: &Tables) -> Vec<u8> {
+    let mut t = t.clone();
+    if r.percent(15) {
+        for byte in &mut t.boxes {
+            *byte = if r.percent(30) { r.next() as u8 } else { *byte };
+        }
+    }
     let loose = r.percent(40);
-    let mut file = pack(r, t, loose);
+    let mut file = pack(r, &t, loose);
     if r.percent(55) {
         for _ in 0..r.pick(&[1, 1, 1, 2, 3]) {
             damage(r, &mut file);
@@ -778,6 +901,29 @@ pub fn asked_box(r: &mut Random, n: usize) -> u16 {
         1 => r.pick(&[256, 65_535]),
         _ => r.below(n) as u16,
     }
+}
+
+/// A user and a file to ask for, one of them atomic, the other any box of its side: groups and
+/// folders are refused by 11. None if there is nothing atomic to ask for.
+pub fn asked_beside(
+    r: &mut Random,
+    t: &Tables,
+    users: &[usize],
+    files: &[usize],
+) -> Option<(u16, u16)> {
+    let side = r.below(2);
+    let any: Vec<usize> = (0..t.boxes.len())
+        .filter(|&b| t.boxes[b] as usize % 2 == side)
+        .collect();
+    let (users, files) = if side == 0 {
+        (&any[..], files)
+    } else {
+        (users, &any[..])
+    };
+    if users.is_empty() || files.is_empty() {
+        return None;
+    }
+    Some((r.pick(users) as u16, r.pick(files) as u16))
 }
 
 /// How long buffers of these needed lengths are lent: mostly exact or longer, else some too short.

@@ -3,7 +3,7 @@
 
 use super::checker::{self, Known, Tables};
 use super::{compare_answer, compare_refusal};
-use rights::{lent, Cell, Mode, Picture};
+use rights::{lent, Cell, Mode, Picture, Side};
 use std::fmt::Debug;
 
 fn same<T: PartialEq + Debug>(call: &str, got: T, want: T) -> Result<(), String> {
@@ -23,11 +23,31 @@ fn lend(t: &Tables) -> lent::Tables<'_> {
     }
 }
 
+/// That a picture holds the rows of the tables it was made of, box bytes included, and that each box
+/// is on its side.
+fn rows_kept(picture: &Picture, t: &Tables) -> Result<(), String> {
+    let bytes: Vec<u8> = picture.boxes.iter().map(|&kind| kind as u8).collect();
+    same("boxes", &bytes, &t.boxes)?;
+    let sides: Vec<Side> = picture.boxes.iter().map(|kind| kind.side()).collect();
+    let of_byte = [Side::User, Side::File, Side::User, Side::File];
+    let want = t.boxes.iter().map(|&byte| of_byte[byte as usize]);
+    same("sides", sides, want.collect())?;
+    let pairs = picture.containments.iter();
+    let rows: Vec<u16> = pairs.flat_map(|&(outer, inner)| [outer, inner]).collect();
+    same("containments", &rows, &t.rows)?;
+    let row = |a: &rights::Arrow| [a.tail, a.head, a.mode.number(), a.sign as u16];
+    let arrows: Vec<u16> = picture.arrows.iter().flat_map(row).collect();
+    same("arrows", &arrows, &t.arrows)
+}
+
 /// The calls on the picture of these tables, those of a mode for one mode.
 pub fn compare(tables: &Tables, known: &Known, asked: u16) -> Result<(), String> {
     let picture = Picture::try_from(lend(tables)).map_err(compare_refusal);
     let want = known.sound().map(|_| ());
     same("tables", picture.as_ref().map(|_| ()).map_err(|r| *r), want)?;
+    if let Ok(picture) = &picture {
+        rows_kept(picture, tables)?;
+    }
     let mode = Mode::new(asked).map_err(compare_refusal);
     let (Ok(picture), Ok(model), Ok(mode)) = (picture, known.sound(), mode) else {
         return Ok(());
@@ -40,8 +60,10 @@ pub fn compare(tables: &Tables, known: &Known, asked: u16) -> Result<(), String>
     same("atoms", atoms.map(|atoms| [atoms.users, atoms.files]), want)?;
     matrix(&picture, known, model, mode)?;
     list(&picture, known, model, mode)?;
-    if let (Some(&user), Some(&file)) = (model.users.last(), model.files.first()) {
-        let (user, file) = (user as u16, file as u16);
+    let group = tables.boxes.iter().position(|&byte| byte == 2);
+    let file = model.files.first().map_or(0, |&file| file as u16);
+    for user in model.users.last().copied().into_iter().chain(group) {
+        let user = user as u16;
         let got = picture.entry(user, file, mode).map(compare_answer);
         let want = checker::entry(known, user, file, asked, &scratch).result;
         same("entry", got.map_err(compare_refusal), want)?;

@@ -135,10 +135,10 @@ static void measure(void) {
 
 /* The pictures. */
 
-static uint16_t add(uint8_t side, int count) {
+static uint16_t add(int byte, int count) {
     uint16_t first = (uint16_t)boxes_len;
     for (int k = 0; k < count; k++) {
-        boxes[boxes_len++] = side;
+        boxes[boxes_len++] = (uint8_t)byte;
     }
     return first;
 }
@@ -169,12 +169,12 @@ static void single(void) {
     }
 }
 
-/* 64 users in 64 nested groups, 64 files in 64 nested folders; each arrow reaches every pair, and
-   the deeper half, which is positive, overrides the other. */
+/* 64 users in 64 nested groups, 64 files in 64 nested folders, groups and folders by their bytes;
+   each arrow reaches every pair, and the deeper half, which is positive, overrides the other. */
 static void nested(void) {
     empty();
     for (int side = 0; side < 2; side++) {
-        int atom = add((uint8_t)side, 64), group = add((uint8_t)side, 64);
+        int atom = add(side, 64), group = add(side ? RIGHTS_FOLDER : RIGHTS_GROUP, 64);
         for (int k = 0; k < 63; k++) {
             put(group + k, group + k + 1);
         }
@@ -197,8 +197,8 @@ static void staircase(void) {
     empty();
     int begin[2];
     for (int side = 0; side < 2; side++) {
-        int atom = add((uint8_t)side, 106);
-        begin[side] = add((uint8_t)side, 22);
+        int atom = add(side, 106);
+        begin[side] = add(side, 22);
         for (int k = 0; k < 21; k++) {
             put(begin[side] + k, begin[side] + k + 1);
         }

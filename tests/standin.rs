@@ -150,7 +150,53 @@ ways! {
     ReadCountLow: "the high byte of a count is not read",
     ReadLastBlock: "the 64th block is refused as a 65th would be",
     ReadTooLong: "a file of 65 blocks is read",
-    ReadChecksBoxes: "the reader refuses box bytes above 1",
+    ReadChecksBoxes: "the reader refuses box bytes above 3",
+    ReadChecksGroups: "the reader refuses box bytes above 1",
+    ReadMasks: "the reader keeps the low two bits of a box byte",
+    ReadSides: "the reader writes 0 for user groups and 1 for folders",
+    ReadCountsPlain: "the reader's count of boxes leaves out user groups and folders",
+    GroupsRefused: "bytes 2 and 3 are refused by 3",
+    FoldersRefused: "byte 3 is refused by 3",
+    FourPasses: "byte 4 is taken for the user side",
+    HighBytesPass: "bytes above 3 count by their low two bits",
+    GroupIsFileSide: "a user group is on the file side",
+    FolderIsUserSide: "a folder is on the user side",
+    FiveByByte: "5 compares bytes, not sides",
+    FiveGroupInside: "5 refuses a user group in a box of byte 0, a folder in one of byte 1",
+    FiveGroupOuter: "5 passes every row whose outer box is a user group or folder",
+    FiveGroupInner: "5 passes every row whose inner box is a user group or folder",
+    SixTailByByte: "6 takes byte 0 only for a tail",
+    SixHeadByByte: "6 takes byte 1 only for a head",
+    SixTailFolder: "6 passes a folder as a tail",
+    SixHeadGroup: "6 passes a user group as a head",
+    SixAtEmpty: "6 refuses an arrow at an empty group or folder",
+    EmptyGroupIsUser: "an empty user group is a user",
+    EmptyFolderIsFile: "an empty folder is a file",
+    EmptyInsideIsAtom: "an empty group or folder inside another box is atomic",
+    EmptyArrowIsAtom: "an empty group or folder with an arrow is atomic",
+    MembersAreAtoms: "a group or folder that holds something is atomic",
+    AroundEmptyIsAtom: "a box of byte 0 or 1 that holds only empty groups or folders is atomic",
+    AroundGroupsIsAtom: "a box of byte 0 or 1 that holds only groups or folders is atomic",
+    EmptyInJudge: "judge takes empty groups and folders for atomic",
+    EmptyInMatrix: "the matrix takes empty groups and folders for atomic",
+    EmptyInList: "the list takes empty groups and folders for atomic",
+    EmptyNamed: "empty groups and folders are named among the atomic boxes",
+    EntryEmptyGroup: "an entry takes an empty group for a user",
+    EntryEmptyFolder: "an entry takes an empty folder for a file",
+    NineEmptyBytes: "buffer 1 needs places for empty groups and folders too",
+    NineEmptyNumbers: "buffer 2 needs places for empty groups and folders too",
+    NineEmptyWork: "buffer 4 needs places for empty groups and folders too",
+    NineEmptyUsers: "buffer 11 needs places for empty groups too",
+    NineEmptyFiles: "buffer 12 needs places for empty folders too",
+    NineListWithoutEmpty: "the list needs no place for arrows at empty groups and folders",
+    TenBeforeNine: "10 before 9 for the matrix",
+    LoopedGroups: "10 passes a user group or folder that contains itself",
+    GroupsReachNothing: "arrows at user groups and folders reach nothing, members or not",
+    EmptyUnnumbered: "arrows at empty groups and folders are left out of the numbers",
+    GroupsOverrideNothing: "an arrow from a user group overrides none with another tail",
+    JoinNotThroughGroups: "containment is not followed through user groups and folders",
+    DrawnNotEmpty: "scratch holds 0 for what holds an empty group or folder",
+    DrawnNotGroups: "rows of user groups and folders are not marked as drawn",
 }
 
 static WRONG: AtomicUsize = AtomicUsize::new(0);
@@ -193,6 +239,52 @@ impl Tables<'_> {
 
     fn row(&self, k: usize) -> (usize, usize) {
         (self.rows[2 * k] as usize, self.rows[2 * k + 1] as usize)
+    }
+
+    /// 0 for the user side, 1 for the file side: the lowest bit of the byte.
+    fn side(&self, b: usize) -> u8 {
+        match self.boxes[b] {
+            2 if is(Wrong::GroupIsFileSide) => 1,
+            3 if is(Wrong::FolderIsUserSide) => 0,
+            byte => byte & 1,
+        }
+    }
+
+    /// A user group or a folder: the next bit of the byte.
+    fn group(&self, b: usize) -> bool {
+        self.boxes[b] & 2 > 0
+    }
+
+    /// For each box, whether it is the outer one of a row.
+    fn outer(&self) -> Vec<bool> {
+        let mut outer = vec![false; self.n()];
+        for k in 0..self.rows.len() / 2 {
+            outer[self.row(k).0] = true;
+        }
+        outer
+    }
+
+    /// For each box, whether it is a group or folder with nothing in it.
+    fn empty(&self) -> Vec<bool> {
+        let mut empty = self.outer();
+        for (b, outer) in empty.iter_mut().enumerate() {
+            *outer = self.group(b) && !*outer;
+        }
+        empty
+    }
+
+    /// Whether an arrow is at an empty group or folder.
+    fn at_empty(&self, k: usize) -> bool {
+        let empty = self.empty();
+        empty[self.tail(k)] || empty[self.head(k)]
+    }
+
+    /// The number that is shown for an arrow: its row.
+    fn number(&self, k: usize) -> usize {
+        if is(Wrong::EmptyUnnumbered) {
+            return (0..k).filter(|&m| !self.at_empty(m)).count();
+        }
+        k
     }
 
     fn tail(&self, k: usize) -> usize {
@@ -255,7 +347,7 @@ impl Tables<'_> {
         }
         let n = self.n();
         for b in 0..n {
-            if self.boxes[b] > 1 {
+            if self.boxes[b] > highest_byte() {
                 return Some(refusal(3, b, 0, 0));
             }
         }
@@ -265,7 +357,7 @@ impl Tables<'_> {
             if outer >= n || inner >= n {
                 return Some(refusal(4, k, 0, 0));
             }
-            if across.is_none() && self.boxes[outer] != self.boxes[inner] {
+            if across.is_none() && self.across(outer, inner) {
                 across = Some(refusal(5, k, 0, 0));
                 if is(Wrong::FiveBeforeFour) {
                     return across;
@@ -279,7 +371,7 @@ impl Tables<'_> {
         let highest = if is(Wrong::ModeSevenBad) { 6 } else { 7 };
         for k in 0..self.arrows.len() / 4 {
             let (tail, head) = (self.tail(k), self.head(k));
-            if tail >= n || head >= n || self.boxes[tail] == 1 || self.boxes[head] == 0 {
+            if tail >= n || head >= n || self.wrong_ends(k) {
                 return Some(refusal(6, k, 0, 0));
             }
             let bad = self.arrows[4 * k + 2] > highest || self.arrows[4 * k + 3] > 1;
@@ -293,19 +385,78 @@ impl Tables<'_> {
         unknown
     }
 
-    fn atoms(&self, side: u8) -> Vec<usize> {
+    /// Whether refusal 5 meets a row between these boxes.
+    fn across(&self, outer: usize, inner: usize) -> bool {
+        let groups = (self.group(outer), self.group(inner));
+        if is(Wrong::FiveByByte) {
+            return self.boxes[outer] != self.boxes[inner];
+        }
+        if is(Wrong::FiveGroupInside) && groups == (false, true) {
+            return true;
+        }
+        if is(Wrong::FiveGroupOuter) && groups.0 || is(Wrong::FiveGroupInner) && groups.1 {
+            return false;
+        }
+        self.side(outer) != self.side(inner)
+    }
+
+    /// Whether refusal 6 meets an arrow, whose ends are boxes.
+    fn wrong_ends(&self, k: usize) -> bool {
+        let (tail, head) = (self.tail(k), self.head(k));
+        if is(Wrong::SixTailFolder) && self.boxes[tail] == 3 {
+            return self.side(head) == 0;
+        }
+        if is(Wrong::SixHeadGroup) && self.boxes[head] == 2 {
+            return self.side(tail) == 1;
+        }
+        self.side(tail) == 1
+            || self.side(head) == 0
+            || is(Wrong::SixTailByByte) && self.group(tail)
+            || is(Wrong::SixHeadByByte) && self.group(head)
+            || is(Wrong::SixAtEmpty) && self.at_empty(k)
+    }
+
+    /// The atomic boxes of a side. `with_empty` is the way to be wrong that takes empty groups and
+    /// folders for atomic.
+    fn atoms(&self, side: u8, with_empty: Wrong) -> Vec<usize> {
         let mut atomic = vec![true; self.n()];
         let mut drawn = vec![false; self.n()];
+        let empty = self.empty();
         for k in 0..self.rows.len() / 2 {
-            atomic[self.row(k).0] = false;
-            drawn[self.row(k).1] = true;
+            let (outer, inner) = self.row(k);
+            let ignored = !self.group(outer)
+                && (is(Wrong::AroundEmptyIsAtom) && empty[inner]
+                    || is(Wrong::AroundGroupsIsAtom) && self.group(inner));
+            atomic[outer] &= ignored;
+            drawn[inner] = true;
         }
         if is(Wrong::RootsAreAtoms) {
             atomic = drawn.iter().zip(&atomic).map(|(&d, &a)| d && a).collect();
         }
+        for b in (0..self.n()).filter(|&b| self.group(b)) {
+            atomic[b] = if empty[b] {
+                is(with_empty)
+                    || is(Wrong::EmptyGroupIsUser) && self.boxes[b] == 2
+                    || is(Wrong::EmptyFolderIsFile) && self.boxes[b] == 3
+                    || is(Wrong::EmptyInsideIsAtom) && drawn[b]
+                    || is(Wrong::EmptyArrowIsAtom) && self.has_arrow(b)
+            } else {
+                is(Wrong::MembersAreAtoms)
+            };
+        }
         (0..self.n())
-            .filter(|&b| atomic[b] && self.boxes[b] == side)
+            .filter(|&b| atomic[b] && self.side(b) == side)
             .collect()
+    }
+
+    fn has_arrow(&self, b: usize) -> bool {
+        let mut ends = self.arrows.chunks(4).flat_map(|row| &row[..2]);
+        ends.any(|&end| end as usize == b)
+    }
+
+    /// How many pairs there are.
+    fn pairs(&self, with_empty: Wrong) -> usize {
+        self.atoms(0, with_empty).len() * self.atoms(1, with_empty).len()
     }
 
     /// The scratch: containment by Warshall's method, in place and by ones; then 2 for each row.
@@ -338,6 +489,12 @@ impl Tables<'_> {
                 *byte = if before == 2 && *byte == 1 { 2 } else { *byte };
             }
         }
+        if is(Wrong::DrawnNotEmpty) {
+            let empty = self.empty();
+            for (place, byte) in scratch.iter_mut().enumerate() {
+                *byte = if empty[place % n] { 0 } else { *byte };
+            }
+        }
     }
 
     /// Outer and inner box of every row.
@@ -360,7 +517,9 @@ impl Tables<'_> {
             return;
         }
         for via in 0..n {
-            if is(Wrong::LoopsHalfFilled) && scratch[via * n + via] == 1 {
+            if is(Wrong::LoopsHalfFilled) && scratch[via * n + via] == 1
+                || is(Wrong::JoinNotThroughGroups) && self.group(via)
+            {
                 continue;
             }
             for a in 0..n {
@@ -386,7 +545,8 @@ impl Tables<'_> {
             };
             let unmarked = is(Wrong::DrawnFirst) && earlier.iter().any(|row| row.0 == outer)
                 || is(Wrong::DrawnNotLast) && k + 1 == rows.len()
-                || is(Wrong::DrawnUsers) && self.boxes[outer] == 1
+                || is(Wrong::DrawnUsers) && self.side(outer) == 1
+                || is(Wrong::DrawnNotGroups) && self.group(outer)
                 || is(Wrong::DrawnNotItself) && outer == inner
                 || is(Wrong::DrawnLoses) && through_others();
             let repeat = || earlier.contains(&(outer, inner));
@@ -410,13 +570,29 @@ impl Tables<'_> {
     fn looped(&self, scratch: &[u8]) -> Option<Reply> {
         let n = self.n();
         let mut on_loop = (0..n)
-            .filter(|b| contained(scratch[b * n + b], Wrong::LoopsByOnes, Wrong::LoopsByTwos));
+            .filter(|b| contained(scratch[b * n + b], Wrong::LoopsByOnes, Wrong::LoopsByTwos))
+            .filter(|&b| !is(Wrong::LoopedGroups) || !self.group(b));
         let named = if is(Wrong::LoopHighest) {
             on_loop.last()
         } else {
             on_loop.next()
         };
         named.map(|b| refusal(10, b, 0, 0))
+    }
+}
+
+/// The highest box byte that isn't refused by 3.
+fn highest_byte() -> u8 {
+    if is(Wrong::GroupsRefused) {
+        1
+    } else if is(Wrong::FoldersRefused) {
+        2
+    } else if is(Wrong::FourPasses) {
+        4
+    } else if is(Wrong::HighBytesPass) {
+        255
+    } else {
+        3
     }
 }
 
@@ -439,12 +615,12 @@ struct World<'a> {
 }
 
 impl<'a> World<'a> {
-    fn new(t: &'a Tables<'a>, holds: &'a [u8]) -> World<'a> {
+    fn new(t: &'a Tables<'a>, holds: &'a [u8], with_empty: Wrong) -> World<'a> {
         World {
             t,
             holds,
-            users: t.atoms(0),
-            files: t.atoms(1),
+            users: t.atoms(0, with_empty),
+            files: t.atoms(1, with_empty),
         }
     }
 
@@ -460,7 +636,8 @@ impl<'a> World<'a> {
             contained(byte, Wrong::ReachByOnes, Wrong::ReachByTwos)
                 || outer == inner && !is(Wrong::SameBoxMissed)
         };
-        holds(tail, u) && holds(head, f)
+        let idle = is(Wrong::GroupsReachNothing) && (self.t.group(tail) || self.t.group(head));
+        holds(tail, u) && holds(head, f) && !idle
     }
 
     /// -1 if a lies inside b, 1 if b lies inside a, 0 if they are level.
@@ -471,6 +648,12 @@ impl<'a> World<'a> {
     fn overrides(&self, p: usize, n: usize) -> bool {
         let tails = self.order(self.t.tail(p), self.t.tail(n));
         let heads = self.order(self.t.head(p), self.t.head(n));
+        if is(Wrong::GroupsOverrideNothing)
+            && self.t.tail(p) != self.t.tail(n)
+            && self.t.group(self.t.tail(p))
+        {
+            return false;
+        }
         if is(Wrong::BothDeeper) {
             return tails < 0 && heads < 0;
         }
@@ -584,7 +767,7 @@ fn judge(t: &Tables, scratch: &mut [u8]) -> Reply {
     if let Some(refused) = t.looped(scratch) {
         return refused;
     }
-    let world = World::new(t, scratch);
+    let world = World::new(t, scratch, Wrong::EmptyInJudge);
     let modes = if is(Wrong::JudgeModeZero) { 1 } else { 8 };
     let mut found: Vec<(usize, (usize, usize))> = Vec::new();
     for mode in 0..modes {
@@ -617,9 +800,10 @@ fn entry(t: &Tables, user: u16, file: u16, mode: u16, scratch: &mut [u8]) -> Rep
     }
     t.fill(scratch);
     let (u, f) = (user as usize, file as usize);
-    let (mut users, files) = (t.atoms(0), t.atoms(1));
+    let mut users = t.atoms(0, Wrong::EntryEmptyGroup);
+    let files = t.atoms(1, Wrong::EntryEmptyFolder);
     if is(Wrong::EntryTakesGroups) {
-        users = (0..t.n()).filter(|&b| t.boxes[b] == 0).collect();
+        users = (0..t.n()).filter(|&b| t.side(b) == 0).collect();
     }
     let wrong = !users.contains(&u) || !files.contains(&f);
     let named = if is(Wrong::EntryNamesOne) && users.contains(&u) {
@@ -636,8 +820,9 @@ fn entry(t: &Tables, user: u16, file: u16, mode: u16, scratch: &mut [u8]) -> Rep
     if wrong {
         return named;
     }
-    let (kind, a, b) = World::new(t, scratch).cell(&t.of_mode(mode), u, f);
-    reply(kind, a, b, 0)
+    let world = World::new(t, scratch, Wrong::EntryEmptyGroup);
+    let (kind, a, b) = world.cell(&t.of_mode(mode), u, f);
+    reply(kind, t.number(a), t.number(b), 0)
 }
 
 /// Refusals 8 and 9 of the matrix and list calls; `buffers` are number, length lent, length
@@ -665,12 +850,26 @@ fn matrix(
     if let Some(refused) = t.fault() {
         return refused;
     }
-    let (needed, pairs) = (t.n() * t.n(), t.atoms(0).len() * t.atoms(1).len());
-    let buffers = [
+    let (needed, pairs) = (t.n() * t.n(), t.pairs(Wrong::EmptyInMatrix));
+    let mut buffers = [
         (0, scratch.len(), needed),
         (1, bytes.len(), pairs),
         (2, numbers.len(), pairs),
     ];
+    if is(Wrong::NineEmptyBytes) {
+        buffers[1].2 = t.pairs(Wrong::NineEmptyBytes);
+    }
+    if is(Wrong::NineEmptyNumbers) {
+        buffers[2].2 = t.pairs(Wrong::NineEmptyNumbers);
+    }
+    if is(Wrong::TenBeforeNine) && mode < 8 && scratch.len() >= needed {
+        let mut filled = vec![0; needed];
+        t.fill(&mut filled);
+        if let Some(refused) = t.looped(&filled) {
+            scratch[..needed].copy_from_slice(&filled);
+            return refused;
+        }
+    }
     if is(Wrong::ScratchOnNine) && mode < 8 && scratch.len() >= needed {
         t.fill(scratch);
     }
@@ -685,7 +884,7 @@ fn matrix(
         }
         return refused;
     }
-    let world = World::new(t, scratch);
+    let world = World::new(t, scratch, Wrong::EmptyInMatrix);
     let of_mode = t.of_mode(mode);
     let mut first_granted = true;
     for (i, &u) in world.users.iter().enumerate() {
@@ -706,7 +905,7 @@ fn matrix(
             let arrow = if is(Wrong::LongArrowNumbers) {
                 arrow % 256
             } else {
-                arrow
+                t.number(arrow)
             };
             (bytes[place], numbers[place]) = match kind {
                 GRANTED => (1, arrow as u16),
@@ -774,10 +973,12 @@ fn list(t: &Tables, mode: u16, scratch: &mut [u8], list: &mut [u16], work: &mut 
     if let Some(refused) = t.fault() {
         return refused;
     }
-    let (needed, pairs) = (t.n() * t.n(), t.atoms(0).len() * t.atoms(1).len());
+    let (needed, pairs) = (t.n() * t.n(), t.pairs(Wrong::EmptyInList));
     let of_mode = t.of_mode(mode);
     let places = if is(Wrong::NineListAllArrows) {
         t.arrows.len() / 4
+    } else if is(Wrong::NineListWithoutEmpty) {
+        of_mode.iter().filter(|&&k| !t.at_empty(k)).count()
     } else {
         of_mode.len()
     };
@@ -789,6 +990,9 @@ fn list(t: &Tables, mode: u16, scratch: &mut [u8], list: &mut [u16], work: &mut 
     if is(Wrong::NineAtExact) && work.len() == pairs {
         buffers[2].1 = 0;
     }
+    if is(Wrong::NineEmptyWork) {
+        buffers[2].2 = t.pairs(Wrong::NineEmptyWork);
+    }
     if is(Wrong::NineWorkFirst) {
         buffers.swap(1, 2);
     }
@@ -799,7 +1003,7 @@ fn list(t: &Tables, mode: u16, scratch: &mut [u8], list: &mut [u16], work: &mut 
     if let Some(refused) = t.looped(scratch) {
         return refused;
     }
-    let world = World::new(t, scratch);
+    let world = World::new(t, scratch, Wrong::EmptyInList);
     if is(Wrong::WorkBeforeTwelve) {
         work[..pairs].fill(0);
     }
@@ -849,7 +1053,7 @@ fn list(t: &Tables, mode: u16, scratch: &mut [u8], list: &mut [u16], work: &mut 
             if is(Wrong::NoOrderListAll) {
                 list.fill(65_535);
             } else if !is(Wrong::NoOrderListKept) {
-                list[..of_mode.len()].fill(65_535);
+                list[..of_mode.len().min(places)].fill(65_535);
             }
             return refusal(13, mode as usize, at(named).0, at(named).1);
         }
@@ -897,12 +1101,12 @@ fn atoms(t: &Tables, users: &mut [u16], files: &mut [u16]) -> Reply {
     if let Some(refused) = t.fault() {
         return refused;
     }
-    let (mut left, mut right) = (t.atoms(0), t.atoms(1));
+    let [mut left, mut right] = [0, 1].map(|side| t.atoms(side, Wrong::EmptyNamed));
     if is(Wrong::AtomsExchanged) {
         (left, right) = (right, left);
     }
     if is(Wrong::AtomsGroups) {
-        left = (0..t.n()).filter(|&b| t.boxes[b] == 0).collect();
+        left = (0..t.n()).filter(|&b| t.side(b) == 0).collect();
     }
     if is(Wrong::AtomsLoops) {
         let mut scratch = vec![0; t.n() * t.n()];
@@ -916,15 +1120,19 @@ fn atoms(t: &Tables, users: &mut [u16], files: &mut [u16]) -> Reply {
             *place = b as u16;
         }
     };
-    if users.len() < left.len() {
-        return refusal(9, 11, left.len(), 0);
+    let needed = [
+        left.len().max(t.atoms(0, Wrong::NineEmptyUsers).len()),
+        right.len().max(t.atoms(1, Wrong::NineEmptyFiles).len()),
+    ];
+    if users.len() < needed[0] {
+        return refusal(9, 11, needed[0], 0);
     }
     if is(Wrong::AtomsWrittenOnRefusal) {
         write(&left, users);
     }
-    if files.len() < right.len() {
+    if files.len() < needed[1] {
         let buffer = if is(Wrong::AtomsBuffer) { 11 } else { 12 };
-        return refusal(9, buffer, right.len(), 0);
+        return refusal(9, buffer, needed[1], 0);
     }
     if is(Wrong::AtomsBeyond) {
         files.fill(0);
@@ -1034,11 +1242,21 @@ fn read(file: &[u8], boxes: &mut [u8], rows: &mut [u16], arrows: &mut [u16]) -> 
             let from = at + 8 + record * sizes[file[at] as usize];
             match file[at] {
                 1 => {
+                    let byte = file[from];
                     if b < boxes.len() {
-                        boxes[b] = file[from];
+                        boxes[b] = match byte {
+                            _ if is(Wrong::ReadMasks) => byte & 3,
+                            2 | 3 if is(Wrong::ReadSides) => byte & 1,
+                            _ => byte,
+                        };
                     }
-                    if file[from] > 1 && is(Wrong::ReadChecksBoxes) {
+                    if byte > 3 && is(Wrong::ReadChecksBoxes)
+                        || byte > 1 && is(Wrong::ReadChecksGroups)
+                    {
                         return refusal(3, b, 0, 0);
+                    }
+                    if is(Wrong::ReadCountsPlain) && (byte == 2 || byte == 3) {
+                        counts[1] -= 1;
                     }
                     b += 1;
                 }
@@ -1088,7 +1306,7 @@ fn leave(t: &Tables, by: Wrong, scratch: &mut [u8], answer: Reply) -> Reply {
 
 #[no_mangle]
 pub extern "C" fn rights_version() -> u32 {
-    0x02_00_00
+    0x03_00_00
 }
 
 #[no_mangle]

@@ -1,7 +1,8 @@
-//! Which refusal the calls on a picture answer with, and what refusals print.
+//! Which refusal the calls on a picture answer with, what refusals print, and what groups that have
+//! emptied answer.
 
 use rights::lent::Tables;
-use rights::{Arrow, BoxKind, Buffer, Mode, Picture, Refusal, Sign, Table};
+use rights::{Answer, Arrow, BoxKind, Buffer, Cell, Mode, Picture, Refusal, Sign, Table};
 
 fn arrow(tail: u16, head: u16, mode: u16, sign: Sign) -> Arrow {
     let mode = Mode::new(mode).unwrap();
@@ -60,6 +61,85 @@ fn faults_of_rows() {
 }
 
 #[test]
+fn faults_of_groups() {
+    // Side by side: a group holds users and groups, a folder files and folders.
+    let mut picture = Picture {
+        boxes: BoxKind::ALL.to_vec(),
+        containments: vec![(2, 0), (3, 1), (2, 3)],
+        arrows: vec![
+            arrow(2, 3, 0, Sign::Positive),
+            arrow(3, 1, 0, Sign::Positive),
+        ],
+    };
+    assert_eq!(refused(&picture), Refusal::AcrossSides { row: 2 });
+    assert_eq!(picture.atoms(), Err(Refusal::AcrossSides { row: 2 }));
+    picture.containments.pop();
+    assert_eq!(refused(&picture), Refusal::ArrowEnds { row: 1 });
+    picture.arrows.pop();
+    assert_eq!(picture.judge(), Ok(()));
+    picture.containments.push((2, 2));
+    assert_eq!(refused(&picture), Refusal::ContainsItself { box_number: 2 });
+    let tables = Tables {
+        boxes: &[3, 2, 4],
+        ..Tables::default()
+    };
+    let refusal = Refusal::BoxByte { box_number: 2 };
+    assert_eq!(Picture::try_from(tables), Err(refusal));
+    assert_eq!(
+        refusal.to_string(),
+        "refusal 3: the byte of box 2 is above 3"
+    );
+}
+
+/// User 0 in box 1, file 2 in box 3, and an arrow from box 1 to box 3.
+fn around(group: BoxKind, folder: BoxKind) -> Picture {
+    Picture {
+        boxes: vec![BoxKind::User, group, BoxKind::File, folder],
+        containments: vec![(1, 0), (3, 2)],
+        arrows: vec![arrow(1, 3, 0, Sign::Positive)],
+    }
+}
+
+#[test]
+fn groups_that_have_emptied() {
+    let mode = Mode::new(0).unwrap();
+    // As long as they hold something, groups and folders may be said to be such or not.
+    for group in [BoxKind::User, BoxKind::Group] {
+        for folder in [BoxKind::File, BoxKind::Folder] {
+            let picture = around(group, folder);
+            let granted = Answer::Granted { arrow: 0 };
+            assert_eq!(picture.entry(0, 2, mode), Ok(granted));
+            let matrix = picture.matrix(mode).unwrap();
+            assert_eq!((matrix.users(), matrix.files()), (&[0][..], &[2][..]));
+            assert_eq!(picture.list(mode), Ok(vec![0]));
+        }
+    }
+
+    // The last members leave. Drawn as a user and a file they turn into these.
+    let mut picture = around(BoxKind::User, BoxKind::File);
+    picture.containments.clear();
+    let matrix = picture.matrix(mode).unwrap();
+    assert_eq!((matrix.users(), matrix.files()), (&[0, 1][..], &[2, 3][..]));
+    assert_eq!(matrix.cell(1, 3), Some(Cell::Granted { arrow: 0 }));
+    assert_eq!(picture.list(mode), Ok(vec![0]));
+
+    // Drawn as a group and a folder they stay such, and the arrow reaches nothing.
+    let mut picture = around(BoxKind::Group, BoxKind::Folder);
+    picture.containments.clear();
+    let atoms = picture.atoms().unwrap();
+    assert_eq!((atoms.users, atoms.files), (vec![0], vec![2]));
+    let matrix = picture.matrix(mode).unwrap();
+    assert_eq!((matrix.users(), matrix.files()), (&[0][..], &[2][..]));
+    assert_eq!(matrix.cell(0, 2), Some(Cell::DeniedByDefault));
+    assert_eq!(matrix.cell(1, 3), None);
+    assert_eq!(picture.list(mode), Ok(vec![]));
+    for (user, file) in [(1, 2), (0, 3), (1, 3)] {
+        let refusal = Refusal::NotAtomic { user, file };
+        assert_eq!(picture.entry(user, file, mode), Err(refusal));
+    }
+}
+
+#[test]
 fn unclear_pairs() {
     let signs = [Sign::Positive, Sign::Negative];
     let picture = Picture {
@@ -73,7 +153,7 @@ fn unclear_pairs() {
     assert_eq!(picture.list(Mode::new(7).unwrap()).map(|_| ()), unclear);
     assert_eq!(picture.list(Mode::new(0).unwrap()), Ok(vec![]));
     let matrix = picture.matrix(Mode::new(7).unwrap()).unwrap();
-    assert_eq!(matrix.cell(0, 1), Some(rights::Cell::Unclear));
+    assert_eq!(matrix.cell(0, 1), Some(Cell::Unclear));
 }
 
 #[test]
