@@ -119,9 +119,11 @@ _Static_assert(RIGHTS_LAYOUT, "rights_reply isn't laid out as the library has it
 #undef RIGHTS_LAYOUT
 
 /*
- * The bytes of boxes. A box of byte 0 or 1 that is the outer one of no row is a user or a file; so
- * a group that is drawn with 0 turns into a user when its last member leaves. Drawn with 2 it
- * doesn't. As long as it has members, 0 and 2 mean the same, and so do 1 and 3 for folders.
+ * The bytes of boxes. Draw groups with 2 and folders with 3: drawn with 0 or 1, they turn into a
+ * user or a file when the last box in them is gone. As long as a box is the outer one of a row, it
+ * makes no difference; a box of byte 0 around empty groups only is no user either. An arrow at an
+ * empty group or folder is no fault: it has its number and needs its place in the list's buffer,
+ * but reaches no pair.
  */
 enum {
     RIGHTS_USER = 0,  /* user side */
@@ -298,7 +300,8 @@ rights_reply rights_atoms(
  *            rights_arrows_len of the reply. Or REFUSED by 14, then for each block in turn 15,
  *            16, 17, then 2, then 9.
  *   Leaves   after DONE the rows in the three tables, places beyond them untouched. A refusal
- *            leaves all three untouched. What the rows say is not checked here.
+ *            leaves all three untouched. What the rows say, box bytes included, is not checked
+ *            here.
  *   Note     no block says how many there are: a file that is cut at the end of a block is a good
  *            file with fewer rows. Know its length, or hold the three counts against your own.
  */
@@ -336,7 +339,7 @@ static inline const char *rights_refusal_name(uint32_t number) {
         "box byte above 3",
         "containment of a box that isn't there",
         "containment across sides",
-        "arrow not from a user box to a file box",
+        "arrow not from the user side to the file side",
         "arrow mode above 7 or sign above 1",
         "asked mode above 7",
         "buffer too short",

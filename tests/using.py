@@ -1,14 +1,19 @@
 #!/usr/bin/env python3
 """Compiles the two programs that docs/USING.md shows, runs them on samples B and J, and holds the matrix that they print against
-the stored listings. The steps up that the page shows are held against those that examples/c stores.
+the stored listings. The steps up that the page shows are held against those that examples/c stores, and its listings of groups
+that have emptied against the program's.
 
-    using.py     in the repository's root, after target/staticlib/librights_c.a and target/librights.rlib are built
+    using.py     in the repository's root, after target/staticlib/librights_c.a, target/librights.rlib and target/bin/rights are built
 """
 
+import json
 import pathlib
 import re
 import subprocess
 import sys
+
+sys.dont_write_bytecode = True
+import samples
 
 ROOT = pathlib.Path(__file__).resolve().parent.parent
 TARGET = ROOT / "target"
@@ -25,6 +30,15 @@ def matrix(name):
     rows = [line.split() for line in (ROOT / "samples" / f"{name}.txt").read_text().splitlines()]
     word = {"pos": "granted", "neg": "denied"}
     return [f"user {row[1]} file {row[2]}: {word[row[3]]}" for row in rows if row[0] == "0"]
+
+
+def groups():
+    """The listings of sample groups with its bytes, and with its groups and folders drawn with 0 and 1."""
+    tables = json.loads((ROOT / "samples" / "pictures.json").read_text())["pictures"]
+    (picture,) = [sample for sample in tables if sample["name"] == "groups"]
+    for boxes in picture["boxes"], [byte % 2 for byte in picture["boxes"]]:
+        file = samples.file_of({**picture, "boxes": boxes})
+        yield subprocess.run([TARGET / "bin" / "rights"], input=file, capture_output=True, timeout=30).stdout.decode()
 
 
 def main():
@@ -45,10 +59,11 @@ def main():
                 wrong += 1
                 print(f"{language}, {name}: {ran.stdout.decode()}{ran.stderr.decode()}")
     steps = (ROOT / "examples" / "c" / "steps" / "J.0.txt").read_text().splitlines()[:-1]
-    if "".join(f"    {line}\n" for line in steps) not in page:
-        wrong += 1
-        print("the steps up from user 0 of J are others")
-    print(f"using: 2 programs on 2 samples and the steps up, {wrong} wrong")
+    for what, lines in [("steps up from user 0 of J", steps), *(("listing of groups", text.splitlines()) for text in groups())]:
+        if "".join(f"    {line}\n" for line in lines) not in page:
+            wrong += 1
+            print(f"the page shows another {what}")
+    print(f"using: 2 programs on 2 samples, the steps up and 2 listings, {wrong} wrong")
     sys.exit(wrong > 0)
 
 

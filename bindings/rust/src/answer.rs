@@ -85,7 +85,8 @@ impl Cell {
     }
 }
 
-/// The atomic boxes of a picture: those of kind user or file that are the outer one of no containment.
+/// The atomic boxes of a picture: those of kind user or file that are the outer one of no
+/// containment.
 #[derive(Clone, Debug, Default, PartialEq, Eq)]
 pub struct Atoms {
     /// The atomic users, by rising number.

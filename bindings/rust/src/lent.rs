@@ -30,8 +30,8 @@ pub struct Tables<'a> {
     pub boxes: &'a [u8],
     /// Two numbers each: outer box, inner box.
     pub containments: &'a [u16],
-    /// Four numbers each: tail (a user box), head (a file box), mode 0 to 7, sign (1 positive, 0
-    /// negative). An arrow's number is its row.
+    /// Four numbers each: tail (a box of the user side), head (one of the file side), mode 0 to 7,
+    /// sign (1 positive, 0 negative). An arrow's number is its row.
     pub arrows: &'a [u16],
 }
 

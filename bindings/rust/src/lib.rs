@@ -1,9 +1,9 @@
 //! The rights checker of the run store, for Rust.
 //!
 //! An administrator draws who may use which folder: boxes for people and groups (the user side) and
-//! for runs and folders (the file side), nested in each other, and signed arrows from user boxes to
-//! file boxes, each for one of eight modes of use. The checker says for every atomic user, atomic
-//! file and mode what the picture means. It is proved; this package only carries questions and
+//! for runs and folders (the file side), nested in each other, and signed arrows from the user side
+//! to the file side, each for one of eight modes of use. The checker says for every atomic user,
+//! atomic file and mode what the picture means. It is proved; this package only carries questions and
 //! answers across its C boundary, `include/rights.h`.
 //!
 //! ```
@@ -33,8 +33,8 @@
 //! - A **box** has a number, its place from 0, and so has an **arrow**. At most 256 boxes, 1,024
 //!   containments and 512 arrows.
 //! - A box of kind user or file that is the outer one of no containment is **atomic**: a single user
-//!   or file. Groups and folders never are, also with nothing in them ([`BoxKind`]). Pairs are of an
-//!   atomic user and an atomic file.
+//!   or file. Groups and folders never are, also with nothing in them ([`BoxKind`]); an arrow at an
+//!   empty one is no fault and reaches nothing. Pairs are of an atomic user and an atomic file.
 //! - A call that doesn't answer is **refused**: [`Refusal`] says why and where.
 //! - A **block file** is the format that drawing tools write and [`Picture::read`] reads: blocks of
 //!   512 bytes. `samples/` in the repository has some.

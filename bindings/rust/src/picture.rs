@@ -6,8 +6,8 @@ use crate::{Answer, Arrow, Atoms, BoxKind, Cell, Matrix, Mode, Refusal, Sign, Ta
 /// A picture: boxes, nested in each other, and arrows.
 ///
 /// It may be faulty (a containment or an arrow may name a box that isn't there, a box may contain
-/// itself): every call checks it and refuses what is wrong. Picture B of document 01, where user 0
-/// is granted file 3 against its group, box 2:
+/// itself): every call checks it and refuses what is wrong. User 0 is granted file 3 against its
+/// group, box 2:
 ///
 /// ```
 /// use rights::{Arrow, BoxKind, Mode, Picture, Sign};
@@ -212,7 +212,7 @@ impl Picture {
     }
 
     /// The atomic users and the atomic files. Arrows are not looked at, and a box that contains
-    /// itself is no fault here. A group that has emptied is not among them, if it is said to be one:
+    /// itself is no fault here. A box of kind group is not among them, also when it has emptied:
     ///
     /// ```
     /// # use rights::{BoxKind, Picture};

@@ -140,13 +140,13 @@ refusals! {
         /// The containment.
         row: u16,
     }
-    /// 5: a containment between a user box and a file box.
-    5 AcrossSides "containment {row} is between a user box and a file box" {
+    /// 5: a containment between boxes of two sides.
+    5 AcrossSides "containment {row} is between a box of the user side and one of the file side" {
         /// The containment.
         row: u16,
     }
-    /// 6: an arrow whose tail is no user box or whose head is no file box.
-    6 ArrowEnds "arrow {row} does not lead from a user box to a file box" {
+    /// 6: an arrow whose tail is not on the user side or whose head is not on the file side.
+    6 ArrowEnds "arrow {row} does not lead from the user side to the file side" {
         /// The arrow.
         row: u16,
     }

@@ -103,9 +103,9 @@ impl Mode {
 /// An arrow of a picture.
 #[derive(Clone, Copy, Debug, PartialEq, Eq, Hash)]
 pub struct Arrow {
-    /// The user box it starts from.
+    /// The box it starts from, of the user side.
     pub tail: u16,
-    /// The file box it leads to.
+    /// The box it leads to, of the file side.
     pub head: u16,
     /// The mode of use it is about.
     pub mode: Mode,
