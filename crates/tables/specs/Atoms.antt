@@ -13,7 +13,7 @@ outer [] b = false
 outer (x ∷ []) b = false
 outer (x ∷ y ∷ rows) b = eqb x b || outer rows b
 
--- b is an atomic box of side s: no user group, no folder, and the outer one of no row
+-- b is an atomic box of side s: no user group or folder, and the outer one of no row
 unfoldable pub atom : List ℕ → List ℕ → ℕ → ℕ → Bool
 atom boxes rows s b = onSide boxes s b && not (isGroup (getD boxes b 0)) && not (outer rows b)
 

@@ -1,4 +1,5 @@
--- The three lent tables of a picture (document 01, "The picture and its tables"; box bytes 2 and 3: document 02, P6). Assumes nothing.
+-- The three lent tables of a picture (document 01, "The picture and its tables"; bytes 2 and 3 of boxes: document 02, P6).
+-- Assumes nothing.
 use mathlib.Core.Bool.{Bool, _&&_}
 use mathlib.Core.List.{List}
 use Prim.Native.Nat.{ℕ, _+_, _*_, _/_, _%_}
@@ -7,14 +8,14 @@ use lib.ListN.{length, getD}
 use Rattle.tables.specs.declared.Containment.{Containment}
 use Rattle.tables.specs.declared.Arrow.{Arrow}
 
--- the two sides
+-- the two sides, which are bytes of boxes too
 abbrev pub user : ℕ
 user = 0
 
 abbrev pub file : ℕ
 file = 1
 
--- the bytes that are added to those of the two sides
+-- the bytes of a user group and of a folder
 abbrev pub userGroup : ℕ
 userGroup = 2
 
@@ -25,7 +26,7 @@ folder = 3
 unfoldable pub sideOf : ℕ → ℕ
 sideOf byte = byte % 2
 
--- the byte is that of a user group or a folder
+-- the byte is that of a user group or a folder; one above 3 is refused
 unfoldable pub isGroup : ℕ → Bool
 isGroup byte = leb userGroup byte
 
