@@ -22,10 +22,10 @@ impl Picture {
         }
     }
 
-    /// Adds boxes of a side and answers the first one's number.
-    fn add(&mut self, side: u8, count: usize) -> usize {
+    /// Adds boxes of a byte (0 users, 1 files, 2 groups, 3 folders) and answers the first one's number.
+    fn add(&mut self, byte: u8, count: usize) -> usize {
         let first = self.boxes.len();
-        self.boxes.resize(first + count, side);
+        self.boxes.resize(first + count, byte);
         first
     }
 
@@ -76,9 +76,9 @@ pub fn typical(arrows: usize) -> Picture {
     let mut p = Picture::new(&format!("core facility, {arrows} arrows over 4 modes"));
     let mut random = Random(5);
     let users = p.add(0, 120);
-    let groups = p.add(0, 40);
+    let groups = p.add(2, 40);
     let files = p.add(1, 60);
-    let folders = p.add(1, 36);
+    let folders = p.add(3, 36);
     let (labs, teams) = (groups + 1, groups + 11);
     let (instruments, runs) = (folders + 1, folders + 9);
     p.put_all(groups, labs, 10);
