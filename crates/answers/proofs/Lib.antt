@@ -9,3 +9,4 @@ pub mod ModeLaws
 pub mod GrantLaws
 pub mod ClearLaws
 pub mod SamePictures
+pub mod EmptiedLaws

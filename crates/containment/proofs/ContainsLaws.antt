@@ -2,7 +2,7 @@
 -- go by which rows there are, not by their order or how often each stands. Assumes nothing.
 use mathlib.Core.Path.{_≡_, refl, sym, subst}
 use mathlib.Core.Logic.{_⊎_, inl, inr, ⊎-map, ⊎-elim, _↔_}
-use mathlib.Core.Bool.{_&&_, _||_}
+use mathlib.Core.Bool.{false, _&&_, _||_}
 use mathlib.Core.List.{List, [], _∷_, _++_}
 use mathlib.Core.Option.{none}
 use Prim.Native.Nat.{ℕ, _%_, _<_}
@@ -14,7 +14,7 @@ use Rattle.tables.specs.Atoms.{outer, atom}
 use Rattle.tables.specs.Search.{given}
 use Rattle.tables.specs.Refusals.{inItself}
 use Rattle.containment.specs.Contains.{Row, here, later, direct, Chain, one, more, contains, around, loopFault}
-use Rattle.tables.proofs.Tests.{or-T, T-or₁, T-or₂, and-T, T-and, T-same}
+use Rattle.tables.proofs.Tests.{or-T, T-or₁, T-or₂, and-T, T-and, T-same, not-false}
 use Rattle.tables.proofs.SearchLaws.{first-none, given-none}
 use Rattle.tables.proofs.RowLaws.{outer-none, outer-odd, outer-more}
 use Rattle.tables.proofs.GroupLaws.{atom-iff}
@@ -157,6 +157,14 @@ atomic-iff boxes rows s b = (
   λ t. let p = atom-iff boxes rows s b .0 t in (p .0, p .1, λ a c. p .2 (contains-outer rows b a c)),
   λ h. atom-iff boxes rows s b .1 (h .0, h .1, λ o. let c = outer-contains rows b o in h .2 (c .0) (c .1)),
 )
+
+-- a user group or folder that holds nothing is around no atomic box
+pub emptied-around : (boxes rows : List ℕ) (s b a : ℕ) → T (isGroup (getD boxes b 0)) → (T (outer rows b) → ⊥) → T (atom boxes rows s a)
+    → around rows b a ≡ false
+emptied-around boxes rows s b a g o t =
+    not-false (around rows b a) (λ r. ⊎-elim
+    (λ e. atom-iff boxes rows s a .0 t .1 (subst (λ (z : ℕ). T (isGroup (getD boxes z 0))) e g))
+    (λ c. o (contains-outer rows b a c)) (around-cases rows b a r))
 
 -- ---- tables with the same rows
 
