@@ -1,6 +1,6 @@
 -- Pictures with the same atomic boxes, in which the same boxes contain each other, give the same answers, matrix and verdict. So
--- repeated rows change nothing (`repeated` of containment), nor does the byte of a box that holds something: as a user group or folder
--- it is no more atomic than before. Assumes nothing.
+-- repeated rows change nothing (`repeated` of containment), nor does it matter whether a box that holds something is a user group or
+-- folder by its byte: it is not atomic either way. Assumes nothing.
 use mathlib.Core.Path.{_≡_, refl, ap, fun-ext}
 use mathlib.Core.Logic.{_↔_}
 use mathlib.Core.List.{List}
