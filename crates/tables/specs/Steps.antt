@@ -9,7 +9,7 @@ use Rattle.tables.specs.Search.{bit}
 use Rattle.tables.specs.Rows.{user, file, sideOf, onSide, rowCount, rowAt, arrowCount, arrowAt}
 use Rattle.tables.specs.Faults.{namesNoBox, acrossSides, wrongEnds, wrongMode}
 
--- what holds of boxes and containments that pass checks 1 to 7 (`table-sound`)
+-- what holds of boxes and containments that pass checks 1 to 7 (`sound-rows`)
 pub record SoundRows (boxes rows : List ℕ) : Type 0 where
   pub few-boxes : length boxes ≤ 256
   pub whole : length rows % 2 ≡ 0
@@ -20,7 +20,7 @@ pub record SoundRows (boxes rows : List ℕ) : Type 0 where
   pub one-side : (k : ℕ) → k < rowCount rows
       → sideOf (getD boxes (rowAt rows k .outer) 0) ≡ sideOf (getD boxes (rowAt rows k .inner) 0)
 
--- and of arrows
+-- and of arrows (`sound-arrows`)
 pub record SoundArrows (boxes arrows : List ℕ) : Type 0 where
   pub whole : length arrows % 4 ≡ 0
   pub few-arrows : arrowCount arrows ≤ 512
