@@ -1,9 +1,9 @@
 /*
  * The rights checker of the run store: C boundary.
  *
- * Seven calls: judge a picture, answer one entry, fill the matrix of a mode, write the
- * first-match list of a mode, name the atomic users and files, read a block file, and tell the
- * version. C99 and later, C++11 and later.
+ * Eight calls: judge a picture, answer one entry, fill the matrix of a mode, write the
+ * first-match list of a mode, name the atomic users and files, read a block file, pack a picture
+ * into one, and tell the version. C99 and later, C++11 and later.
  *
  * Pointers and lengths
  *   Every array comes as a pointer and its length in elements: not in bytes, and not in rows of
@@ -65,7 +65,7 @@ extern "C" {
 #endif
 
 /* The version that this header belongs to: major, minor and patch, one byte each. */
-#define RIGHTS_VERSION 0x030000u
+#define RIGHTS_VERSION 0x030100u
 
 /* Limits of a picture and of a block file. */
 #define RIGHTS_MAX_BOXES 256
@@ -85,6 +85,7 @@ extern "C" {
 /* For a file: a byte more than the longest one, so that a longer one is refused by 14. Cut to
    RIGHTS_MAX_FILE it might pass for a good file with fewer rows. */
 #define RIGHTS_FILE_ROOM 32769
+#define RIGHTS_PACKED_ROOM 8704 /* bytes of the longest packed file, 17 blocks */
 
 /*
  * Stack that suffices for a call, in bytes, with what memcpy and memset take: measured on
@@ -96,6 +97,7 @@ extern "C" {
 #define RIGHTS_STACK_LIST 98304
 #define RIGHTS_STACK_ATOMS 16384
 #define RIGHTS_STACK_READ 16384
+#define RIGHTS_STACK_PACK 16384
 #define RIGHTS_STACK_VERSION 4096
 
 /* What a call answers, 32 bytes without gaps. Fields that a kind doesn't mention are 0. */
@@ -180,6 +182,7 @@ enum {
     RIGHTS_BOXES = 5,
     RIGHTS_CONTAINMENTS = 6,
     RIGHTS_ARROWS = 7,
+    RIGHTS_PACKED_FILE = 8,
     RIGHTS_ATOMIC_USERS = 11,
     RIGHTS_ATOMIC_FILES = 12
 };
@@ -311,6 +314,27 @@ rights_reply rights_read(
     uint16_t *rows, size_t rows_len,
     uint16_t *arrows, size_t arrows_len);
 
+/*
+ * Packs a picture into a block file.
+ *   There is one packing of a picture: box blocks, then containment blocks, then arrow blocks,
+ *   those of each kind full but the last, none empty, except that a picture without boxes has one
+ *   box block of count 0. Rows keep their order, repeated ones included. Two pictures have the
+ *   same packed bytes only if their tables are equal.
+ *   Asks     file of as many bytes as the packed file has, 512 a block: one block for the boxes,
+ *            one for each 125 containments and one for each 83 arrows, begun ones included.
+ *            RIGHTS_PACKED_ROOM always suffices.
+ *   Answers  DONE with a, the length of the packed file in bytes, or REFUSED by the first of 1 to
+ *            7, 9. A picture with a box that contains itself is packed.
+ *   Leaves   after DONE the packed file in the first a bytes, bytes beyond them untouched. A
+ *            refusal leaves file untouched.
+ *   Note     write a bytes, not file_len. rights_read returns the same three tables from them.
+ */
+rights_reply rights_pack(
+    const uint8_t *boxes, size_t boxes_len,
+    const uint16_t *rows, size_t rows_len,
+    const uint16_t *arrows, size_t arrows_len,
+    uint8_t *file, size_t file_len);
+
 /* The version of the library: RIGHTS_VERSION of the header that belongs to it. */
 uint32_t rights_version(void);
 
@@ -366,6 +390,7 @@ static inline const char *rights_buffer_name(uint64_t buffer) {
     case RIGHTS_BOXES: return "boxes";
     case RIGHTS_CONTAINMENTS: return "containments";
     case RIGHTS_ARROWS: return "arrows";
+    case RIGHTS_PACKED_FILE: return "packed file";
     case RIGHTS_ATOMIC_USERS: return "atomic users";
     case RIGHTS_ATOMIC_FILES: return "atomic files";
     default: return "unknown buffer";

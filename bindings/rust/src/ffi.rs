@@ -97,4 +97,14 @@ extern "C" {
         arrows: *mut u16,
         arrows_len: usize,
     ) -> Reply;
+    pub fn rights_pack(
+        boxes: *const u8,
+        boxes_len: usize,
+        rows: *const u16,
+        rows_len: usize,
+        arrows: *const u16,
+        arrows_len: usize,
+        file: *mut u8,
+        file_len: usize,
+    ) -> Reply;
 }

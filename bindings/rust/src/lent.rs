@@ -21,6 +21,8 @@ pub const CONTAINED_THROUGH_OTHERS: u8 = 1;
 pub const CONTAINED_DIRECTLY: u8 = 2;
 /// Stands for "no arrow" in the matrix numbers, and in the list after refusal 13.
 pub const NO_ARROW: u16 = 65_535;
+/// The bytes of the longest packed file, 17 blocks.
+pub const PACKED_ROOM: usize = 8_704;
 
 /// The three tables of a picture as plain numbers, good or bad; faults are refused.
 #[derive(Clone, Copy, Debug, Default, PartialEq, Eq)]
@@ -255,6 +257,38 @@ impl Tables<'_> {
         };
         let [users, files] = reply.two_counts()?;
         Ok(AtomCounts { users, files })
+    }
+
+    /// Packs the picture into a block file and answers the file's length in bytes; bytes beyond it
+    /// stay. [`PACKED_ROOM`] bytes always suffice. What the packing is: [`Picture::pack`](crate::Picture::pack).
+    ///
+    /// ```
+    /// use rights::lent::{Tables, PACKED_ROOM};
+    ///
+    /// let picture = Tables {
+    ///     boxes: &[0, 0, 0, 1],
+    ///     containments: &[2, 0, 2, 1],
+    ///     arrows: &[0, 3, 0, 1, 2, 3, 0, 0],
+    /// };
+    /// let mut file = [0; PACKED_ROOM];
+    /// let length = picture.pack(&mut file)?;
+    /// assert_eq!(file[..length], std::fs::read("../../samples/B.blk").unwrap());
+    /// # Ok::<(), rights::Refusal>(())
+    /// ```
+    pub fn pack(&self, file: &mut [u8]) -> Result<usize, Refusal> {
+        let reply = unsafe {
+            ffi::rights_pack(
+                self.boxes.as_ptr(),
+                self.boxes.len(),
+                self.containments.as_ptr(),
+                self.containments.len(),
+                self.arrows.as_ptr(),
+                self.arrows.len(),
+                file.as_mut_ptr(),
+                file.len(),
+            )
+        };
+        reply.count()
     }
 }
 

@@ -36,8 +36,8 @@
 //!   or file. Groups and folders never are, also with nothing in them ([`BoxKind`]); an arrow at an
 //!   empty one is no fault and reaches nothing. Pairs are of an atomic user and an atomic file.
 //! - A call that doesn't answer is **refused**: [`Refusal`] says why and where.
-//! - A **block file** is the format that drawing tools write and [`Picture::read`] reads: blocks of
-//!   512 bytes. `samples/` in the repository has some.
+//! - A **block file** is the format that drawing tools write: blocks of 512 bytes. [`Picture::read`]
+//!   reads and [`Picture::pack`] writes it. `samples/` in the repository has some.
 //!
 //! # Two layers
 //!
@@ -48,7 +48,7 @@
 //! # Threads and stack
 //!
 //! Calls keep no state and may run at the same time. 16 KiB of stack suffice for an entry, the
-//! atomic boxes and for reading, 64 KiB for judge and matrix, 96 KiB for the list.
+//! atomic boxes, for reading and for packing, 64 KiB for judge and matrix, 96 KiB for the list.
 //!
 //! # Building
 //!
@@ -80,7 +80,7 @@ pub use rows::{Arrow, BoxKind, Mode, Side, Sign};
 /// The library's version: major, minor, patch.
 ///
 /// ```
-/// assert_eq!(rights::version(), (3, 0, 0));
+/// assert_eq!(rights::version(), (3, 1, 0));
 /// ```
 pub fn version() -> (u8, u8, u8) {
     // SAFETY: the call takes nothing and keeps nothing.

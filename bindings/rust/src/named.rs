@@ -74,6 +74,8 @@ pub enum Buffer {
     Containments = 6,
     /// 7: the arrows to be read, four numbers each.
     Arrows = 7,
+    /// 8: the packed file, 512 bytes a block.
+    PackedFile = 8,
     /// 11: the atomic users.
     Users = 11,
     /// 12: the atomic files.
@@ -81,7 +83,7 @@ pub enum Buffer {
 }
 
 impl Buffer {
-    pub(crate) const ALL: [Buffer; 10] = [
+    pub(crate) const ALL: [Buffer; 11] = [
         Buffer::Scratch,
         Buffer::MatrixBytes,
         Buffer::MatrixNumbers,
@@ -90,6 +92,7 @@ impl Buffer {
         Buffer::Boxes,
         Buffer::Containments,
         Buffer::Arrows,
+        Buffer::PackedFile,
         Buffer::Users,
         Buffer::Files,
     ];
@@ -106,6 +109,7 @@ impl fmt::Display for Buffer {
             Buffer::Boxes => "boxes",
             Buffer::Containments => "containments",
             Buffer::Arrows => "arrows",
+            Buffer::PackedFile => "packed file",
             Buffer::Users => "users",
             Buffer::Files => "files",
         })

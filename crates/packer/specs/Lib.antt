@@ -1,0 +1,4 @@
+pub mod Packed
+pub mod Packs
+pub mod Walks
+pub mod Cases

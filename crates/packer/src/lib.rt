@@ -1,0 +1,343 @@
+// Packs a picture into a block file: blocks of each kind full but the last, none empty but the one of a picture without boxes.
+ghost use mathlib.Core.Path.{_≡_};
+ghost use mathlib.Core.List.{[], _∷_};
+ghost use Prim.Native.Nat.{_+_, _*_, _/_, _%_, _^_, _<_, _≤_};
+ghost use lib.ListN.{length, take, drop};
+ghost use lib.Seq.{sets};
+ghost use Rattle.tables.specs.Buffers.{zeros};
+ghost use Rattle.tables.specs.Rows.{rowCount, arrowCount};
+ghost use Rattle.blocks.specs.Fnv.{fnv1a};
+ghost use Rattle.blocks.specs.Blocks.{byKind, capacity, recordSize, joined};
+ghost use Rattle.packer.specs.Packed.{bytes16, bytes32, headBytes, blockOf, least, blocksFor};
+ghost use Rattle.packer.specs.Packed.{boxBytes, containmentBytes, arrowBytes, recordBytes, rowsOf, blocksOf, firstOf, kindBlock, kindBytes};
+ghost use Rattle.packer.specs.Packs.{packAnswer, fileAfter};
+ghost use Rattle.packer.specs.Walks.{walkFrom, step, Walked};
+use blocks::ArrowRecord;
+use blocks::BoxRecord;
+use blocks::Check;
+use blocks::ContainmentRecord;
+use tables::Arrow;
+use tables::Containment;
+use tables::Refusal;
+use tables::Verdict;
+use tables::check_room;
+use tables::narrow;
+
+const BLOCK_SIZE: usize = 512;
+
+// A walk over the rows of a kind: the number of the kind's first block, a row, its block counted from that one, and its place in
+// the block.
+struct Walk {
+    first: usize,
+    row: usize,
+    block: usize,
+    place: usize,
+}
+
+impl Walk {
+    // At the first row.
+    fn from(first: usize) -> Self
+        ensures { λ r. ⌜ r ≡ walkFrom first ⌝ }
+    {
+        Self {
+            first,
+            row: 0,
+            block: 0,
+            place: 0,
+        }
+    }
+
+    // At the next row: the next place, or the first place of the next block.
+    fn next(self, capacity: usize) -> Self
+        requires { ⌜ (self .row < 2 ^ 32) × (self .block < 2 ^ 32) × (self .place < 2 ^ 32) ⌝ }
+        ensures { λ r. ⌜ r ≡ step capacity self ⌝ }
+    {
+        if self.place + 1 == capacity {
+            return Self {
+                first: self.first,
+                row: self.row + 1,
+                block: self.block + 1,
+                place: 0,
+            };
+        }
+        Self {
+            first: self.first,
+            row: self.row + 1,
+            block: self.block,
+            place: self.place + 1,
+        }
+    }
+
+    // The byte at which the block begins.
+    fn block_at(self) -> usize
+        requires { ⌜ (self .first < 2 ^ 32) × (self .block < 2 ^ 32) ⌝ }
+        ensures { λ r. ⌜ r ≡ 512 * (self .first + self .block) ⌝ }
+    {
+        BLOCK_SIZE * (self.first + self.block)
+    }
+}
+
+// How many blocks so many rows fill.
+fn blocks_for(rows: usize, capacity: usize) -> usize
+    requires { ⌜ (0 < capacity) × (capacity ≤ 500) × (rows < 2 ^ 32) ⌝ }
+    ensures { λ r. ⌜ r ≡ blocksFor capacity rows ⌝ }
+{
+    let mut blocks = 0;
+    let mut room = 0;
+    while room < rows {
+        blocks += 1;
+        room += capacity;
+    }
+    blocks
+}
+
+// A byte, where what is above it is 0 or not wanted.
+fn low8(x: u16) -> u8
+    ensures { λ r. ⌜ r ≡ x % 256 ⌝ }
+{
+    (x % 256) as u8
+}
+
+// Writes a number of 16 bits.
+fn put16(x: u16, at: usize, file: &mut [u8])
+    requires { ⌜ at + 2 ≤ length (now file) ⌝ }
+    ensures { λ _. ⌜ now (file .exit) ≡ sets (now (file .entry)) at (bytes16 x) ⌝ }
+{
+    file[at] = low8(x);
+    file[at + 1] = low8(x / 256);
+}
+
+fn low16(x: u32) -> u16
+    ensures { λ r. ⌜ r ≡ x % 65536 ⌝ }
+{
+    (x % 65536) as u16
+}
+
+// Writes a number of 32 bits.
+fn put32(x: u32, at: usize, file: &mut [u8])
+    requires { ⌜ at + 4 ≤ length (now file) ⌝ }
+    ensures { λ _. ⌜ now (file .exit) ≡ sets (now (file .entry)) at (bytes32 x) ⌝ }
+{
+    put16(low16(x), at, file);
+    put16(low16(x / 65536), at + 2, file);
+}
+
+// Writes two bytes.
+fn put_two(x: u8, y: u8, at: usize, file: &mut [u8])
+    requires { ⌜ at + 2 ≤ length (now file) ⌝ }
+    ensures { λ _. ⌜ now (file .exit) ≡ sets (now (file .entry)) at (x ∷ y ∷ []) ⌝ }
+{
+    file[at] = x;
+    file[at + 1] = y;
+}
+
+// Writes a block's head.
+fn put_head(kind: u8, number: u16, count: u16, at: usize, file: &mut [u8])
+    requires { ⌜ at + 8 ≤ length (now file) ⌝ }
+    ensures { λ _. ⌜ now (file .exit) ≡ sets (now (file .entry)) at (headBytes kind number count) ⌝ }
+{
+    put_two(kind, 0, at, file);
+    put16(number, at + 2, file);
+    put16(count, at + 4, file);
+    put_two(0, 0, at + 6, file);
+}
+
+// Writes the record of a box.
+fn put_box(boxes: &[u8], row: usize, at: usize, file: &mut [u8])
+    requires { ⌜ (row < length (now boxes)) × (at + 1 ≤ length (now file)) ⌝ }
+    ensures { λ _. ⌜ now (file .exit) ≡ sets (now (file .entry)) at (boxBytes (now (boxes .entry)) row) ⌝ }
+{
+    file[at] = boxes[row];
+}
+
+// Writes the record of a containment.
+fn put_containment(rows: &[u16], row: usize, at: usize, file: &mut [u8])
+    requires { ⌜ (row < rowCount (now rows)) × (at + 4 ≤ length (now file)) ⌝ }
+    ensures { λ _. ⌜ now (file .exit) ≡ sets (now (file .entry)) at (containmentBytes (now (rows .entry)) row) ⌝ }
+{
+    let r = Containment::at(rows, row);
+    put16(r.outer, at, file);
+    put16(r.inner, at + 2, file);
+}
+
+// Writes the record of an arrow.
+fn put_arrow(arrows: &[u16], row: usize, at: usize, file: &mut [u8])
+    requires { ⌜ (row < arrowCount (now arrows)) × (at + 6 ≤ length (now file)) ⌝ }
+    ensures { λ _. ⌜ now (file .exit) ≡ sets (now (file .entry)) at (arrowBytes (now (arrows .entry)) row) ⌝ }
+{
+    let a = Arrow::at(arrows, row);
+    put16(a.tail, at, file);
+    put16(a.head, at + 2, file);
+    put_two(low8(a.mode), low8(a.sign), at + 4, file);
+}
+
+// One of three numbers by kind, 0 for any other kind.
+fn by_kind(kind: u8, boxes: usize, containments: usize, arrows: usize) -> usize
+    ensures { λ r. ⌜ r ≡ byKind kind boxes containments arrows ⌝ }
+{
+    if kind == BoxRecord::KIND {
+        return boxes;
+    }
+    if kind == ContainmentRecord::KIND {
+        return containments;
+    }
+    if kind == ArrowRecord::KIND {
+        return arrows;
+    }
+    0
+}
+
+// How many records a block of a kind holds.
+fn capacity_of(kind: u8) -> usize
+    ensures { λ r. ⌜ r ≡ capacity kind ⌝ }
+{
+    by_kind(
+        kind,
+        BoxRecord::CAPACITY,
+        ContainmentRecord::CAPACITY,
+        ArrowRecord::CAPACITY,
+    )
+}
+
+// How many bytes a record of a kind has.
+fn size_of(kind: u8) -> usize
+    ensures { λ r. ⌜ r ≡ recordSize kind ⌝ }
+{
+    by_kind(
+        kind,
+        BoxRecord::SIZE,
+        ContainmentRecord::SIZE,
+        ArrowRecord::SIZE,
+    )
+}
+
+// Writes the record of the row at which the walk stands.
+fn put_record(kind: u8, boxes: &[u8], rows: &[u16], arrows: &[u16], walk: Walk, file: &mut [u8]) {
+    let from = walk.block_at() + 8;
+    if kind == BoxRecord::KIND {
+        put_box(boxes, walk.row, from + walk.place, file);
+        return;
+    }
+    if kind == ContainmentRecord::KIND {
+        put_containment(rows, walk.row, from + ContainmentRecord::SIZE * walk.place, file);
+        return;
+    }
+    put_arrow(arrows, walk.row, from + ArrowRecord::SIZE * walk.place, file);
+}
+
+// Writes the records of a block, from its first place on, and answers the walk behind them.
+fn put_records(
+    kind: u8,
+    boxes: &[u8],
+    rows: &[u16],
+    arrows: &[u16],
+    walk: Walk,
+    count: usize,
+    file: &mut [u8],
+) -> Walk {
+    let capacity = capacity_of(kind);
+    let mut w = walk;
+    for j in 0..count {
+        put_record(kind, boxes, rows, arrows, w, file);
+        w = w.next(capacity);
+    }
+    w
+}
+
+// Writes zeros.
+fn put_zeros(count: usize, at: usize, file: &mut [u8])
+    requires { ⌜ at + count ≤ length (now file) ⌝ }
+    ensures { λ _. ⌜ now (file .exit) ≡ sets (now (file .entry)) at (zeros count) ⌝ }
+{
+    for i in 0..count {
+        file[at + i] = 0;
+    }
+}
+
+// Writes the check of the 508 bytes from a place on behind them.
+fn put_check(at: usize, file: &mut [u8])
+    requires { ⌜ at + 512 ≤ length (now file) ⌝ }
+    ensures { λ _. ⌜ now (file .exit) ≡ sets (now (file .entry)) (at + 508) (bytes32 (fnv1a (take 508 (drop at (now (file .entry)))))) ⌝ }
+{
+    let to = at + Check::COVERED;
+    let c = Check::fresh().part(&file[at..to]);
+    put32(c.state, to, file);
+}
+
+// Writes the block at which the walk stands, with so many records, and answers the walk behind them.
+fn put_block(
+    kind: u8,
+    boxes: &[u8],
+    rows: &[u16],
+    arrows: &[u16],
+    walk: Walk,
+    count: usize,
+    file: &mut [u8],
+) -> Walk {
+    let at = walk.block_at();
+    put_head(kind, narrow(walk.first + walk.block), narrow(count), at, file);
+    let w = put_records(kind, boxes, rows, arrows, walk, count, file);
+    let used = size_of(kind) * count;
+    put_zeros(500 - used, at + 8 + used, file);
+    put_check(at, file);
+    w
+}
+
+// The smaller of two.
+fn least_of(a: usize, b: usize) -> usize
+    ensures { λ r. ⌜ r ≡ least a b ⌝ }
+{
+    if a < b {
+        return a;
+    }
+    b
+}
+
+// Writes the blocks of a kind, from the number of its first block on.
+fn put_kind(
+    kind: u8,
+    boxes: &[u8],
+    rows: &[u16],
+    arrows: &[u16],
+    first: usize,
+    blocks: usize,
+    file: &mut [u8],
+) {
+    let total = by_kind(kind, boxes.len(), rows.len() / 2, arrows.len() / 4);
+    let capacity = capacity_of(kind);
+    let mut walk = Walk::from(first);
+    for k in 0..blocks {
+        let count = least_of(total - walk.row, capacity);
+        walk = put_block(kind, boxes, rows, arrows, walk, count, file);
+    }
+}
+
+// What packing answers: the file's length, or a refusal.
+pub enum Packing {
+    Packed(usize),
+    Refused(Refusal),
+}
+
+// Packs a picture into a lent file. Checks 1 to 7, then 9 with buffer 8, before a byte is written. A picture's boxes, at most 256,
+// fill one block.
+pub fn pack(boxes: &[u8], rows: &[u16], arrows: &[u16], file: &mut [u8]) -> Packing
+    ensures { λ r. ⌜ r ≡ packAnswer (now (boxes .entry)) (now (rows .entry)) (now (arrows .entry)) (now (file .entry)) ⌝ }
+    ensures { λ _. ⌜ now (file .exit)
+        ≡ fileAfter (now (boxes .entry)) (now (rows .entry)) (now (arrows .entry)) (now (file .entry)) ⌝ }
+{
+    let tables = tables::check(boxes, rows, arrows);
+    if let Verdict::Refused(r) = tables {
+        return Packing::Refused(r);
+    }
+    let second = blocks_for(rows.len() / 2, ContainmentRecord::CAPACITY);
+    let third = blocks_for(arrows.len() / 4, ArrowRecord::CAPACITY);
+    let need = BLOCK_SIZE * (1 + second + third);
+    let room = check_room(8, file.len(), need);
+    if let Verdict::Refused(r) = room {
+        return Packing::Refused(r);
+    }
+    put_kind(BoxRecord::KIND, boxes, rows, arrows, 0, 1, file);
+    put_kind(ContainmentRecord::KIND, boxes, rows, arrows, 1, second, file);
+    put_kind(ArrowRecord::KIND, boxes, rows, arrows, 1 + second, third, file);
+    Packing::Packed(need)
+}
