@@ -219,10 +219,20 @@ fn put_record(kind: u8, boxes: &[u8], rows: &[u16], arrows: &[u16], walk: Walk, 
         return;
     }
     if kind == ContainmentRecord::KIND {
-        put_containment(rows, walk.row, from + ContainmentRecord::SIZE * walk.place, file);
+        put_containment(
+            rows,
+            walk.row,
+            from + ContainmentRecord::SIZE * walk.place,
+            file,
+        );
         return;
     }
-    put_arrow(arrows, walk.row, from + ArrowRecord::SIZE * walk.place, file);
+    put_arrow(
+        arrows,
+        walk.row,
+        from + ArrowRecord::SIZE * walk.place,
+        file,
+    );
 }
 
 // Writes the records of a block, from its first place on, and answers the walk behind them.
@@ -275,7 +285,13 @@ fn put_block(
     file: &mut [u8],
 ) -> Walk {
     let at = walk.block_at();
-    put_head(kind, narrow(walk.first + walk.block), narrow(count), at, file);
+    put_head(
+        kind,
+        narrow(walk.first + walk.block),
+        narrow(count),
+        at,
+        file,
+    );
     let w = put_records(kind, boxes, rows, arrows, walk, count, file);
     let used = size_of(kind) * count;
     put_zeros(500 - used, at + 8 + used, file);
@@ -337,7 +353,23 @@ pub fn pack(boxes: &[u8], rows: &[u16], arrows: &[u16], file: &mut [u8]) -> Pack
         return Packing::Refused(r);
     }
     put_kind(BoxRecord::KIND, boxes, rows, arrows, 0, 1, file);
-    put_kind(ContainmentRecord::KIND, boxes, rows, arrows, 1, second, file);
-    put_kind(ArrowRecord::KIND, boxes, rows, arrows, 1 + second, third, file);
+    put_kind(
+        ContainmentRecord::KIND,
+        boxes,
+        rows,
+        arrows,
+        1,
+        second,
+        file,
+    );
+    put_kind(
+        ArrowRecord::KIND,
+        boxes,
+        rows,
+        arrows,
+        1 + second,
+        third,
+        file,
+    );
     Packing::Packed(need)
 }
