@@ -1,3 +1,6 @@
 -- Laws for the proofs of this crate and of the crates above it.
 pub mod Putting
 pub mod Lengths
+pub mod Walking
+pub mod Counting
+pub mod Records
