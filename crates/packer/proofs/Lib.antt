@@ -4,3 +4,4 @@ pub mod Lengths
 pub mod Walking
 pub mod Counting
 pub mod Records
+pub mod Writing

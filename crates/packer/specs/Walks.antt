@@ -2,9 +2,11 @@
 -- from the kind's first block, and its place in the block. No promise of a pub function names it. Assumes nothing.
 use mathlib.Core.Path.{_≡_}
 use mathlib.Core.Bool.{cond}
+use mathlib.Core.List.{List}
 use Prim.Native.Nat.{ℕ, zero, suc, _+_, _*_, _<_, _≤_}
 use lib.Dec.{eqb}
 use Rattle.blocks.specs.Blocks.{capacity, recordSize}
+use Rattle.packer.specs.Packed.{rowsOf, blocksOf, firstOf}
 use Rattle.packer.specs.declared.Walk.{Walk}
 
 -- at the first row of a kind whose first block has a number
@@ -52,3 +54,13 @@ pub record Begins (kind total len : ℕ) (w : Walk) (count : ℕ) : Type 0 where
   pub the-place : w .place ≡ 0
   pub the-block : w .first + w .block < 64
   pub room : blockAt w + 512 ≤ len
+
+-- the blocks of a kind, from the number of its first one on, have room in a file of so many bytes
+pub record KindFits (boxes rows arrows : List ℕ) (kind first blocks len : ℕ) : Type 0 where
+  pub low : 1 ≤ kind
+  pub high : kind ≤ 3
+  pub few : rowsOf boxes rows arrows kind ≤ 1024
+  pub the-first : first ≡ firstOf boxes rows arrows kind
+  pub the-blocks : blocks ≡ blocksOf boxes rows arrows kind
+  pub numbers : first + blocks ≤ 64
+  pub room : 512 * (first + blocks) ≤ len

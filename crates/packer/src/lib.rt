@@ -9,9 +9,9 @@ ghost use Rattle.tables.specs.Rows.{rowCount, arrowCount};
 ghost use Rattle.blocks.specs.Fnv.{fnv1a};
 ghost use Rattle.blocks.specs.Blocks.{byKind, capacity, recordSize, joined};
 ghost use Rattle.packer.specs.Packed.{bytes16, bytes32, headBytes, blockOf, least, blocksFor};
-ghost use Rattle.packer.specs.Packed.{boxBytes, containmentBytes, arrowBytes, recordBytes, rowsOf, blocksOf, firstOf, kindBytes};
+ghost use Rattle.packer.specs.Packed.{boxBytes, containmentBytes, arrowBytes, recordBytes, rowsOf, kindBytes};
 ghost use Rattle.packer.specs.Packs.{packAnswer, fileAfter};
-ghost use Rattle.packer.specs.Walks.{walkFrom, step, steps, blockAt, recordAt, Within, Begins};
+ghost use Rattle.packer.specs.Walks.{walkFrom, step, steps, blockAt, recordAt, Within, Begins, KindFits};
 use blocks::ArrowRecord;
 use blocks::BoxRecord;
 use blocks::Check;
@@ -343,9 +343,7 @@ fn put_kind(
     blocks: usize,
     file: &mut [u8],
 )
-    requires { ⌜ (1 ≤ kind) × (kind ≤ 3) × (rowsOf (now boxes) (now rows) (now arrows) kind ≤ 1024) ⌝ }
-    requires { ⌜ (first ≡ firstOf (now boxes) (now rows) (now arrows) kind) × (blocks ≡ blocksOf (now boxes) (now rows) (now arrows) kind) ⌝ }
-    requires { ⌜ (first + blocks ≤ 64) × (512 * (first + blocks) ≤ length (now file)) ⌝ }
+    requires { ⌜ KindFits (now boxes) (now rows) (now arrows) kind first blocks (length (now file)) ⌝ }
     ensures { λ _. ⌜ now (file .exit) ≡ sets (now (file .entry)) (512 * first)
         (kindBytes (now (boxes .entry)) (now (rows .entry)) (now (arrows .entry)) kind) ⌝ }
 {
