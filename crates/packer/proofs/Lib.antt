@@ -1,2 +1,6 @@
 -- Laws for the proofs of this crate and of the crates above it.
+pub mod Putting
+pub mod Lengths
 pub mod Chunks
+pub mod Regular
+pub mod BlockSays

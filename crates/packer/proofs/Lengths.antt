@@ -1,0 +1,97 @@
+-- The lengths of records, of blocks and of the packed file. Assumes nothing.
+use mathlib.Core.Path.{_≡_, refl}
+use mathlib.Core.Bool.{Bool, true, false, cond}
+use mathlib.Core.List.{List}
+use mathlib.Core.Logic.{⊎-elim, _⊎_, inl, inr}
+use Prim.Native.Nat.{ℕ, zero, suc, _+_, _*_, _-_, _<_, _≤_}
+use native.Mathlib.Omega.{arith}
+use borrow.Author.Tests.{ltb-true, ltb-false}
+use lib.Dec.{ltb}
+use lib.ListN.{length, length-append}
+use Rattle.tables.proofs.BufferLaws.{zeros-length}
+use Rattle.blocks.specs.Blocks.{byKind, capacity, recordSize}
+use Rattle.blocks.proofs.Placing.{joined-length}
+use Rattle.packer.specs.Packed.{bytes16, bytes32, boxBytes, containmentBytes, arrowBytes, headBytes, covered, blockOf, least}
+use Rattle.packer.specs.Packed.{rowsOf, recordBytes, blocksOf, countIn, kindBlock, kindBytes, packed}
+
+-- 1, 2 or 3
+abbrev pub Kind : ℕ → Type 0
+Kind k = (k ≡ 1) ⊎ ((k ≡ 2) ⊎ (k ≡ 3))
+
+pub kinds : (kind : ℕ) → 1 ≤ kind → kind ≤ 3 → Kind kind
+kinds zero h l = absurd (omega arith)
+kinds (suc zero) h l = inl refl
+kinds (suc (suc zero)) h l = inr (inl refl)
+kinds (suc (suc (suc zero))) h l = inr (inr refl)
+kinds (suc (suc (suc (suc k)))) h l = absurd (omega arith)
+
+-- the smaller of two
+pub least-most : (a b : ℕ) → (least a b ≤ a) × (least a b ≤ b)
+unfolding least
+least-most a b = go (ltb a b) refl
+  where
+    go : (t : Bool) → ltb a b ≡ t → (cond t a b ≤ a) × (cond t a b ≤ b)
+    go true e = let h = ltb-true a b e in (omega arith, omega arith)
+    go false e = let h = ltb-false a b e in (omega arith, omega arith)
+
+pub head-length : (kind number count : ℕ) → length (headBytes kind number count) ≡ 8
+unfolding headBytes bytes16
+head-length kind number count = refl
+
+module _ (kind : ℕ) (low : 1 ≤ kind) (high : kind ≤ 3) where
+  -- what holds of each kind holds
+  pub of-kind : (P : ℕ → Type 0) → P 1 → P 2 → P 3 → P kind
+  of-kind P a b c = ⊎-elim (λ e. rw e a) (λ d. ⊎-elim (λ e. rw e b) (λ e. rw e c) d) (kinds kind low high)
+
+  pub capacity-some : 0 < capacity kind
+  unfolding byKind capacity
+  capacity-some = of-kind (λ k. 0 < capacity k) (omega arith) (omega arith) (omega arith)
+
+  pub capacity-most : capacity kind ≤ 500
+  unfolding byKind capacity
+  capacity-most = of-kind (λ k. capacity k ≤ 500) (omega arith) (omega arith) (omega arith)
+
+  -- the records of a block fit between its head and its check
+  pub records-fit : (count : ℕ) → count ≤ capacity kind → recordSize kind * count ≤ 500
+  unfolding byKind capacity recordSize
+  records-fit count = of-kind (λ k. count ≤ capacity k → recordSize k * count ≤ 500) (λ h. omega arith) (λ h. omega arith) (λ h. omega arith)
+
+  -- a record has as many bytes as its kind says
+  pub record-length : (boxes rows arrows : List ℕ) (i : ℕ) → length (recordBytes boxes rows arrows kind i) ≡ recordSize kind
+  unfolding byKind recordSize recordBytes boxBytes containmentBytes arrowBytes bytes16
+  record-length boxes rows arrows i = of-kind (λ k. length (recordBytes boxes rows arrows k i) ≡ recordSize k) refl refl refl
+
+  -- a block has 512 bytes, 508 of which its check covers
+  module _ (number count : ℕ) (records : ℕ → List ℕ) (most : count ≤ capacity kind) (len : (j : ℕ) → length (records j) ≡ recordSize kind) where
+    pub covered-length : length (covered kind number count records) ≡ 508
+    unfolding covered
+    covered-length =
+        let fit = records-fit count most in
+        simp (length-append, head-length kind number count, joined-length records (recordSize kind) count (λ j h. len j), zeros-length) (omega arith)
+
+    pub block-length : length (blockOf kind number count records) ≡ 512
+    unfolding blockOf bytes32 bytes16
+    block-length = simp (length-append, covered-length)
+
+  module _ (boxes rows arrows : List ℕ) where
+    pub count-most : (k : ℕ) → countIn boxes rows arrows kind k ≤ capacity kind
+    unfolding countIn
+    count-most k = least-most (rowsOf boxes rows arrows kind - capacity kind * k) (capacity kind) .1
+
+    pub kind-block-length : (k : ℕ) → length (kindBlock boxes rows arrows kind k) ≡ 512
+    unfolding kindBlock
+    kind-block-length k = block-length _ _ _ (count-most k) (λ j. record-length boxes rows arrows (capacity kind * k + j))
+
+    pub kind-length : length (kindBytes boxes rows arrows kind) ≡ 512 * blocksOf boxes rows arrows kind
+    unfolding kindBytes
+    kind-length = joined-length _ 512 (blocksOf boxes rows arrows kind) (λ k h. kind-block-length k)
+
+-- 512 bytes a block
+pub packed-length : (boxes rows arrows : List ℕ)
+    → length (packed boxes rows arrows) ≡ 512 * (blocksOf boxes rows arrows 1 + blocksOf boxes rows arrows 2 + blocksOf boxes rows arrows 3)
+unfolding packed
+packed-length boxes rows arrows =
+    let a = kind-length 1 (omega arith) (omega arith) boxes rows arrows in
+    let b = kind-length 2 (omega arith) (omega arith) boxes rows arrows in
+    let c = kind-length 3 (omega arith) (omega arith) boxes rows arrows in
+    simp length-append (omega arith)
