@@ -130,7 +130,9 @@ module _ (boxes rows arrows : List ℕ) where
       ≡ joined (λ j. getD boxes (capacity 1 * k + j) 0 ∷ []) (countIn boxes rows arrows 1 k)
   boxes-said k =
       boxes-are _ _ _ _ (kind-head 1 (omega arith) (omega arith) k)
-      (λ j l. box-row _ j _ (rw (record-sizes .0) at (kind-record 1 (omega arith) (omega arith) k j l)) ∙ box-bytes (capacity 1 * k + j))
+      (λ j l.
+      box-row _ j (recordBytes boxes rows arrows 1 (capacity 1 * k + j)) (rw (record-sizes .0) at (kind-record 1 (omega arith) (omega arith) k j l))
+      ∙ box-bytes (capacity 1 * k + j))
 
   pub containments-said : (k : ℕ) → containmentsSaid (kindBlock boxes rows arrows 2 k)
       ≡ joined (λ j. rowAt rows (capacity 2 * k + j) .outer ∷ rowAt rows (capacity 2 * k + j) .inner ∷ []) (countIn boxes rows arrows 2 k)

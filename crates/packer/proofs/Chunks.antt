@@ -61,6 +61,16 @@ glue-high m f g k =
     let e : m + k - m ≡ k = omega arith in
     rw (le-ltb (m + k) m (omega arith), e)
 
+-- what holds of each of both runs
+pub glue-each : (P : List ℕ → Type 0) (m n : ℕ) (f g : ℕ → List ℕ) → ((k : ℕ) → k < m → P (f k)) → ((k : ℕ) → k < n → P (g k))
+    → (k : ℕ) → k < m + n → P (glue m f g k)
+unfolding glue
+glue-each P m n f g p q k h = go (ltb k m) refl
+  where
+    go : (t : Bool) → ltb k m ≡ t → P (cond t (f k) (g (k - m)))
+    go true e = p k (ltb-true k m e)
+    go false e = let l = ltb-false k m e in q (k - m) (omega arith)
+
 -- what F makes of each, joined
 pub joined-glue : (F : List ℕ → List ℕ) (m n : ℕ) (f g : ℕ → List ℕ)
     → joined (λ k. F (glue m f g k)) (m + n) ≡ joined (λ k. F (f k)) m ++ joined (λ k. F (g k)) n

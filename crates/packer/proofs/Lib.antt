@@ -4,3 +4,4 @@ pub mod Lengths
 pub mod Chunks
 pub mod Regular
 pub mod BlockSays
+pub mod PackedBlocks

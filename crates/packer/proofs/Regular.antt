@@ -90,7 +90,16 @@ module _ (boxes rows arrows : List ℕ) where
   pub fills-3 : Fills 83 (arrowCount arrows) (blocksOf boxes rows arrows 3)
   fills-3 = rw (blocks-by-kind .2) (fills-arrows (arrowCount arrows))
 
-  -- a picture without boxes has one box block, of count 0
+  -- there is a box block
+  pub box-block : 0 < blocksOf boxes rows arrows 1
+  unfolding blocksFor
+  box-block = rw (blocks-by-kind .0) (go (eqb (length boxes) 0) refl)
+    where
+      go : (t : Bool) → eqb (length boxes) 0 ≡ t → 0 < cond t 1 ((length boxes + 499) / 500)
+      go true e = omega arith
+      go false e = let n = eqb-false (length boxes) 0 e in omega arith
+
+  -- a picture without boxes has one, of count 0
   pub no-boxes-one-block : length boxes ≡ 0 → (blocksOf boxes rows arrows 1 ≡ 1) × (countIn boxes rows arrows 1 0 ≡ 0)
   unfolding countIn
   no-boxes-one-block e =
