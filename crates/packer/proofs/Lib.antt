@@ -5,3 +5,4 @@ pub mod Chunks
 pub mod Regular
 pub mod BlockSays
 pub mod PackedBlocks
+pub mod ReadBack
