@@ -1,5 +1,5 @@
 -- The packed file as one run of blocks: each has 512 bytes, none has a fault, and together they say the three tables. Assumes nothing.
-use mathlib.Core.Path.{_≡_, refl, sym, ap, ap₂, _∙_}
+use mathlib.Core.Path.{_≡_, sym, ap, ap₂, _∙_}
 use mathlib.Core.List.{List, [], _∷_, _++_, append-nil}
 use mathlib.Core.Option.{none}
 use Prim.Native.Nat.{ℕ, _+_, _*_, _-_, _%_, _<_, _≤_}
@@ -7,8 +7,6 @@ use native.Mathlib.Omega.{arith}
 use native.Mathlib.Nat.{zero-add, add-assoc}
 use lib.ListN.{length, getD}
 use Rattle.tables.specs.Rows.{rowCount, rowAt, arrowCount, arrowAt}
-use Rattle.tables.specs.Faults.{tableFault}
-use Rattle.tables.proofs.TableLaws.{sound-rows, sound-arrows}
 use Rattle.blocks.specs.Blocks.{capacity, joined, boxesSaid, containmentsSaid, arrowsSaid}
 use Rattle.blocks.specs.Files.{kindBefore, blocksFault, boxesIn, containmentsIn, arrowsIn}
 use Rattle.blocks.proofs.Made.{joined-same}

@@ -10,7 +10,7 @@ use borrow.Author.Tests.{eq-eqb, eqb-true, eqb-false}
 use lib.Dec.{eqb, ltb}
 use lib.ListN.{length}
 use Rattle.tables.specs.Rows.{rowCount, arrowCount}
-use Rattle.blocks.specs.Blocks.{byKind, capacity}
+use Rattle.blocks.specs.Blocks.{capacity}
 use Rattle.blocks.proofs.MadeBlocks.{of-boxes, of-containments, of-arrows, capacities}
 use Rattle.packer.specs.Packed.{least, blocksFor, rowsOf, blocksOf, firstOf, countIn}
 use Rattle.packer.proofs.Lengths.{of-kind, capacity-some}
