@@ -5,21 +5,33 @@ use mathlib.Core.List.{List}
 use mathlib.Core.Option.{none}
 use Prim.Native.Nat.{ℕ, _<_, _≤_}
 use native.Mathlib.Omega.{arith}
+use borrow.Author.Tests.{le-ltb}
 use lib.ListN.{length}
+use Rattle.tables.specs.Buffers.{written}
 use Rattle.tables.specs.Rows.{rowCount, arrowCount}
-use Rattle.tables.specs.Faults.{tableFault}
+use Rattle.tables.specs.Faults.{countFault, tableFault, roomFault}
+use Rattle.tables.proofs.SearchLaws.{given-false}
 use Rattle.tables.proofs.TableLaws.{sound-rows, sound-arrows}
+use Rattle.tables.proofs.Verdicts.{past}
 use Rattle.blocks.specs.Files.{fileFault, containmentsIn, arrowsIn, boxesOf, containmentsOf, arrowsOf}
-use Rattle.blocks.specs.Reads.{countsOf}
+use Rattle.blocks.specs.Reads.{countsOf, readFault, ReadDone}
 use Rattle.blocks.specs.declared.Counts.{Counts}
-use Rattle.blocks.proofs.Made.{made-boxes, made-containments, made-arrows, made-counts, made-good}
-use Rattle.blocks.proofs.MadeBlocks.{counts-in}
+use Rattle.blocks.specs.declared.Reading.{Reading}
+use Rattle.blocks.specs.declared.Reading.the-variants.{Tables}
+use Rattle.blocks.proofs.Made.{made-boxes, made-containments, made-arrows, made-counts, made-good, made-read}
+use Rattle.blocks.proofs.MadeBlocks.{counts-in, tables-passed}
 use Rattle.packer.specs.Packed.{packed}
 use Rattle.packer.proofs.PackedBlocks.{blocks, blocksAll, packed-is, blocks-whole, blocks-good, blocks-few, boxes-packed, containments-packed, arrows-packed}
 
--- the row counts of a picture
-abbrev pub countsFor : (boxes rows arrows : List ℕ) → Counts
-countsFor boxes rows arrows = record { boxes = length boxes; containments = rowCount rows; arrows = arrowCount arrows }
+-- where a buffer has room 9 passes, and few rows pass 2
+room-enough : (buffer have need : ℕ) → need ≤ have → roomFault buffer have need ≡ none
+unfolding roomFault
+room-enough buffer have need h = given-false _ _ (le-ltb have need h)
+
+counts-few : (boxes rows arrows : ℕ) → boxes ≤ 256 → rows ≤ 1024 → arrows ≤ 512 → countFault boxes rows arrows ≡ none
+unfolding countFault
+counts-few boxes rows arrows b r a =
+    past _ _ (given-false _ _ (le-ltb 256 boxes b)) ∙ past _ _ (given-false _ _ (le-ltb 1024 rows r)) ∙ given-false _ _ (le-ltb 512 arrows a)
 
 module _ (boxes rows arrows : List ℕ) (sound : tableFault boxes rows arrows ≡ none) where
   few : (0 < blocksAll boxes rows arrows) × (blocksAll boxes rows arrows ≤ 17)
@@ -51,11 +63,37 @@ module _ (boxes rows arrows : List ℕ) (sound : tableFault boxes rows arrows �
   pub packed-arrows : arrowsOf (packed boxes rows arrows) ≡ arrows
   packed-arrows = rw packed-is (made-arrows _ _ (blocks-whole boxes rows arrows) ∙ arrows-said)
 
-  pub packed-counts : countsOf (packed boxes rows arrows) ≡ countsFor boxes rows arrows
+  pub packed-counts : countsOf (packed boxes rows arrows)
+      ≡ record { boxes = length boxes; containments = rowCount rows; arrows = arrowCount arrows }
   packed-counts =
       rw packed-is
       (made-counts _ _ (blocks-whole boxes rows arrows)
       ∙ counts-in _ _ boxes rows arrows (boxes-packed boxes rows arrows) rows-said arrows-said)
+
+  -- P1: reading a packed file into buffers that suffice returns the same three tables
+  module _ (b r a : List ℕ) (box-room : length boxes ≤ length b) (row-room : length rows ≤ length r) (arrow-room : length arrows ≤ length a) where
+    no-fault : readFault (packed boxes rows arrows) (length b) (length r) (length a) ≡ none
+    no-fault =
+        let s = sound-rows boxes rows arrows sound in
+        let t = sound-arrows boxes rows arrows sound in
+        let c = counts-in _ _ boxes rows arrows (boxes-packed boxes rows arrows) rows-said arrows-said in
+        rw packed-is
+        (made-read _ _ (blocks-whole boxes rows arrows) (few .0) (omega (arith, few .1)) (blocks-good boxes rows arrows) (length b) (length r) (length a)
+        ∙ rw c (tables-passed _ (length b) (length r) (length a)
+        (counts-few _ _ _ (s .few-boxes) (s .few-rows) (t .few-arrows))
+        (room-enough 5 _ _ box-room) (room-enough 6 _ _ (omega arith)) (room-enough 7 _ _ (omega arith))))
+
+  pub read-back : (b r a b' r' a' : List ℕ) (x : Reading) → length boxes ≤ length b → length rows ≤ length r → length arrows ≤ length a
+      → ReadDone (packed boxes rows arrows) b r a b' r' a' x
+      → (x ≡ Tables (record { boxes = length boxes; containments = rowCount rows; arrows = arrowCount arrows }))
+      × (b' ≡ written boxes b) × (r' ≡ written rows r) × (a' ≡ written arrows a)
+  read-back b r a b' r' a' x p q s d =
+      let e = no-fault b r a p q s in (
+        (rw e at (d .answer)) ∙ ap (λ (c : Counts). Tables c) packed-counts,
+        (rw e at (d .boxes-end)) ∙ ap (λ (l : List ℕ). written l b) packed-boxes,
+        (rw e at (d .rows-end)) ∙ ap (λ (l : List ℕ). written l r) packed-containments,
+        (rw e at (d .arrows-end)) ∙ ap (λ (l : List ℕ). written l a) packed-arrows,
+      )
 
 -- P1: two pictures have the same packed bytes only if their tables are equal
 pub same-bytes : (boxes rows arrows boxes' rows' arrows' : List ℕ) → tableFault boxes rows arrows ≡ none → tableFault boxes' rows' arrows' ≡ none
