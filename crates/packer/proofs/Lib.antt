@@ -1,6 +1,9 @@
 -- Laws for the proofs of this crate and of the crates above it.
 pub mod Putting
 pub mod Lengths
+pub mod Walking
+pub mod Counting
+pub mod Records
 pub mod Chunks
 pub mod Regular
 pub mod BlockSays

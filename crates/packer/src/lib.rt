@@ -9,9 +9,9 @@ ghost use Rattle.tables.specs.Rows.{rowCount, arrowCount};
 ghost use Rattle.blocks.specs.Fnv.{fnv1a};
 ghost use Rattle.blocks.specs.Blocks.{byKind, capacity, recordSize, joined};
 ghost use Rattle.packer.specs.Packed.{bytes16, bytes32, headBytes, blockOf, least, blocksFor};
-ghost use Rattle.packer.specs.Packed.{boxBytes, containmentBytes, arrowBytes, recordBytes, rowsOf, blocksOf, firstOf, kindBlock, kindBytes};
+ghost use Rattle.packer.specs.Packed.{boxBytes, containmentBytes, arrowBytes, recordBytes, rowsOf, blocksOf, firstOf, kindBytes};
 ghost use Rattle.packer.specs.Packs.{packAnswer, fileAfter};
-ghost use Rattle.packer.specs.Walks.{walkFrom, step, Walked};
+ghost use Rattle.packer.specs.Walks.{walkFrom, step, steps, blockAt, recordAt, Within, Begins};
 use blocks::ArrowRecord;
 use blocks::BoxRecord;
 use blocks::Check;
@@ -70,8 +70,8 @@ impl Walk {
 
     // The byte at which the block begins.
     fn block_at(self) -> usize
-        requires { ⌜ (self .first < 2 ^ 32) × (self .block < 2 ^ 32) ⌝ }
-        ensures { λ r. ⌜ r ≡ 512 * (self .first + self .block) ⌝ }
+        requires { ⌜ self .first + self .block < 2 ^ 32 ⌝ }
+        ensures { λ r. ⌜ r ≡ blockAt self ⌝ }
     {
         BLOCK_SIZE * (self.first + self.block)
     }
@@ -79,7 +79,7 @@ impl Walk {
 
 // How many blocks so many rows fill.
 fn blocks_for(rows: usize, capacity: usize) -> usize
-    requires { ⌜ (0 < capacity) × (capacity ≤ 500) × (rows < 2 ^ 32) ⌝ }
+    requires { ⌜ (0 < capacity) × (capacity < 2 ^ 32) × (rows < 2 ^ 32) ⌝ }
     ensures { λ r. ⌜ r ≡ blocksFor capacity rows ⌝ }
 {
     let mut blocks = 0;
@@ -91,20 +91,16 @@ fn blocks_for(rows: usize, capacity: usize) -> usize
     blocks
 }
 
-// A byte, where what is above it is 0 or not wanted.
 fn low8(x: u16) -> u8
     ensures { λ r. ⌜ r ≡ x % 256 ⌝ }
 {
     (x % 256) as u8
 }
 
-// Writes a number of 16 bits.
-fn put16(x: u16, at: usize, file: &mut [u8])
-    requires { ⌜ at + 2 ≤ length (now file) ⌝ }
-    ensures { λ _. ⌜ now (file .exit) ≡ sets (now (file .entry)) at (bytes16 x) ⌝ }
+fn high8(x: u16) -> u8
+    ensures { λ r. ⌜ r ≡ x / 256 ⌝ }
 {
-    file[at] = low8(x);
-    file[at + 1] = low8(x / 256);
+    (x / 256) as u8
 }
 
 fn low16(x: u32) -> u16
@@ -113,13 +109,10 @@ fn low16(x: u32) -> u16
     (x % 65536) as u16
 }
 
-// Writes a number of 32 bits.
-fn put32(x: u32, at: usize, file: &mut [u8])
-    requires { ⌜ at + 4 ≤ length (now file) ⌝ }
-    ensures { λ _. ⌜ now (file .exit) ≡ sets (now (file .entry)) at (bytes32 x) ⌝ }
+fn high16(x: u32) -> u16
+    ensures { λ r. ⌜ r ≡ x / 65536 ⌝ }
 {
-    put16(low16(x), at, file);
-    put16(low16(x / 65536), at + 2, file);
+    (x / 65536) as u16
 }
 
 // Writes two bytes.
@@ -129,6 +122,23 @@ fn put_two(x: u8, y: u8, at: usize, file: &mut [u8])
 {
     file[at] = x;
     file[at + 1] = y;
+}
+
+// Writes a number of 16 bits.
+fn put16(x: u16, at: usize, file: &mut [u8])
+    requires { ⌜ at + 2 ≤ length (now file) ⌝ }
+    ensures { λ _. ⌜ now (file .exit) ≡ sets (now (file .entry)) at (bytes16 x) ⌝ }
+{
+    put_two(low8(x), high8(x), at, file);
+}
+
+// Writes a number of 32 bits.
+fn put32(x: u32, at: usize, file: &mut [u8])
+    requires { ⌜ at + 4 ≤ length (now file) ⌝ }
+    ensures { λ _. ⌜ now (file .exit) ≡ sets (now (file .entry)) at (bytes32 x) ⌝ }
+{
+    put16(low16(x), at, file);
+    put16(high16(x), at + 2, file);
 }
 
 // Writes a block's head.
@@ -212,7 +222,11 @@ fn size_of(kind: u8) -> usize
 }
 
 // Writes the record of the row at which the walk stands.
-fn put_record(kind: u8, boxes: &[u8], rows: &[u16], arrows: &[u16], walk: Walk, file: &mut [u8]) {
+fn put_record(kind: u8, boxes: &[u8], rows: &[u16], arrows: &[u16], walk: Walk, file: &mut [u8])
+    requires { ⌜ Within kind (rowsOf (now boxes) (now rows) (now arrows) kind) (length (now file)) walk ⌝ }
+    ensures { λ _. ⌜ now (file .exit) ≡ sets (now (file .entry)) (recordAt kind walk)
+        (recordBytes (now (boxes .entry)) (now (rows .entry)) (now (arrows .entry)) kind (walk .row)) ⌝ }
+{
     let from = walk.block_at() + 8;
     if kind == BoxRecord::KIND {
         put_box(boxes, walk.row, from + walk.place, file);
@@ -244,7 +258,12 @@ fn put_records(
     walk: Walk,
     count: usize,
     file: &mut [u8],
-) -> Walk {
+) -> Walk
+    requires { ⌜ Begins kind (rowsOf (now boxes) (now rows) (now arrows) kind) (length (now file)) walk count ⌝ }
+    ensures { λ r. ⌜ r ≡ steps (capacity kind) walk count ⌝ }
+    ensures { λ _. ⌜ now (file .exit) ≡ sets (now (file .entry)) (blockAt walk + 8)
+        (joined (λ j. recordBytes (now (boxes .entry)) (now (rows .entry)) (now (arrows .entry)) kind (walk .row + j)) count) ⌝ }
+{
     let capacity = capacity_of(kind);
     let mut w = walk;
     for j in 0..count {
@@ -283,7 +302,12 @@ fn put_block(
     walk: Walk,
     count: usize,
     file: &mut [u8],
-) -> Walk {
+) -> Walk
+    requires { ⌜ Begins kind (rowsOf (now boxes) (now rows) (now arrows) kind) (length (now file)) walk count ⌝ }
+    ensures { λ r. ⌜ r ≡ steps (capacity kind) walk count ⌝ }
+    ensures { λ _. ⌜ now (file .exit) ≡ sets (now (file .entry)) (blockAt walk) (blockOf kind (walk .first + walk .block) count
+        (λ j. recordBytes (now (boxes .entry)) (now (rows .entry)) (now (arrows .entry)) kind (walk .row + j))) ⌝ }
+{
     let at = walk.block_at();
     put_head(
         kind,
@@ -318,7 +342,13 @@ fn put_kind(
     first: usize,
     blocks: usize,
     file: &mut [u8],
-) {
+)
+    requires { ⌜ (1 ≤ kind) × (kind ≤ 3) × (rowsOf (now boxes) (now rows) (now arrows) kind ≤ 1024) ⌝ }
+    requires { ⌜ (first ≡ firstOf (now boxes) (now rows) (now arrows) kind) × (blocks ≡ blocksOf (now boxes) (now rows) (now arrows) kind) ⌝ }
+    requires { ⌜ (first + blocks ≤ 64) × (512 * (first + blocks) ≤ length (now file)) ⌝ }
+    ensures { λ _. ⌜ now (file .exit) ≡ sets (now (file .entry)) (512 * first)
+        (kindBytes (now (boxes .entry)) (now (rows .entry)) (now (arrows .entry)) kind) ⌝ }
+{
     let total = by_kind(kind, boxes.len(), rows.len() / 2, arrows.len() / 4);
     let capacity = capacity_of(kind);
     let mut walk = Walk::from(first);
