@@ -10,3 +10,4 @@ pub mod Counting
 pub mod Order
 pub mod Rooms
 pub mod Made
+pub mod MadeBlocks

@@ -9,7 +9,8 @@ use borrow.Author.Tests.{ltb-true, ltb-false}
 use lib.Dec.{ltb}
 use lib.ListN.{length, length-append}
 use Rattle.tables.proofs.BufferLaws.{zeros-length}
-use Rattle.blocks.specs.Blocks.{byKind, capacity, recordSize}
+use Rattle.blocks.specs.Blocks.{capacity, recordSize}
+use Rattle.blocks.proofs.MadeBlocks.{capacities, record-sizes}
 use Rattle.blocks.proofs.Placing.{joined-length}
 use Rattle.packer.specs.Packed.{bytes16, bytes32, boxBytes, containmentBytes, arrowBytes, headBytes, covered, blockOf, least}
 use Rattle.packer.specs.Packed.{rowsOf, recordBytes, blocksOf, countIn, kindBlock, kindBytes, packed}
@@ -44,22 +45,26 @@ module _ (kind : ℕ) (low : 1 ≤ kind) (high : kind ≤ 3) where
   of-kind P a b c = ⊎-elim (λ e. rw e a) (λ d. ⊎-elim (λ e. rw e b) (λ e. rw e c) d) (kinds kind low high)
 
   pub capacity-some : 0 < capacity kind
-  unfolding byKind capacity
-  capacity-some = of-kind (λ k. 0 < capacity k) (omega arith) (omega arith) (omega arith)
+  capacity-some =
+      of-kind (λ k. 0 < capacity k) (rw (capacities .0) (omega arith)) (rw (capacities .1) (omega arith)) (rw (capacities .2) (omega arith))
 
   pub capacity-most : capacity kind ≤ 500
-  unfolding byKind capacity
-  capacity-most = of-kind (λ k. capacity k ≤ 500) (omega arith) (omega arith) (omega arith)
+  capacity-most =
+      of-kind (λ k. capacity k ≤ 500) (rw (capacities .0) (omega arith)) (rw (capacities .1) (omega arith)) (rw (capacities .2) (omega arith))
 
   -- the records of a block fit between its head and its check
   pub records-fit : (count : ℕ) → count ≤ capacity kind → recordSize kind * count ≤ 500
-  unfolding byKind capacity recordSize
-  records-fit count = of-kind (λ k. count ≤ capacity k → recordSize k * count ≤ 500) (λ h. omega arith) (λ h. omega arith) (λ h. omega arith)
+  records-fit count =
+      of-kind (λ k. count ≤ capacity k → recordSize k * count ≤ 500)
+      (rw (capacities .0, record-sizes .0) (λ h. omega arith))
+      (rw (capacities .1, record-sizes .1) (λ h. omega arith))
+      (rw (capacities .2, record-sizes .2) (λ h. omega arith))
 
   -- a record has as many bytes as its kind says
   pub record-length : (boxes rows arrows : List ℕ) (i : ℕ) → length (recordBytes boxes rows arrows kind i) ≡ recordSize kind
-  unfolding byKind recordSize recordBytes boxBytes containmentBytes arrowBytes bytes16
-  record-length boxes rows arrows i = of-kind (λ k. length (recordBytes boxes rows arrows k i) ≡ recordSize k) refl refl refl
+  unfolding recordBytes boxBytes containmentBytes arrowBytes bytes16
+  record-length boxes rows arrows i =
+      of-kind (λ k. length (recordBytes boxes rows arrows k i) ≡ recordSize k) (rw (record-sizes .0)) (rw (record-sizes .1)) (rw (record-sizes .2))
 
   -- a block has 512 bytes, 508 of which its check covers
   module _ (number count : ℕ) (records : ℕ → List ℕ) (most : count ≤ capacity kind) (len : (j : ℕ) → length (records j) ≡ recordSize kind) where

@@ -4,10 +4,10 @@ use mathlib.Core.List.{List, [], _∷_, _++_, append-assoc}
 use Prim.Native.Nat.{ℕ, zero, suc, _+_, _≤_}
 use native.Mathlib.Omega.{arith}
 use native.Mathlib.Numerals.{add-one}
-use lib.ListN.{length, take, drop, set, length-take}
+use lib.ListN.{length, take, drop, set, replicate, length-take}
 use lib.Seq.{sets, sets-eq, drop-at, take-at}
 use Rattle.tables.specs.Buffers.{zeros}
-use Rattle.tables.proofs.BufferLaws.{zeros-length}
+use Rattle.tables.proofs.BufferLaws.{zeros-is, zeros-length}
 use Rattle.blocks.proofs.Placing.{sets-more}
 
 -- a store behind what is stored
@@ -18,10 +18,12 @@ pub chain : (l₀ l₁ l₂ : List ℕ) (at n : ℕ) (xs ys : List ℕ) → leng
     → l₂ ≡ sets l₀ at (xs ++ ys)
 chain l₀ l₁ l₂ at n xs ys e p q = q ∙ ap (λ (l : List ℕ). sets l (at + n) ys) p ∙ puts-more l₀ at n xs ys e
 
+replicate-snoc : (n : ℕ) → replicate {A = ℕ} (suc n) 0 ≡ replicate n 0 ++ (0 ∷ [])
+replicate-snoc zero = refl
+replicate-snoc (suc n) = ap (λ (l : List ℕ). 0 ∷ l) (replicate-snoc n)
+
 zeros-snoc : (n : ℕ) → zeros (suc n) ≡ zeros n ++ (0 ∷ [])
-unfolding zeros
-zeros-snoc zero = refl
-zeros-snoc (suc n) = ap (λ (l : List ℕ). 0 ∷ l) (zeros-snoc n)
+zeros-snoc n = rw (← zeros-is, ← zeros-is) (replicate-snoc n)
 
 -- a turn of the loop that stores zeros
 pub zeros-more : (l : List ℕ) (at i : ℕ) → set (sets l at (zeros i)) (at + i) 0 ≡ sets l at (zeros (i + 1))

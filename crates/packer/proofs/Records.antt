@@ -7,13 +7,15 @@ use native.Mathlib.Omega.{arith}
 use lib.ListN.{length}
 use lib.Seq.{sets, length-sets}
 use Rattle.tables.specs.Rows.{rowCount, arrowCount}
-use Rattle.blocks.specs.Blocks.{byKind, capacity, recordSize, joined}
+use Rattle.blocks.specs.Blocks.{capacity, recordSize, joined}
+use Rattle.blocks.proofs.MadeBlocks.{capacities, record-sizes}
 use Rattle.blocks.proofs.JoinedLaws.{joined-none}
 use Rattle.blocks.proofs.Placing.{put-more as put-next}
 use Rattle.packer.specs.Packed.{boxBytes, containmentBytes, arrowBytes, recordBytes, rowsOf}
 use Rattle.packer.specs.Walks.{step, steps, blockAt, recordAt, Within, Begins}
 use Rattle.packer.specs.declared.Walk.{Walk}
 use Rattle.packer.proofs.Lengths.{kinds, record-length}
+use Rattle.packer.proofs.Regular.{rows-by-kind}
 use Rattle.packer.proofs.Walking.{steps-more, steps-within}
 
 -- the table has the row, the file has room so many bytes behind the block's head, and what is to be written there
@@ -31,30 +33,30 @@ goes-put g from e l l′ p = rw (g .place, g .bytes, ← e) p
 
 module _ (kind : ℕ) (boxes rows arrows : List ℕ) (len : ℕ) (w : Walk) (at : Within kind (rowsOf boxes rows arrows kind) len w) where
   pub box-goes : kind ≡ 1 → Goes kind 1 (w .place) (length boxes) len w (recordBytes boxes rows arrows kind (w .row)) (boxBytes boxes (w .row))
-  unfolding rowsOf byKind capacity recordSize recordBytes
+  unfolding recordBytes
   box-goes e =
-      let r : w .row < length boxes = rw e at (at .the-row) in
-      let p : w .place < 500 = rw e at (at .the-place) in
+      let r : w .row < length boxes = rw (e, rows-by-kind boxes rows arrows .0) at (at .the-row) in
+      let p : w .place < 500 = rw (e, capacities .0) at (at .the-place) in
       let s = at .room in
-      record { row-there = r; small = at .the-block; within = omega arith; room = omega arith; place = rw e (omega arith); bytes = rw e }
+      record { row-there = r; small = at .the-block; within = omega arith; room = omega arith; place = rw (e, record-sizes .0) (omega arith); bytes = rw e }
 
   pub containment-goes : kind ≡ 2 → Goes kind 4 (4 * w .place) (rowCount rows) len w (recordBytes boxes rows arrows kind (w .row)) (containmentBytes rows (w .row))
-  unfolding rowsOf byKind capacity recordSize recordBytes
+  unfolding recordBytes
   containment-goes e =
-      let r : w .row < rowCount rows = rw e at (at .the-row) in
-      let p : w .place < 125 = rw e at (at .the-place) in
+      let r : w .row < rowCount rows = rw (e, rows-by-kind boxes rows arrows .1) at (at .the-row) in
+      let p : w .place < 125 = rw (e, capacities .1) at (at .the-place) in
       let s = at .room in
-      record { row-there = r; small = at .the-block; within = omega arith; room = omega arith; place = rw e; bytes = rw e }
+      record { row-there = r; small = at .the-block; within = omega arith; room = omega arith; place = rw (e, record-sizes .1); bytes = rw e }
 
   pub arrow-goes : (kind ≡ 1 → ⊥) → (kind ≡ 2 → ⊥)
       → Goes kind 6 (6 * w .place) (arrowCount arrows) len w (recordBytes boxes rows arrows kind (w .row)) (arrowBytes arrows (w .row))
-  unfolding rowsOf byKind capacity recordSize recordBytes
+  unfolding recordBytes
   arrow-goes a b =
       let e : kind ≡ 3 = ⊎-elim (λ x. absurd (a x)) (λ d. ⊎-elim (λ x. absurd (b x)) (λ x. x) d) (kinds kind (at .low) (at .high)) in
-      let r : w .row < arrowCount arrows = rw e at (at .the-row) in
-      let p : w .place < 83 = rw e at (at .the-place) in
+      let r : w .row < arrowCount arrows = rw (e, rows-by-kind boxes rows arrows .2) at (at .the-row) in
+      let p : w .place < 83 = rw (e, capacities .2) at (at .the-place) in
       let s = at .room in
-      record { row-there = r; small = at .the-block; within = omega arith; room = omega arith; place = rw e; bytes = rw e }
+      record { row-there = r; small = at .the-block; within = omega arith; room = omega arith; place = rw (e, record-sizes .2); bytes = rw e }
 
 -- a loop that has put so many records of the block at whose first place the walk stood
 module _ (kind : ℕ) (boxes rows arrows file₀ : List ℕ) (w₀ : Walk) (count : ℕ) where

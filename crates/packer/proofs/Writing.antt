@@ -16,7 +16,7 @@ use Rattle.packer.specs.Packed.{bytes32, headBytes, covered, blockOf, le
 use Rattle.packer.specs.Walks.{walkFrom, steps, blockAt, Begins, KindFits}
 use Rattle.packer.specs.declared.Walk.{Walk}
 use Rattle.packer.proofs.Lengths.{least-most, capacity-some, head-length, records-fit, record-length, covered-length, kind-block-length}
-use Rattle.packer.proofs.Counting.{block-begun, full-but-last}
+use Rattle.packer.proofs.Regular.{block-begun, full-but-last}
 use Rattle.packer.proofs.Putting.{chain, stored}
 use Rattle.packer.proofs.Walking.{steps-full}
 

@@ -7,7 +7,7 @@ ghost use lib.Seq.{sets};
 ghost use Rattle.tables.specs.Buffers.{zeros};
 ghost use Rattle.tables.specs.Rows.{rowCount, arrowCount};
 ghost use Rattle.blocks.specs.Fnv.{fnv1a};
-ghost use Rattle.blocks.specs.Blocks.{byKind, capacity, recordSize, joined};
+ghost use Rattle.blocks.specs.Blocks.{capacity, recordSize, joined};
 ghost use Rattle.packer.specs.Packed.{bytes16, bytes32, headBytes, blockOf, least, blocksFor};
 ghost use Rattle.packer.specs.Packed.{boxBytes, containmentBytes, arrowBytes, recordBytes, rowsOf, kindBytes};
 ghost use Rattle.packer.specs.Packs.{packAnswer, fileAfter};
@@ -16,6 +16,7 @@ use blocks::ArrowRecord;
 use blocks::BoxRecord;
 use blocks::Check;
 use blocks::ContainmentRecord;
+use blocks::by_kind;
 use tables::Arrow;
 use tables::Containment;
 use tables::Refusal;
@@ -179,22 +180,6 @@ fn put_arrow(arrows: &[u16], row: usize, at: usize, file: &mut [u8])
     put16(a.tail, at, file);
     put16(a.head, at + 2, file);
     put_two(low8(a.mode), low8(a.sign), at + 4, file);
-}
-
-// One of three numbers by kind, 0 for any other kind.
-fn by_kind(kind: u8, boxes: usize, containments: usize, arrows: usize) -> usize
-    ensures { λ r. ⌜ r ≡ byKind kind boxes containments arrows ⌝ }
-{
-    if kind == BoxRecord::KIND {
-        return boxes;
-    }
-    if kind == ContainmentRecord::KIND {
-        return containments;
-    }
-    if kind == ArrowRecord::KIND {
-        return arrows;
-    }
-    0
 }
 
 // How many records a block of a kind holds.

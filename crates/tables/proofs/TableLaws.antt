@@ -1,10 +1,11 @@
 -- What holds of tables that pass checks 1 to 7. Assumes nothing.
-use mathlib.Core.Path.{_≡_, refl}
+use mathlib.Core.Path.{_≡_, refl, _∙_}
 use mathlib.Core.Bool.{Bool, true, false, not, _&&_, _||_}
 use mathlib.Core.List.{List}
 use mathlib.Core.Option.{Option, none, some}
 use Prim.Native.Nat.{ℕ, _<_, _≤_, _%_}
 use native.Mathlib.Omega.{arith}
+use borrow.Author.Tests.{le-ltb}
 use lib.Dec.{T, eqb, ltb, leb, not-T, eqb→eq, nltb→le, nleb→lt}
 use lib.ListN.{length, getD}
 use Rattle.tables.specs.Search.{orElse, given}
@@ -15,7 +16,8 @@ use Rattle.tables.specs.Steps.{SoundRows, SoundArrows}
 use Rattle.tables.specs.declared.Refusal.{Refusal}
 use Rattle.tables.specs.declared.Containment.{Containment}
 use Rattle.tables.proofs.Tests.{and-T, T-or₁, T-or₂, not-false, false-not}
-use Rattle.tables.proofs.SearchLaws.{first-none, given-none, some-none}
+use Rattle.tables.proofs.SearchLaws.{first-none, given-none, given-false, some-none}
+use Rattle.tables.proofs.Verdicts.{past}
 
 -- neither of two checks found a fault
 pub both-none : {A : Type 0} (a b : Option A) → orElse a b ≡ none → (a ≡ none) × (b ≡ none)
@@ -36,6 +38,11 @@ pub room-passed : (buffer have need : ℕ) → roomFault buffer have need ≡ no
 unfolding roomFault
 room-passed buffer have need e = at-most have need (tooShort buffer need) e
 
+-- and where it has room, check 9 passes
+pub room-enough : (buffer have need : ℕ) → need ≤ have → roomFault buffer have need ≡ none
+unfolding roomFault
+room-enough buffer have need h = given-false _ _ (le-ltb have need h)
+
 -- where check 2 passes, the tables are short
 pub counts-passed : (boxes rows arrows : ℕ) → countFault boxes rows arrows ≡ none → (boxes ≤ 256) × (rows ≤ 1024) × (arrows ≤ 512)
 unfolding countFault
@@ -43,6 +50,12 @@ counts-passed boxes rows arrows e =
     let b = both-none (given (ltb 256 boxes) (tooMany 0 boxes)) _ e in
     let r = both-none (given (ltb 1024 rows) (tooMany 1 rows)) _ (b .1) in
     (at-most 256 boxes _ (b .0), at-most 1024 rows _ (r .0), at-most 512 arrows _ (r .1))
+
+-- and where they are short, check 2 passes
+pub counts-few : (boxes rows arrows : ℕ) → boxes ≤ 256 → rows ≤ 1024 → arrows ≤ 512 → countFault boxes rows arrows ≡ none
+unfolding countFault
+counts-few boxes rows arrows b r a =
+    past _ _ (given-false _ _ (le-ltb 256 boxes b)) ∙ past _ _ (given-false _ _ (le-ltb 1024 rows r)) ∙ given-false _ _ (le-ltb 512 arrows a)
 
 pub mode-passed : (mode : ℕ) → modeFault mode ≡ none → mode < 8
 unfolding modeFault

@@ -1,9 +1,9 @@
 use mathlib.Core.Path.{_≡_, refl, ap}
 use Prim.Native.Nat.{_+_}
-use Rattle.blocks.specs.Fnv.{fnv1a}
 use mathlib.Core.Path.{_∙_}
 use Prim.Native.Nat.{ℕ, _-_}
 use lib.Seq.{sets}
+use Rattle.blocks.proofs.MadeBlocks.{check-is}
 use Rattle.packer.specs.Packed.{bytes32}
 use native.Mathlib.Omega.{arith}
 use borrow.Author.Needs.{needs}
@@ -49,12 +49,11 @@ same-length c = search needs
 
 -- src/lib.rt:259:1
 returns : tie.Need-returns
-unfolding fnv1a
 returns c =
     let a = c .before .before .before .before .before .before .before .before .before .args in
     let e : a .at + 508 - a .at ≡ 508 = omega arith in
     c .before .before .put32 .ensures ∙ ap (λ (x : ℕ). sets (a .file .now) (a .at + 508) (bytes32 x))
-    (c .before .before .before .before .part .ensures ∙ rw (c .before .before .before .before .before .before .before .fresh .ensures, e))
+    (c .before .before .before .before .part .ensures ∙ rw (c .before .before .before .before .before .before .before .fresh .ensures, e, check-is))
 
 pub put-check-spec : {M : Type 1} → statement M
 put-check-spec =

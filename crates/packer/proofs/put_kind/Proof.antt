@@ -9,7 +9,7 @@ use Rattle.packer.proofs.put_kind.Tie as tie
 use Rattle.packer.proofs.put_kind.Reads as reads
 use Rattle.packer.proofs.put_kind.Lts as lts
 use Rattle.packer.proofs.Walk.from.Reads as from-reads
-use Rattle.packer.proofs.by_kind.Reads as by-kind-reads
+use Rattle.blocks.proofs.by_kind.Reads as by-kind-reads
 use Rattle.packer.proofs.capacity_of.Reads as capacity-of-reads
 use Rattle.packer.proofs.least_of.Reads as least-of-reads
 use Rattle.packer.proofs.put_block.Reads as put-block-reads

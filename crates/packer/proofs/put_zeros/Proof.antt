@@ -4,6 +4,7 @@ use native.Mathlib.Omega.{arith}
 use lib.ListN.{length, length-set}
 use lib.Seq.{sets}
 use Rattle.tables.specs.Buffers.{zeros}
+use Rattle.tables.proofs.BufferLaws.{zeros-is}
 use Rattle.packer.proofs.Putting.{zeros-more}
 use borrow.Author.Needs.{needs}
 use Rattle.packer.proofs.put_zeros.Statement.{statement}
@@ -19,8 +20,7 @@ abbrev μ-loop : tie.MeasureT-loop
 
 -- src/lib.rt:240:5
 loop-holds : tie.Need-loop-holds Inv-loop μ-loop
-unfolding zeros
-loop-holds c = (search needs, refl, refl)
+loop-holds c = (search needs, refl, rw (← zeros-is))
 
 -- src/lib.rt:241:14
 add-file : tie.Need-add-file Inv-loop μ-loop

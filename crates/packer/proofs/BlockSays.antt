@@ -1,0 +1,155 @@
+-- What a block that is made says, and that it has no fault. Assumes nothing.
+use mathlib.Core.Path.{_≡_, refl, sym, ap, ap₂, _∙_}
+use mathlib.Core.List.{List, [], _∷_, _++_, append-assoc}
+use mathlib.Core.Option.{none}
+use Prim.Native.Nat.{ℕ, _+_, _*_, _-_, _/_, _%_, _<_, _≤_}
+use native.Mathlib.Omega.{arith}
+use lib.ListN.{length, getD, take, drop}
+use lib.Seq.{take-at, drop-at, drop-append-add, getD-append-add}
+use Rattle.tables.specs.Buffers.{zeros}
+use Rattle.tables.specs.Rows.{rowAt, arrowAt}
+use Rattle.blocks.specs.Fnv.{fnv1a}
+use Rattle.blocks.specs.Blocks.{number16, number32, headOf, capacity, recordSize, joined, boxesSaid, containmentsSaid, arrowsSaid, blockFault}
+use Rattle.blocks.proofs.Placing.{joined-length}
+use Rattle.blocks.proofs.MadeBlocks.{record-sizes, number16-is, number32-is, headMade, head-made, RecordIs, block-passed}
+use Rattle.blocks.proofs.MadeBlocks.{box-row, containment-row, arrow-row, boxes-are, containments-are, arrows-are}
+use Rattle.packer.specs.Packed.{bytes16, bytes32, boxBytes, containmentBytes, arrowBytes, headBytes, covered, blockOf}
+use Rattle.packer.specs.Packed.{recordBytes, firstOf, countIn, kindBlock}
+use Rattle.packer.proofs.Chunks.{joined-at}
+use Rattle.packer.proofs.Lengths.{head-length, covered-length, record-length, count-most}
+
+-- a number is what its two bytes say
+two-bytes : (x : ℕ) → x % 256 + 256 * (x / 256) ≡ x
+two-bytes x = omega arith
+
+-- a number of 32 bits behind other bytes
+byte-behind : (xs ys : List ℕ) (n i : ℕ) → length xs ≡ n → getD (xs ++ ys) (n + i) 0 ≡ getD ys i 0
+byte-behind xs ys n i e = rw (← e) (getD-append-add xs ys i 0)
+
+check-behind : (xs : List ℕ) (x : ℕ) → length xs ≡ 508 → number32 (xs ++ bytes32 x) 508 ≡ x
+unfolding bytes32 bytes16
+check-behind xs x e =
+    let a = byte-behind xs (bytes32 x) 508 0 e in
+    let b = byte-behind xs (bytes32 x) 508 1 e in
+    let c = byte-behind xs (bytes32 x) 508 2 e in
+    let d = byte-behind xs (bytes32 x) 508 3 e in
+    number32-is (xs ++ bytes32 x) 508 ∙ ap₂ (λ (p q : ℕ). p + 65536 * q) (number16-is (xs ++ bytes32 x) 508) (number16-is (xs ++ bytes32 x) 510) ∙ omega arith
+
+module _ (kind : ℕ) (low : 1 ≤ kind) (high : kind ≤ 3) (number count : ℕ) (records : ℕ → List ℕ)
+    (most : count ≤ capacity kind) (len : (j : ℕ) → length (records j) ≡ recordSize kind) where
+  pub block-head : headOf (blockOf kind number count records) ≡ headMade kind number count
+  unfolding blockOf covered headBytes bytes16
+  block-head =
+      head-made kind (number % 256) (number / 256) (count % 256) (count / 256) _
+      ∙ ap₂ (λ (n c : ℕ). headMade kind n c) (two-bytes number) (two-bytes count)
+
+  block-covers : take 508 (blockOf kind number count records) ≡ covered kind number count records
+  unfolding blockOf
+  block-covers = take-at (covered kind number count records) _ 508 (covered-length kind low high number count records most len)
+
+  block-check : fnv1a (take 508 (blockOf kind number count records)) ≡ number32 (blockOf kind number count records) 508
+  unfolding blockOf
+  block-check =
+      ap fnv1a block-covers
+      ∙ sym (check-behind (covered kind number count records) _ (covered-length kind low high number count records most len))
+
+  block-filler : drop (8 + recordSize kind * count) (take 508 (blockOf kind number count records)) ≡ zeros (500 - recordSize kind * count)
+  unfolding covered
+  block-filler =
+      let w = recordSize kind * count in
+      let h = headBytes kind number count in
+      let r = joined records count in
+      let z = zeros (500 - w) in
+      ap (drop (8 + w)) block-covers
+      ∙ ap (λ (n : ℕ). drop (n + w) (h ++ (r ++ z))) (sym (head-length kind number count))
+      ∙ drop-append-add h (r ++ z) w
+      ∙ drop-at r z w (joined-length records (recordSize kind) count (λ j l. len j))
+
+  -- after blocks of no higher kind, at its place
+  pub block-sound : (before : ℕ) → before ≤ kind → blockFault before number (blockOf kind number count records) ≡ none
+  block-sound before after = block-passed before number kind count _ _ block-head low high after most block-check block-filler
+
+  -- its records are those that it is made of
+  pub record-is : (j : ℕ) → j < count → RecordIs (blockOf kind number count records) (recordSize kind) j (records j)
+  unfolding blockOf covered
+  record-is j l i h =
+      let w = recordSize kind in
+      let a = headBytes kind number count in
+      let r = joined records count in
+      let z = zeros (500 - w * count) in
+      let c = bytes32 (fnv1a (covered kind number count records)) in
+      ap (λ (x : List ℕ). getD x (8 + (w * j + i)) 0) (append-assoc a (r ++ z) c)
+      ∙ byte-behind a ((r ++ z) ++ c) 8 (w * j + i) (head-length kind number count)
+      ∙ ap (λ (x : List ℕ). getD x (w * j + i) 0) (append-assoc r z c)
+      ∙ joined-at records w count (λ k m. len k) (z ++ c) j i l h
+
+-- ---- a packed block
+
+module _ (boxes rows arrows : List ℕ) where
+  module _ (kind : ℕ) (low : 1 ≤ kind) (high : kind ≤ 3) (k : ℕ) where
+    pub kind-head : headOf (kindBlock boxes rows arrows kind k) ≡ headMade kind (firstOf boxes rows arrows kind + k) (countIn boxes rows arrows kind k)
+    unfolding kindBlock
+    kind-head = block-head kind low high _ _ _ (count-most kind low high boxes rows arrows k) (λ j. record-length kind low high boxes rows arrows _)
+
+    pub kind-sound : (before : ℕ) → before ≤ kind
+        → blockFault before (firstOf boxes rows arrows kind + k) (kindBlock boxes rows arrows kind k) ≡ none
+    unfolding kindBlock
+    kind-sound = block-sound kind low high _ _ _ (count-most kind low high boxes rows arrows k) (λ j. record-length kind low high boxes rows arrows _)
+
+    kind-record : (j : ℕ) → j < countIn boxes rows arrows kind k
+        → RecordIs (kindBlock boxes rows arrows kind k) (recordSize kind) j (recordBytes boxes rows arrows kind (capacity kind * k + j))
+    unfolding kindBlock
+    kind-record = record-is kind low high _ _ _ (count-most kind low high boxes rows arrows k) (λ j. record-length kind low high boxes rows arrows _)
+
+  -- the rows of its own kind
+  box-bytes : (i : ℕ) → getD (recordBytes boxes rows arrows 1 i) 0 0 ∷ [] ≡ getD boxes i 0 ∷ []
+  unfolding recordBytes boxBytes
+  box-bytes i = refl
+
+  containment-bytes : (i : ℕ) → number16 (recordBytes boxes rows arrows 2 i) 0 ∷ number16 (recordBytes boxes rows arrows 2 i) 2 ∷ []
+      ≡ rowAt rows i .outer ∷ rowAt rows i .inner ∷ []
+  unfolding recordBytes containmentBytes bytes16
+  containment-bytes i =
+      let r = recordBytes boxes rows arrows 2 i in
+      ap₂ (λ (o n : ℕ). o ∷ n ∷ []) (number16-is r 0 ∙ two-bytes (rowAt rows i .outer)) (number16-is r 2 ∙ two-bytes (rowAt rows i .inner))
+
+  arrow-bytes : (i : ℕ) → arrowAt arrows i .mode ≤ 7 → arrowAt arrows i .sign ≤ 1
+      → number16 (recordBytes boxes rows arrows 3 i) 0 ∷ number16 (recordBytes boxes rows arrows 3 i) 2
+      ∷ getD (recordBytes boxes rows arrows 3 i) 4 0 ∷ getD (recordBytes boxes rows arrows 3 i) 5 0 ∷ []
+      ≡ arrowAt arrows i .tail ∷ arrowAt arrows i .head ∷ arrowAt arrows i .mode ∷ arrowAt arrows i .sign ∷ []
+  unfolding recordBytes arrowBytes bytes16
+  arrow-bytes i mode sign =
+      let r = recordBytes boxes rows arrows 3 i in
+      let m : arrowAt arrows i .mode % 256 ≡ arrowAt arrows i .mode = omega arith in
+      let s : arrowAt arrows i .sign % 256 ≡ arrowAt arrows i .sign = omega arith in
+      ap₂ (λ (t h : ℕ). t ∷ h ∷ arrowAt arrows i .mode % 256 ∷ arrowAt arrows i .sign % 256 ∷ [])
+      (number16-is r 0 ∙ two-bytes (arrowAt arrows i .tail)) (number16-is r 2 ∙ two-bytes (arrowAt arrows i .head))
+      ∙ rw (m, s)
+
+  pub boxes-said : (k : ℕ) → boxesSaid (kindBlock boxes rows arrows 1 k)
+      ≡ joined (λ j. getD boxes (capacity 1 * k + j) 0 ∷ []) (countIn boxes rows arrows 1 k)
+  boxes-said k =
+      boxes-are _ _ _ _ (kind-head 1 (omega arith) (omega arith) k)
+      (λ j l.
+      box-row _ j (recordBytes boxes rows arrows 1 (capacity 1 * k + j)) (rw (record-sizes .0) at (kind-record 1 (omega arith) (omega arith) k j l))
+      ∙ box-bytes (capacity 1 * k + j))
+
+  pub containments-said : (k : ℕ) → containmentsSaid (kindBlock boxes rows arrows 2 k)
+      ≡ joined (λ j. rowAt rows (capacity 2 * k + j) .outer ∷ rowAt rows (capacity 2 * k + j) .inner ∷ []) (countIn boxes rows arrows 2 k)
+  containments-said k =
+      containments-are _ _ _ _ (kind-head 2 (omega arith) (omega arith) k)
+      (λ j l.
+      containment-row _ j _ (rw (record-sizes .1) at (kind-record 2 (omega arith) (omega arith) k j l))
+      ∙ containment-bytes (capacity 2 * k + j))
+
+  -- a mode and a sign are bytes
+  pub arrows-said : (k : ℕ)
+      → ((j : ℕ) → j < countIn boxes rows arrows 3 k → (arrowAt arrows (capacity 3 * k + j) .mode ≤ 7) × (arrowAt arrows (capacity 3 * k + j) .sign ≤ 1))
+      → arrowsSaid (kindBlock boxes rows arrows 3 k)
+      ≡ joined (λ j. arrowAt arrows (capacity 3 * k + j) .tail ∷ arrowAt arrows (capacity 3 * k + j) .head
+      ∷ arrowAt arrows (capacity 3 * k + j) .mode ∷ arrowAt arrows (capacity 3 * k + j) .sign ∷ []) (countIn boxes rows arrows 3 k)
+  arrows-said k small =
+      arrows-are _ _ _ _ (kind-head 3 (omega arith) (omega arith) k)
+      (λ j l.
+      arrow-row _ j _ (rw (record-sizes .2) at (kind-record 3 (omega arith) (omega arith) k j l))
+      ∙ arrow-bytes (capacity 3 * k + j) (small j l .0) (small j l .1))

@@ -1,0 +1,141 @@
+-- The file made of its kinds, and the stages of the call: a refusal by checks 1 to 7, one by check 9, and none. Assumes nothing.
+use mathlib.Core.Path.{_≡_, sym, ap, _∙_}
+use mathlib.Core.List.{List, [], _++_, append-assoc}
+use mathlib.Core.Option.{none, some}
+use Prim.Native.Nat.{ℕ, _+_, _*_, _≤_}
+use native.Mathlib.Omega.{arith}
+use lib.ListN.{length, length-append}
+use lib.Seq.{sets}
+use Rattle.tables.specs.Buffers.{written}
+use Rattle.tables.specs.Rows.{rowCount, arrowCount}
+use Rattle.tables.specs.Faults.{tableFault, roomFault}
+use Rattle.tables.specs.Refusals.{verdictOf}
+use Rattle.tables.specs.declared.Refusal.{Refusal}
+use Rattle.tables.specs.declared.Verdict.the-variants.{Passed, Refused as Stopped}
+use Rattle.tables.proofs.BufferLaws.{written-none, written-run}
+use Rattle.tables.proofs.TableLaws.{room-passed, sound-rows, sound-arrows}
+use Rattle.tables.proofs.Verdicts.{passed, refused, past, stop}
+use Rattle.packer.specs.Packed.{blocksFor, blocksOf, kindBytes, packed}
+use Rattle.packer.specs.Packs.{packingOf, packFault, packAnswer, fileAfter}
+use Rattle.packer.specs.Walks.{KindFits}
+use Rattle.packer.specs.declared.Packing.the-variants.{Packed, Refused}
+use Rattle.packer.proofs.Lengths.{kind-length, packed-length}
+use Rattle.packer.proofs.Regular.{rows-by-kind, blocks-by-kind, first-by-kind, fills-1, fills-2, fills-3, box-block}
+
+module _ (boxes rows arrows : List ℕ) where
+  -- the blocks of a picture that checks 1 to 7 pass: one of boxes, at most 9 and 7 of the others
+  module _ (sound : verdictOf (tableFault boxes rows arrows) ≡ Passed) (second third : ℕ)
+      (is₂ : second ≡ blocksFor 125 (rowCount rows)) (is₃ : third ≡ blocksFor 83 (arrowCount arrows)) where
+    box-blocks : blocksOf boxes rows arrows 1 ≡ 1
+    box-blocks =
+        let f = fills-1 boxes rows arrows .few in
+        let s = box-block boxes rows arrows in
+        let b = sound-rows boxes rows arrows (passed _ sound) .few-boxes in
+        omega arith
+
+    second-is : blocksOf boxes rows arrows 2 ≡ second
+    second-is = blocks-by-kind boxes rows arrows .1 ∙ sym is₂
+
+    third-is : blocksOf boxes rows arrows 3 ≡ third
+    third-is = blocks-by-kind boxes rows arrows .2 ∙ sym is₃
+
+    pub blocks-most : (second ≤ 9) × (third ≤ 7)
+    blocks-most =
+        let f = fills-2 boxes rows arrows .few in
+        let g = fills-3 boxes rows arrows .few in
+        let r = sound-rows boxes rows arrows (passed _ sound) .few-rows in
+        let a = sound-arrows boxes rows arrows (passed _ sound) .few-arrows in
+        (rw (← second-is) (omega arith), rw (← third-is) (omega arith))
+
+    -- the length that the call names
+    pub need-is : 512 * (1 + second + third) ≡ length (packed boxes rows arrows)
+    need-is = sym (packed-length boxes rows arrows ∙ rw (box-blocks, second-is, third-is))
+
+    -- room for all is room for each kind
+    module _ (len : ℕ) (room : 512 * (1 + second + third) ≤ len) where
+      pub boxes-fit : KindFits boxes rows arrows 1 0 1 len
+      boxes-fit = record {
+        low = omega arith;
+        high = omega arith;
+        few = rw (rows-by-kind boxes rows arrows .0) (let b = sound-rows boxes rows arrows (passed _ sound) .few-boxes in omega arith);
+        the-first = sym (first-by-kind boxes rows arrows .0);
+        the-blocks = sym box-blocks;
+        numbers = omega arith;
+        room = omega arith;
+      }
+
+      pub containments-fit : KindFits boxes rows arrows 2 1 second len
+      containments-fit = record {
+        low = omega arith;
+        high = omega arith;
+        few = rw (rows-by-kind boxes rows arrows .1) (sound-rows boxes rows arrows (passed _ sound) .few-rows);
+        the-first = sym (first-by-kind boxes rows arrows .1 ∙ box-blocks);
+        the-blocks = sym second-is;
+        numbers = omega (arith, blocks-most .0);
+        room = omega arith;
+      }
+
+      pub arrows-fit : KindFits boxes rows arrows 3 (1 + second) third len
+      arrows-fit = record {
+        low = omega arith;
+        high = omega arith;
+        few = rw (rows-by-kind boxes rows arrows .2) (let a = sound-arrows boxes rows arrows (passed _ sound) .few-arrows in omega arith);
+        the-first = sym (first-by-kind boxes rows arrows .2 ∙ rw (box-blocks, second-is));
+        the-blocks = sym third-is;
+        numbers = omega (arith, blocks-most .0, blocks-most .1);
+        room = omega arith;
+      }
+
+    -- the kinds written one after the other
+    pub file-made : (l₀ l₁ l₂ l₃ : List ℕ) → 512 * (1 + second + third) ≤ length l₀ → l₁ ≡ sets l₀ (512 * 0) (kindBytes boxes rows arrows 1)
+        → l₂ ≡ sets l₁ (512 * 1) (kindBytes boxes rows arrows 2) → l₃ ≡ sets l₂ (512 * (1 + second)) (kindBytes boxes rows arrows 3)
+        → l₃ ≡ written (packed boxes rows arrows) l₀
+    unfolding packed
+    file-made l₀ l₁ l₂ l₃ room p q r =
+        let f = kindBytes boxes rows arrows 1 in
+        let g = kindBytes boxes rows arrows 2 in
+        let h = kindBytes boxes rows arrows 3 in
+        let lf : length f ≡ 512 * 1 = kind-length 1 (omega arith) (omega arith) boxes rows arrows ∙ rw box-blocks in
+        let lg : length g ≡ 512 * second = kind-length 2 (omega arith) (omega arith) boxes rows arrows ∙ rw second-is in
+        let lh : length h ≡ 512 * third = kind-length 3 (omega arith) (omega arith) boxes rows arrows ∙ rw third-is in
+        let lfg : length (f ++ g) ≡ 512 * (1 + second) = simp length-append (omega arith) in
+        let one : l₁ ≡ written f l₀ = p ∙ ap (λ (l : List ℕ). sets l 0 f) (sym (written-none l₀)) ∙ written-run [] f l₀ (omega arith) in
+        let two : l₂ ≡ written (f ++ g) l₀ = q ∙ ap (λ (l : List ℕ). sets l (512 * 1) g) one ∙ (rw lf at (written-run f g l₀ (omega arith))) in
+        let three : l₃ ≡ written (f ++ g ++ h) l₀ =
+        r ∙ ap (λ (l : List ℕ). sets l (512 * (1 + second)) h) two ∙ (rw lfg at (written-run (f ++ g) h l₀ (omega arith))) in
+        rw append-assoc at three
+
+  module _ (file : List ℕ) where
+    -- the call by its fault
+    refused-by : (r : Refusal) → packFault boxes rows arrows file ≡ some r
+        → (Refused r ≡ packAnswer boxes rows arrows file) × (file ≡ fileAfter boxes rows arrows file)
+    unfolding packingOf packAnswer fileAfter
+    refused-by r e = (rw e, rw e)
+
+    -- refused by checks 1 to 7
+    pub by-tables : (r : Refusal) → verdictOf (tableFault boxes rows arrows) ≡ Stopped r
+        → (Refused r ≡ packAnswer boxes rows arrows file) × (file ≡ fileAfter boxes rows arrows file)
+    unfolding packFault
+    by-tables r e = refused-by r (stop _ _ (refused _ r e))
+
+    module _ (sound : verdictOf (tableFault boxes rows arrows) ≡ Passed) (need : ℕ) (is : need ≡ length (packed boxes rows arrows)) where
+      by-nine : packFault boxes rows arrows file ≡ roomFault 8 (length file) need
+      unfolding packFault
+      by-nine = past _ _ (passed _ sound) ∙ rw (← is)
+
+      -- refused by check 9
+      pub by-room : (r : Refusal) → verdictOf (roomFault 8 (length file) need) ≡ Stopped r
+          → (Refused r ≡ packAnswer boxes rows arrows file) × (file ≡ fileAfter boxes rows arrows file)
+      by-room r e = refused-by r (by-nine ∙ refused _ r e)
+
+      -- not refused
+      module _ (fits : verdictOf (roomFault 8 (length file) need) ≡ Passed) where
+        pub room-there : need ≤ length file
+        room-there = room-passed 8 (length file) need (passed _ fits)
+
+        pub by-none : (end : List ℕ) → end ≡ written (packed boxes rows arrows) file
+            → (Packed need ≡ packAnswer boxes rows arrows file) × (end ≡ fileAfter boxes rows arrows file)
+        unfolding packingOf packAnswer fileAfter
+        by-none end e =
+            let f : packFault boxes rows arrows file ≡ none = by-nine ∙ passed _ fits in
+            (rw (f, is), rw f e)
