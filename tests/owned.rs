@@ -133,3 +133,14 @@ pub fn compare_read(file: &[u8]) -> Result<(), String> {
         checker::tables_in(file).and_then(|t| Picture::try_from(lend(&t)).map_err(compare_refusal));
     same("file", Picture::read(file).map_err(compare_refusal), want)
 }
+
+/// A picture packed: what the model packs, and the way back.
+pub fn compare_pack(t: &Tables) -> Result<(), String> {
+    let Ok(picture) = Picture::try_from(lend(t)) else {
+        return Ok(());
+    };
+    let packed = picture.pack().map_err(compare_refusal);
+    same("packed bytes", &packed, &checker::packing(t))?;
+    let back = packed.map(|file| Picture::read(&file).map_err(compare_refusal));
+    same("way back", back, Ok(Ok(picture)))
+}
