@@ -1,5 +1,6 @@
-//! Packed files written by hand: whole files of small pictures, the blocks of long tables, both sides
-//! of each limit, and each refusal with what it leaves. Each is put to the library and to the model.
+//! Packed files written by hand: whole files of small pictures, the blocks of long tables, both
+//! sides of each limit, and each refusal with what it leaves. Each is put to the library and to the
+//! model.
 
 use super::cases::{file_b, Refused, Report};
 use super::checker::{self, Tables};
