@@ -735,7 +735,8 @@ fn self_test(most: u64) -> bool {
     std::panic::set_hook(Box::new(|_| {}));
     for &(way, says) in standin::WAYS {
         standin::be(way);
-        let by_hand = cases::run().failed.len();
+        // A reply that the header rules out ends the cases with a panic.
+        let by_hand = catch_unwind(|| cases::run().failed.len()).unwrap_or(1);
         let mut tally = Tally::default();
         let found = (1..=most).find_map(|seed| {
             let why = one_seed(seed, &mut tally).err()?;
