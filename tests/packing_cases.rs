@@ -489,6 +489,29 @@ fn limits(report: &mut Report) {
     pack("512 arrows", &arrows(512), ROOM, Ok(4_096), report);
 }
 
+/// The bytes that are needed about each full block of rows and of arrows: another block from one
+/// more on.
+fn full_blocks(report: &mut Report) {
+    for (what, full, most) in [("rows", 125, 1_024), ("arrows", 83, 512)] {
+        for blocks in 1..=most / full {
+            for (count, more) in [
+                (full * blocks - 1, 0),
+                (full * blocks, 0),
+                (full * blocks + 1, 1),
+            ] {
+                let (rows, arrows) = match what {
+                    "rows" => (count, 0),
+                    _ => (0, count),
+                };
+                let t = tables(&[0, 1], &[0, 0].repeat(rows), &[0, 1, 7, 1].repeat(arrows));
+                let needed = 512 * (1 + blocks + more) as u64;
+                let got = lend(&t).pack(&mut []).map_err(|refusal| refusal.numbers());
+                report.same(&format!("{count} {what}"), got, Err((9, [8, needed, 0])));
+            }
+        }
+    }
+}
+
 /// Refusals 1 and 3 to 7, whatever is lent.
 fn faulty(report: &mut Report) {
     for &(what, boxes, rows, arrows, want) in FAULTY {
@@ -534,6 +557,7 @@ pub fn run(report: &mut Report) {
     }
     places(report);
     limits(report);
+    full_blocks(report);
     faulty(report);
     apart(report);
     loose(report);
