@@ -1,7 +1,7 @@
 /*
  * Case B through the C header, call by call: that the header and the library fit together, with
- * the kinds, lengths and names of the header. Then a group and a folder that have emptied. Last a
- * picture that shows which pair 13 names, and whose scratch holds all three values.
+ * the kinds, lengths and names of the header. Then packed files, and a group and a folder that have
+ * emptied. Last a picture that shows which pair 13 names, and whose scratch holds all three values.
  */
 
 #include "rights.h"
@@ -133,6 +133,80 @@ static void groups(void) {
     hold("around a group: users and files", users[0] == 9 && files[0] == 2);
 }
 
+/* A block from its head and records and the bytes of its check; the filler is zero. */
+static int is_block(const uint8_t *block, const uint8_t *begin, size_t length,
+                    const uint8_t *check) {
+    uint8_t wanted[512] = {0};
+    memcpy(wanted, begin, length);
+    memcpy(wanted + 508, check, 4);
+    return memcmp(block, wanted, 512) == 0;
+}
+
+/* B packed: its bytes, a byte too few, and what is left alone. */
+static void packing_b(void) {
+    const uint8_t boxes[4] = {0, 0, 0, 1};
+    const uint16_t rows[4] = {2, 0, 2, 1}, arrows[8] = {0, 3, 0, 1, 2, 3, 0, 0};
+    const uint8_t first[] = {1, 0, 0, 0, 4, 0, 0, 0, 0, 0, 0, 1};
+    const uint8_t second[] = {2, 0, 1, 0, 2, 0, 0, 0, 2, 0, 0, 0, 2, 0, 1, 0};
+    const uint8_t third[] = {3, 0, 2, 0, 2, 0, 0, 0, 0, 0, 3, 0, 0, 1, 2, 0, 3, 0, 0, 0};
+    const uint8_t checks[3][4] = {
+        {0xd3, 0x74, 0x47, 0x2a}, {0x05, 0x17, 0x4f, 0xf5}, {0x73, 0x74, 0xdc, 0xc5}};
+    uint8_t file[1538], untouched[1538];
+    memset(file, 9, sizeof file);
+    memset(untouched, 9, sizeof untouched);
+    rights_reply reply = rights_pack(boxes, 4, rows, 4, arrows, 8, file, 1535);
+    expect("packing, a byte short", reply, RIGHTS_REFUSED, RIGHTS_BUFFER_SHORT,
+           RIGHTS_PACKED_FILE, 1536, 0);
+    name("packing, the short buffer", rights_buffer_name(reply.a), "packed file");
+    expect("packing, an odd length", rights_pack(boxes, 4, rows, 3, arrows, 8, file, 1536),
+           RIGHTS_REFUSED, RIGHTS_RAGGED, 1, 3, 0);
+    expect("packing, an arrow to a user", rights_pack(boxes, 3, rows, 4, arrows, 8, file, 0),
+           RIGHTS_REFUSED, RIGHTS_ARROW_ENDS, 0, 0, 0);
+    hold("packing, refused", memcmp(file, untouched, sizeof file) == 0);
+    expect("packing", rights_pack(boxes, 4, rows, 4, arrows, 8, file, 1537), RIGHTS_DONE, 0, 1536,
+           0, 0);
+    hold("packed boxes", is_block(file, first, sizeof first, checks[0]));
+    hold("packed containments", is_block(file + 512, second, sizeof second, checks[1]));
+    hold("packed arrows", is_block(file + 1024, third, sizeof third, checks[2]));
+    hold("packing, beyond", file[1536] == 9 && file[1537] == 9);
+}
+
+/* Packed files of A and H, and of a picture at the limits, which is read again. */
+static void packing(void) {
+    static uint8_t boxes[RIGHTS_BOXES_ROOM], file[RIGHTS_PACKED_ROOM];
+    static uint16_t rows[RIGHTS_ROWS_ROOM], arrows[RIGHTS_ARROWS_ROOM];
+    static uint8_t read_boxes[RIGHTS_BOXES_ROOM];
+    static uint16_t read_rows[RIGHTS_ROWS_ROOM], read_arrows[RIGHTS_ARROWS_ROOM];
+    const uint8_t a = 1, check_a[4] = {0x84, 0xa9, 0xf5, 0xb3};
+    packing_b();
+    expect("packing A", rights_pack(boxes, 0, rows, 0, arrows, 0, file, 512), RIGHTS_DONE, 0, 512,
+           0, 0);
+    hold("packed A", is_block(file, &a, 1, check_a));
+    expect("packing H", rights_pack(boxes, 1, rows, 2, arrows, 0, file, 1024), RIGHTS_DONE, 0,
+           1024, 0, 0);
+    boxes[255] = RIGHTS_FILE;
+    for (size_t k = 0; k < RIGHTS_ROWS_ROOM; k++) {
+        rows[k] = (uint16_t)(k % 255);
+    }
+    for (size_t k = 0; k < RIGHTS_ARROWS_ROOM; k += 4) {
+        arrows[k] = (uint16_t)(k / 4 % 255);
+        arrows[k + 1] = 255;
+        arrows[k + 2] = (uint16_t)(k / 4 % RIGHTS_MODES);
+        arrows[k + 3] = (uint16_t)(k / 32 % 2);
+    }
+    rights_reply reply = rights_pack(boxes, RIGHTS_BOXES_ROOM, rows, RIGHTS_ROWS_ROOM, arrows,
+                                     RIGHTS_ARROWS_ROOM, file, sizeof file);
+    expect("packing the most", reply, RIGHTS_DONE, 0, RIGHTS_PACKED_ROOM, 0, 0);
+    hold("room for a packed file", RIGHTS_PACKED_ROOM == 8704);
+    reply = rights_read(file, (size_t)reply.a, read_boxes, RIGHTS_BOXES_ROOM, read_rows,
+                        RIGHTS_ROWS_ROOM, read_arrows, RIGHTS_ARROWS_ROOM);
+    expect("reading it", reply, RIGHTS_DONE, 0, RIGHTS_MAX_BOXES, RIGHTS_MAX_CONTAINMENTS,
+           RIGHTS_MAX_ARROWS);
+    hold("its boxes", memcmp(boxes, read_boxes, sizeof boxes) == 0);
+    hold("its rows", memcmp(rows, read_rows, sizeof rows) == 0);
+    hold("its arrows", memcmp(arrows, read_arrows, sizeof arrows) == 0);
+}
+
 int main(void) {
     const uint8_t boxes[4] = {0, 0, 0, 1};
     const uint16_t rows[4] = {2, 0, 2, 1};
@@ -226,9 +300,11 @@ int main(void) {
     name("refusal 17", rights_refusal_name(RIGHTS_FILLER), "filler not zero");
     name("refusal 18", rights_refusal_name(18), "unknown refusal");
     name("buffer 7", rights_buffer_name(RIGHTS_ARROWS), "arrows");
-    name("buffer 8", rights_buffer_name(8), "unknown buffer");
+    name("buffer 8", rights_buffer_name(8), "packed file");
+    name("buffer 9", rights_buffer_name(9), "unknown buffer");
     name("buffer 12", rights_buffer_name(RIGHTS_ATOMIC_FILES), "atomic files");
 
+    packing();
     groups();
     ring();
     printf("boundary: %s\n", failed ? "FAILED" : "passed");

@@ -5,10 +5,11 @@
 use super::checker::{self, Answer, Known, Lists, Tables};
 use super::compare_answer;
 use super::generator::{self, Random};
+use super::packing_cases;
 use rights::lent::{self, Counts};
 
 /// Number and three numbers of a refusal.
-type Refused = (u32, [u64; 3]);
+pub type Refused = (u32, [u64; 3]);
 
 struct Case {
     name: &'static str,
@@ -1076,7 +1077,7 @@ pub struct Report {
 }
 
 impl Report {
-    fn same<T: PartialEq + std::fmt::Debug>(&mut self, what: &str, got: T, want: T) {
+    pub fn same<T: PartialEq + std::fmt::Debug>(&mut self, what: &str, got: T, want: T) {
         if got == want {
             self.passed += 1;
         } else {
@@ -1486,6 +1487,10 @@ fn table_checks(what: &str, t: &Tables, want: Option<Refused>, report: &mut Repo
     report.same(what, numbers(&got), asked);
     let got = picture.list(8, &mut [], &mut [], &mut []);
     report.same(what, numbers(&got), asked);
+    // A block for the boxes, and one for each other table that has rows.
+    let blocks = 1 + !t.rows.is_empty() as u64 + !t.arrows.is_empty() as u64;
+    let short = Some((9, [8, 512 * blocks, 0]));
+    report.same(what, numbers(&picture.pack(&mut [])), want.or(short));
     let known = Known::new(t);
     report.same(what, model_numbers(&known.sound()), want);
 }
@@ -1757,6 +1762,7 @@ pub fn run() -> Report {
     }
     limits_of_atoms(&mut report);
     files(&mut report);
-    report.same("version", rights::version(), (3, 0, 0));
+    packing_cases::run(&mut report);
+    report.same("version", rights::version(), (3, 1, 0));
     report
 }

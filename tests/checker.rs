@@ -1,6 +1,6 @@
-//! The independent model: document 01 with requests P2 (what is drawn directly), P3 (the order of
-//! lists) and P6 (groups that have emptied) of document 02 in plain Rust, written from their text
-//! alone.
+//! The independent model: document 01 with requests P1 (packing), P2 (what is drawn directly), P3
+//! (the order of lists) and P6 (groups that have emptied) of document 02 in plain Rust, written from
+//! their text alone.
 //!
 //! Each call is a pure function from what was lent (the tables and the contents of every buffer
 //! before the call) to the answer and the contents of every buffer after it.
@@ -139,7 +139,7 @@ fn first_bad<R>(
 }
 
 /// Checks 1 to 7, each over its whole table before the next.
-fn table_checks(t: &Tables) -> Result<(), Refusal> {
+pub fn table_checks(t: &Tables) -> Result<(), Refusal> {
     let n = t.boxes.len();
     ragged(t)?;
     too_many([n, t.rows.len() / 2, t.arrows.len() / 4])?;
@@ -865,6 +865,108 @@ fn read_into(file: &[u8], end: &mut ReadEnd) -> Result<[usize; 3], Refusal> {
     end.rows[..t.rows.len()].copy_from_slice(&t.rows);
     end.arrows[..t.arrows.len()].copy_from_slice(&t.arrows);
     Ok([t.boxes.len(), t.rows.len() / 2, t.arrows.len() / 4])
+}
+
+// ---------------------------------------------------------------------------------------------
+// Packing
+
+/// One block of a packed file: its kind, and which rows of that kind's table it holds.
+struct Part {
+    kind: u8,
+    rows: std::ops::Range<usize>,
+}
+
+/// The blocks of a picture's packing. Document 02: "blocks of each kind full but the last, no empty
+/// block, except that a picture without boxes has one box block of count 0."
+fn parts(t: &Tables) -> Vec<Part> {
+    let mut parts = Vec::new();
+    if t.boxes.is_empty() {
+        parts.push(Part {
+            kind: 1,
+            rows: 0..0,
+        });
+    }
+    let counts = [t.boxes.len(), t.rows.len() / 2, t.arrows.len() / 4];
+    for (kind, count) in (1..).zip(counts) {
+        let full = record(kind).1;
+        parts.extend((0..count).step_by(full).map(|first| Part {
+            kind,
+            rows: first..count.min(first + full),
+        }));
+    }
+    parts
+}
+
+/// The low byte of a number for half 0, the high byte for half 1.
+fn half(number: usize, half: usize) -> u8 {
+    (number >> (8 * half)) as u8
+}
+
+/// One byte of a row's record.
+fn record_byte(t: &Tables, kind: u8, row: usize, at: usize) -> u8 {
+    match (kind, at) {
+        (1, _) => t.boxes[row],
+        (2, _) => half(t.rows[2 * row + at / 2] as usize, at % 2),
+        (_, 4) => t.arrows[4 * row + 2] as u8,
+        (_, 5) => t.arrows[4 * row + 3] as u8,
+        _ => half(t.arrows[4 * row + at / 2] as usize, at % 2),
+    }
+}
+
+/// The byte at a place of a block, 0 to 507: head, records and filler.
+fn packed_byte(t: &Tables, number: usize, part: &Part, place: usize) -> u8 {
+    match place {
+        0 => part.kind,
+        1 | 6 | 7 => 0,
+        2 | 3 => half(number, place - 2),
+        4 | 5 => half(part.rows.len(), place - 4),
+        _ => {
+            let size = record(part.kind).0;
+            let row = part.rows.start + (place - 8) / size;
+            if row < part.rows.end {
+                record_byte(t, part.kind, row, (place - 8) % size)
+            } else {
+                0
+            }
+        }
+    }
+}
+
+/// The packing of a picture, or its refusal by 1 to 7.
+pub fn packing(t: &Tables) -> Result<Vec<u8>, Refusal> {
+    table_checks(t)?;
+    let mut file = Vec::new();
+    for (number, part) in parts(t).iter().enumerate() {
+        let bytes: Vec<u8> = (0..508)
+            .map(|place| packed_byte(t, number, part, place))
+            .collect();
+        let check = fnv(&bytes) as usize;
+        file.extend(bytes);
+        file.extend([0, 1, 2, 3].map(|at| half(check, at)));
+    }
+    Ok(file)
+}
+
+pub struct PackEnd {
+    /// The length of the packed file.
+    pub result: Result<usize, Refusal>,
+    pub file: Vec<u8>,
+}
+
+pub fn pack(t: &Tables, file: &[u8]) -> PackEnd {
+    let mut after = file.to_vec();
+    let result = pack_into(t, &mut after);
+    PackEnd {
+        result,
+        file: after,
+    }
+}
+
+fn pack_into(t: &Tables, file: &mut [u8]) -> Result<usize, Refusal> {
+    let packed = packing(t)?;
+    long_enough(8, file.len(), packed.len())?;
+    file[..packed.len()].copy_from_slice(&packed);
+    Ok(packed.len())
 }
 
 // ---------------------------------------------------------------------------------------------

@@ -728,6 +728,56 @@ pub fn picture(r: &mut Random) -> (Tables, &'static str) {
     (tables, what)
 }
 
+/// A count of rows for tables whose full blocks hold `full`: mostly about whole blocks, or about the
+/// most there may be.
+fn about_blocks(r: &mut Random, full: usize, most: usize) -> usize {
+    let blocks = r.from_to(1, most / full + 1);
+    let count = match r.below(10) {
+        0 => 0,
+        1 => 1,
+        2 => r.below(most + 1),
+        3 => most - r.below(2),
+        4..=6 => full * blocks,
+        7 => full * blocks - 1,
+        _ => full * blocks + 1,
+    };
+    count.min(most)
+}
+
+/// Tables to pack, of any length up to the limits: rows within a side and arrows between the sides
+/// as they come, loops and repeats among them. Some are spoiled.
+pub fn wide(r: &mut Random) -> Tables {
+    let n = match r.below(10) {
+        0 => 0,
+        1 => 1,
+        2 | 3 => r.pick(&[255, 256]),
+        4 => r.from_to(2, 256),
+        _ => r.from_to(2, 12),
+    };
+    let mut d = Draft {
+        boxes: (0..n).map(|_| r.below(4) as u8).collect(),
+        ..Draft::default()
+    };
+    let sides = [d.of_side(0), d.of_side(1)];
+    let (rows, arrows) = (about_blocks(r, 125, 1024), about_blocks(r, 83, 512));
+    for _ in (0..rows).take_while(|_| n > 0) {
+        let outer = r.below(n);
+        let side = &sides[d.boxes[outer] as usize % 2];
+        d.rows.push([outer as u16, r.pick(side)]);
+    }
+    let both = sides.iter().all(|side| !side.is_empty());
+    for _ in (0..arrows).take_while(|_| both) {
+        let ends = [r.pick(&sides[0]), r.pick(&sides[1])];
+        let (mode, sign) = (r.below(8) as u16, r.below(2) as u16);
+        d.arrows.push([ends[0], ends[1], mode, sign]);
+    }
+    let mut tables = d.tables();
+    if r.percent(15) {
+        spoil(r, &mut tables);
+    }
+    tables
+}
+
 // ---------------------------------------------------------------------------------------------
 // Files
 
@@ -939,4 +989,20 @@ pub fn lengths(r: &mut Random, needed: &[usize]) -> Vec<usize> {
             _ => r.below(needed + 1),
         })
         .collect()
+}
+
+/// How many bytes are lent for a packed file of this length: mostly as many or more, else too few.
+pub fn packed_length(r: &mut Random, needed: usize) -> usize {
+    match r.below(16) {
+        0..=4 => needed,
+        5 | 6 => needed + r.from_to(1, 9),
+        7 => needed + BLOCK,
+        8 => needed + r.below(3 * BLOCK),
+        9 => needed.max(8_704),
+        10 | 11 => needed - 1,
+        12 => needed - BLOCK,
+        13 => needed - r.below(BLOCK),
+        14 => r.below(needed),
+        _ => 0,
+    }
 }

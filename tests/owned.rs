@@ -133,3 +133,20 @@ pub fn compare_read(file: &[u8]) -> Result<(), String> {
         checker::tables_in(file).and_then(|t| Picture::try_from(lend(&t)).map_err(compare_refusal));
     same("file", Picture::read(file).map_err(compare_refusal), want)
 }
+
+/// A picture packed: what the model packs, and the way back.
+pub fn compare_pack(t: &Tables) -> Result<(), String> {
+    let Ok(picture) = Picture::try_from(lend(t)) else {
+        return Ok(());
+    };
+    let packed = picture
+        .pack()
+        .map_err(|refusal| format!("a picture's pack: {refusal}"))?;
+    let want = checker::packing(t).expect("a picture has no fault");
+    let differ = |place: &usize| packed.get(*place) != want.get(*place);
+    let first = (0..packed.len().max(want.len())).find(differ);
+    same("packed length", packed.len(), want.len())?;
+    same("first wrong packed byte", first, None)?;
+    let back = Picture::read(&packed).map_err(compare_refusal);
+    same("way back", back, Ok(picture))
+}

@@ -33,6 +33,8 @@ static uint16_t numbers[RIGHTS_PAIRS_ROOM], list[RIGHTS_LIST_ROOM];
 static uint16_t users[RIGHTS_ATOMS_ROOM], files[RIGHTS_ATOMS_ROOM];
 static uint8_t read_boxes[RIGHTS_BOXES_ROOM];
 static uint16_t read_rows[RIGHTS_ROWS_ROOM], read_arrows[RIGHTS_ARROWS_ROOM];
+static uint8_t packed[RIGHTS_PACKED_ROOM];
+static size_t packed_len = sizeof packed;
 
 /* What is asked: an entry's user and file, and a mode. */
 static uint16_t user, file_box, mode;
@@ -68,6 +70,10 @@ static void read_call(void) {
                 read_arrows, RIGHTS_ARROWS_ROOM);
 }
 
+static void pack(void) {
+    rights_pack(boxes, boxes_len, rows, rows_len, arrows, arrows_len, packed, packed_len);
+}
+
 static void version(void) {
     rights_version();
 }
@@ -87,6 +93,7 @@ static const struct call {
     {"rights_judge", judge, RIGHTS_STACK_JUDGE},    {"rights_entry", entry, RIGHTS_STACK_ENTRY},
     {"rights_matrix", matrix, RIGHTS_STACK_MATRIX}, {"rights_list", list_call, RIGHTS_STACK_LIST},
     {"rights_atoms", atoms, RIGHTS_STACK_ATOMS},    {"rights_read", read_call, RIGHTS_STACK_READ},
+    {"rights_pack", pack, RIGHTS_STACK_PACK},
     {"rights_version", version, RIGHTS_STACK_VERSION},
 };
 
@@ -256,13 +263,14 @@ static void wrong(void) {
     arrows[arrows_len - 1] = 2;
 }
 
-/* With the refusals of judging and of the list of mode 0; 0 for none. */
+/* With the refusals of judging and of the list of mode 0, 0 for none, and the blocks of the packed
+   file, 0 for a refusal by 7. */
 static const struct picture {
     void (*make)(void);
-    uint32_t judged, listed;
+    uint32_t judged, listed, blocks;
 } pictures[] = {
-    {empty, 0, 0}, {single, 0, 0},   {nested, 0, 0},   {staircase, 0, 0},
-    {ring, 0, 13}, {unclear, 12, 0}, {looped, 10, 10}, {wrong, 7, 7},
+    {empty, 0, 0, 1}, {single, 0, 0, 8},   {nested, 0, 0, 17},  {staircase, 0, 0, 10},
+    {ring, 0, 13, 6}, {unclear, 12, 0, 8}, {looped, 10, 10, 4}, {wrong, 7, 7, 0},
 };
 enum { PICTURES = sizeof pictures / sizeof pictures[0] };
 
@@ -333,7 +341,9 @@ static void measure_all(void) {
         }
         user = RIGHTS_NO_ARROW; /* no box */
         mode = 0;
+        packed_len = 511; /* no block */
         measure();
+        packed_len = sizeof packed;
         fill_file();
         measure();
         file[file_len - 5] ^= 1; /* the last block is damaged */
@@ -366,6 +376,21 @@ static long found(const struct call *call) {
     return answer;
 }
 
+/* Whether the picture is packed into as many blocks as are said of it, and read back from them. */
+static int packed_as_said(uint32_t blocks) {
+    rights_reply packing = rights_pack(boxes, boxes_len, rows, rows_len, arrows, arrows_len, packed,
+                                       sizeof packed);
+    if (blocks == 0) {
+        return packing.kind == RIGHTS_REFUSED && packing.number == RIGHTS_MODE_OR_SIGN;
+    }
+    rights_reply reading = rights_read(packed, (size_t)packing.a, read_boxes, RIGHTS_BOXES_ROOM,
+                                       read_rows, RIGHTS_ROWS_ROOM, read_arrows,
+                                       RIGHTS_ARROWS_ROOM);
+    return packing.kind == RIGHTS_DONE && packing.a == 512 * blocks && reading.kind == RIGHTS_DONE
+           && rights_boxes_len(reading) == boxes_len && rights_rows_len(reading) == rows_len
+           && rights_arrows_len(reading) == arrows_len;
+}
+
 /* Whether the pictures and their files are what is said of them. */
 static int as_said(void) {
     int good = 1;
@@ -381,7 +406,8 @@ static int as_said(void) {
                                            RIGHTS_ROWS_ROOM, read_arrows, RIGHTS_ARROWS_ROOM);
         good = good && judged.number == pictures[k].judged && listed.number == pictures[k].listed
                && file_len == RIGHTS_MAX_FILE && reading.kind == RIGHTS_DONE
-               && rights_rows_len(reading) == rows_len && rights_arrows_len(reading) == arrows_len;
+               && rights_rows_len(reading) == rows_len && rights_arrows_len(reading) == arrows_len
+               && packed_as_said(pictures[k].blocks);
     }
     return good;
 }

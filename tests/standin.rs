@@ -4,6 +4,9 @@
 //! It can also be told to be wrong in one of many ways, so that the comparison can be shown to
 //! notice each of them.
 
+#[path = "standin_pack.rs"]
+mod packing;
+
 use std::slice::{from_raw_parts, from_raw_parts_mut};
 use std::sync::atomic::{AtomicUsize, Ordering::Relaxed};
 
@@ -197,6 +200,75 @@ ways! {
     JoinNotThroughGroups: "containment is not followed through user groups and folders",
     DrawnNotEmpty: "scratch holds 0 for what holds an empty group or folder",
     DrawnNotGroups: "rows of user groups and folders are not marked as drawn",
+    PackEmptyRows: "packing: an empty block follows a full one of containments",
+    PackEmptyArrows: "packing: an empty block follows a full one of arrows",
+    PackEmptyKinds: "packing: a table without rows has an empty block",
+    PackNoBoxBlock: "packing: a picture without boxes has no box block",
+    PackBoxBlockOne: "packing: the box block of a picture without boxes has count 1",
+    PackBoxes128: "packing: a block holds 128 boxes only",
+    PackRows124: "packing: a block holds 124 containments only",
+    PackArrows82: "packing: a block holds 82 arrows only",
+    PackEven: "packing: rows are spread evenly over the blocks of a kind",
+    PackPartialFirst: "packing: the first block of a kind is the one that isn't full",
+    PackArrowsFirst: "packing: arrow blocks stand before containment blocks",
+    PackKind: "packing: arrow blocks say kind 2",
+    PackByteOne: "packing: byte 1 of a head is 1",
+    PackByteSix: "packing: byte 6 of a head is 1",
+    PackNumbersAnew: "packing: block numbers begin anew for each kind",
+    PackNumbersFromOne: "packing: block numbers begin with 1",
+    PackCountLow: "packing: the high byte of a count is 0",
+    PackCountNumbers: "packing: a count is of numbers, not of rows",
+    PackBigEndian: "packing: box numbers are big-endian",
+    PackBigEndianHead: "packing: block numbers and counts are big-endian",
+    PackBigEndianCheck: "packing: checks are big-endian",
+    PackOuterInner: "packing: outer and inner box are exchanged",
+    PackTailHead: "packing: tail and head are exchanged",
+    PackModeSign: "packing: mode and sign are exchanged",
+    PackSignTurned: "packing: signs are turned round",
+    PackRowsReversed: "packing: containments go from the last to the first",
+    PackRowsSorted: "packing: containments are sorted",
+    PackArrowsReversed: "packing: arrows go from the last to the first",
+    PackArrowsByMode: "packing: arrows go by mode",
+    PackRowRepeats: "packing: repeated containments are left out",
+    PackArrowRepeats: "packing: repeated arrows are left out",
+    PackSelfRows: "packing: rows from a box to itself are left out",
+    PackEmptyDropped: "packing: arrows at empty groups and folders are left out",
+    PackSides: "packing: user groups and folders are written as 0 and 1",
+    PackLastRow: "packing: the 1,024th containment is left out",
+    PackLastArrow: "packing: the 512th arrow is left out",
+    PackFillerKept: "packing: the filler is not written",
+    PackFillerOnes: "packing: the filler is 255",
+    PackCheckWithoutFiller: "packing: the check leaves out the filler",
+    PackCheckWithoutCount: "packing: the check is made before the count is written",
+    PackCheckWithoutHead: "packing: the check leaves out the head",
+    PackCheckRunsOn: "packing: the check runs on from block to block",
+    PackFnvOne: "packing: the check multiplies before it mixes",
+    PackLastBlock: "packing: the last block is lost",
+    PackBlocks: "packing: the answer is the number of blocks",
+    PackAnswersLent: "packing: the answer is the length that was lent",
+    PackAnswersCounts: "packing: the answer names the boxes too",
+    PackNineBuffer: "packing: 9 names buffer 5",
+    PackNineBlocks: "packing: 9 names the blocks needed, not the bytes",
+    PackNineMissing: "packing: 9 names the bytes that are missing",
+    PackNineRoom: "packing: 9 asks for the longest packed file",
+    PackNineExact: "packing: a file of the exact length is too short",
+    PackNineRows: "packing: 9 asks for one block more where all blocks of containments are full",
+    PackNineArrows: "packing: 9 asks for one block more where all blocks of arrows are full",
+    PackNineFirst: "packing: 9 before 1 to 7",
+    PackFillsShort: "packing: a file that is too short is filled as far as it goes",
+    PackClearedFirst: "packing: a file that is too short is cleared",
+    PackWritesFirst: "packing: the file is written before 1 to 7 are known",
+    PackCleared: "packing: the bytes beyond the length are cleared",
+    PackBeyond: "packing: the byte beyond the length is cleared",
+    PackTen: "packing: a box that contains itself is refused by 10",
+    PackTwelve: "packing: an unclear picture is refused by 12",
+    PackNotOne: "packing: half a row is left out, not refused",
+    PackNotTwo: "packing: tables may have any number of rows",
+    PackNotThree: "packing: box bytes above 3 are packed",
+    PackNotFour: "packing: containments of boxes that aren't there are packed",
+    PackNotFive: "packing: containments across sides are packed",
+    PackNotSix: "packing: arrows between wrong sides are packed",
+    PackNotSeven: "packing: modes above 7 and signs above 1 are packed",
 }
 
 static WRONG: AtomicUsize = AtomicUsize::new(0);
@@ -1306,7 +1378,7 @@ fn leave(t: &Tables, by: Wrong, scratch: &mut [u8], answer: Reply) -> Reply {
 
 #[no_mangle]
 pub extern "C" fn rights_version() -> u32 {
-    0x03_00_00
+    0x03_01_00
 }
 
 #[no_mangle]
@@ -1450,4 +1522,23 @@ pub unsafe extern "C" fn rights_read(
         from_raw_parts_mut(rows, rows_len),
         from_raw_parts_mut(arrows, arrows_len),
     )
+}
+
+#[no_mangle]
+pub unsafe extern "C" fn rights_pack(
+    boxes: *const u8,
+    boxes_len: usize,
+    rows: *const u16,
+    rows_len: usize,
+    arrows: *const u16,
+    arrows_len: usize,
+    file: *mut u8,
+    file_len: usize,
+) -> Reply {
+    let t = Tables {
+        boxes: from_raw_parts(boxes, boxes_len),
+        rows: from_raw_parts(rows, rows_len),
+        arrows: from_raw_parts(arrows, arrows_len),
+    };
+    packing::pack(&t, from_raw_parts_mut(file, file_len))
 }

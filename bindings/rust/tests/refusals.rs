@@ -1,7 +1,7 @@
 //! Which refusal the calls on a picture answer with, what refusals print, and what groups that have
 //! emptied answer.
 
-use rights::lent::Tables;
+use rights::lent::{Tables, PACKED_ROOM};
 use rights::{Answer, Arrow, BoxKind, Buffer, Cell, Mode, Picture, Refusal, Sign, Table};
 
 fn arrow(tail: u16, head: u16, mode: u16, sign: Sign) -> Arrow {
@@ -14,13 +14,18 @@ fn arrow(tail: u16, head: u16, mode: u16, sign: Sign) -> Arrow {
     }
 }
 
-/// The refusal of every call on the picture, which must be the same.
+/// The refusal of every call on the picture, which must be the same; a picture with a box that
+/// contains itself is packed.
 fn refused(picture: &Picture) -> Refusal {
     let mode = Mode::new(0).unwrap();
     let refusal = picture.judge().unwrap_err();
     assert_eq!(picture.entry(0, 0, mode), Err(refusal));
     assert_eq!(picture.matrix(mode), Err(refusal));
     assert_eq!(picture.list(mode), Err(refusal));
+    match refusal {
+        Refusal::ContainsItself { .. } => assert!(picture.pack().is_ok()),
+        _ => assert_eq!(picture.pack(), Err(refusal)),
+    }
     refusal
 }
 
@@ -184,6 +189,50 @@ fn buffers_of_the_caller() {
 }
 
 #[test]
+fn buffers_for_a_packed_file() {
+    let mut arrows = [0, 1, 7, 1].repeat(84);
+    let tables = Tables {
+        boxes: &[0, 1],
+        containments: &[0, 0].repeat(125),
+        arrows: &arrows,
+    };
+    let (buffer, needed) = (Buffer::PackedFile, 2_048);
+    let short = Refusal::BufferShort { buffer, needed };
+    assert_eq!(short.numbers(), (9, [8, 2_048, 0]));
+    for length in [0, 512, 2_047] {
+        let mut file = vec![9; length];
+        assert_eq!(tables.pack(&mut file), Err(short));
+        assert!(file.iter().all(|&byte| byte == 9));
+    }
+    let mut file = vec![9; PACKED_ROOM];
+    assert_eq!(tables.pack(&mut file), Ok(2_048));
+    assert!(file[2_048..].iter().all(|&byte| byte == 9));
+
+    // Faults of the tables come first.
+    arrows[4 * 83 + 2] = 8;
+    let tables = Tables {
+        boxes: &[0, 1],
+        arrows: &arrows,
+        ..Tables::default()
+    };
+    let refusal = Refusal::ModeOrSign { row: 83 };
+    assert_eq!(tables.pack(&mut []), Err(refusal));
+}
+
+#[test]
+fn unclear_pictures_are_packed() {
+    let signs = [Sign::Positive, Sign::Negative];
+    let picture = Picture {
+        boxes: vec![BoxKind::Group, BoxKind::Folder],
+        containments: vec![],
+        arrows: signs.map(|sign| arrow(0, 1, 7, sign)).to_vec(),
+    };
+    let packed = picture.pack().unwrap();
+    assert_eq!(packed.len(), 1_024);
+    assert_eq!(Picture::read(&packed), Ok(picture));
+}
+
+#[test]
 fn what_they_print() {
     let failed: Box<dyn std::error::Error> = Box::new(Mode::new(8).unwrap_err());
     assert_eq!(failed.to_string(), "refusal 8: mode 8 is above 7");
@@ -196,6 +245,11 @@ fn what_they_print() {
     assert_eq!(
         Refusal::BufferShort { buffer, needed }.to_string(),
         "refusal 9: buffer matrix bytes is too short, 4 places are needed"
+    );
+    let (buffer, needed) = (Buffer::PackedFile, 1_536);
+    assert_eq!(
+        Refusal::BufferShort { buffer, needed }.to_string(),
+        "refusal 9: buffer packed file is too short, 1536 places are needed"
     );
     let (user, file) = (2, 6);
     assert_eq!(

@@ -1,9 +1,11 @@
 //! Every file of `samples/` through the package: the listing made of its answers must be the one
-//! stored beside the file.
+//! stored beside the file, and a regular file must be what its picture is packed to.
 
+use rights::lent::{self, Tables, PACKED_ROOM};
 use rights::{Answer, Mode, Picture, Refusal};
 use std::fmt::Write;
 use std::fs;
+use std::path::PathBuf;
 
 /// The program reads no more of its input than this.
 const MOST_INPUT: usize = 32_769;
@@ -50,14 +52,23 @@ fn listing(file: &[u8]) -> Result<String, Refusal> {
     Ok(lines + &last)
 }
 
+/// The block files, by name.
+fn samples() -> Vec<PathBuf> {
+    let entries = fs::read_dir("../../samples").unwrap();
+    let mut paths: Vec<PathBuf> = entries.map(|entry| entry.unwrap().path()).collect();
+    paths.retain(|path| path.extension() == Some("blk".as_ref()));
+    paths.sort();
+    paths
+}
+
+fn sample(name: &str) -> Vec<u8> {
+    fs::read(format!("../../samples/{name}.blk")).unwrap()
+}
+
 #[test]
 fn every_sample() {
     let mut count = 0;
-    for entry in fs::read_dir("../../samples").unwrap() {
-        let path = entry.unwrap().path();
-        if path.extension() != Some("blk".as_ref()) {
-            continue;
-        }
+    for path in samples() {
         let file = fs::read(&path).unwrap();
         let got = listing(&file[..file.len().min(MOST_INPUT)]).unwrap_or_else(|refusal| {
             let (number, [a, b, c]) = refusal.numbers();
@@ -68,4 +79,54 @@ fn every_sample() {
         count += 1;
     }
     assert!(count > 30, "only {count} samples found");
+}
+
+#[test]
+fn regular_samples_packed() {
+    let mut packed = Vec::new();
+    for path in samples() {
+        let file = fs::read(&path).unwrap();
+        let name = path.file_stem().unwrap().to_str().unwrap().to_string();
+        let Ok(picture) = Picture::read(&file) else {
+            continue;
+        };
+        let again = picture.pack().unwrap();
+        assert_eq!(Picture::read(&again), Ok(picture), "{name}");
+        if name != "loose-blocks" {
+            assert_eq!(again, file, "{name}");
+            packed.push(name);
+        }
+    }
+    // H and the last one have a box that contains itself.
+    let mut want: Vec<String> = ('A'..='J').map(String::from).collect();
+    want.extend(["groups", "limits", "modes", "refused-10", "shown"].map(String::from));
+    assert_eq!(packed, want);
+    assert_eq!(sample("limits").len(), PACKED_ROOM);
+}
+
+#[test]
+fn loose_blocks_packed() {
+    let file = sample("loose-blocks");
+    let packed = Picture::read(&file).unwrap().pack().unwrap();
+    assert_eq!((file.len(), packed.len()), (3_072, 1_536));
+    assert_eq!(packed, sample("B"));
+}
+
+#[test]
+fn faulty_samples_not_packed() {
+    for number in 3..=7 {
+        let file = sample(&format!("refused-0{number}"));
+        let (mut boxes, mut rows, mut arrows) = ([9; 256], [9; 2048], [9; 2048]);
+        let counts = lent::read(&file, &mut boxes, &mut rows, &mut arrows).unwrap();
+        let tables = Tables {
+            boxes: &boxes[..counts.boxes],
+            containments: &rows[..2 * counts.containments],
+            arrows: &arrows[..4 * counts.arrows],
+        };
+        let mut lent = [9; PACKED_ROOM];
+        let (refused, [a, b, c]) = tables.pack(&mut lent).unwrap_err().numbers();
+        let want = fs::read_to_string(format!("../../samples/refused-0{number}.txt")).unwrap();
+        assert_eq!(format!("refused {refused} {a} {b} {c}\n"), want);
+        assert_eq!(lent, [9; PACKED_ROOM]);
+    }
 }
