@@ -23,14 +23,9 @@ fn programs() -> &'static Path {
     FOLDER.get_or_init(|| {
         let target = Path::new(env!("CARGO_TARGET_TMPDIR")).parent().unwrap();
         let mut cargo = Command::new(env!("CARGO"));
-        cargo.args([
-            "build",
-            "--offline",
-            "--quiet",
-            "--examples",
-            "--target-dir",
-        ]);
-        assert!(cargo.arg(target).status().unwrap().success());
+        let arguments = "build --offline --quiet --examples --target-dir";
+        cargo.args(arguments.split(' ')).arg(target);
+        assert!(cargo.status().unwrap().success());
         target.join("debug/examples")
     })
 }
@@ -119,29 +114,30 @@ fn b_of_the_page() {
     assert_eq!(made("text2blk", marked.as_bytes()), sample("B"));
 }
 
+/// Names from further down, numbers, all signs, rows twice, a box inside itself, tabs and comments.
+const TEXT: &str = "arrow lab-2 runs read +\t# lab-2 is box 2
+arrow 0 4 7 -
+ann inside lab-2
+1 inside lab-2#
+1 inside lab-2
+03 inside runs
+lab-2 inside lab-2
+user ann
+user Zoë_2.b
+group lab-2
+file 240501_M0.fastq
+folder runs
+folder ann2
+mode 3 runs
+arrow lab-2 runs runs 1
+arrow lab-2 runs 3 0
+mode 0 read
+arrow ann ann2 read positive
+arrow ann ann2 read negative";
+
 #[test]
 fn what_the_text_may_be() {
-    let text = "arrow lab-2 runs read +\t# names from below, and tabs
-        arrow 0 4 7 -
-        ann inside lab-2
-        1 inside lab-2#
-        1 inside lab-2
-        03 inside runs
-        lab-2 inside lab-2
-        user ann
-        user Zoë_2.b
-        group lab-2
-        file 240501_M0.fastq
-        folder runs
-        folder ann2
-        mode 3 runs
-        arrow lab-2 runs runs 1
-        arrow lab-2 runs 3 0
-        mode 0 read
-        arrow ann ann2 read positive
-        arrow ann ann2 read negative";
-    let (user, file) = (BoxKind::User, BoxKind::File);
-    let (group, folder) = (BoxKind::Group, BoxKind::Folder);
+    let [user, file, group, folder] = BoxKind::ALL;
     let arrow = |tail, head, mode: usize, sign| Arrow {
         tail,
         head,
@@ -160,7 +156,7 @@ fn what_the_text_may_be() {
             arrow(0, 5, 0, Sign::Negative),
         ],
     };
-    assert_eq!(parse(text.as_bytes()), Ok(picture));
+    assert_eq!(parse(TEXT.as_bytes()), Ok(picture));
     for nothing in ["", "\n\r\n", "# user ann", " \t #"] {
         assert_eq!(parse(nothing.as_bytes()), Ok(Picture::default()));
     }
@@ -231,7 +227,7 @@ fn input_that_fails() {
     }
     for program in ["text2blk", "blk2text"] {
         let failed = |said: String| (Some(2), vec![], said + "\n");
-        let usage = format!("usage: {program} [FILE], standard input without FILE");
+        let usage = format!("usage: {program} [FILE]; without FILE, standard input is read");
         assert_eq!(run(program, &[path, path], b""), failed(usage.clone()));
         assert_eq!(run(program, &["--help"], b""), failed(usage));
         let why = "cannot read no/such: No such file or directory (os error 2)";

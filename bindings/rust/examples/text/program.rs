@@ -31,7 +31,7 @@ fn convert(program: &str, make: Make) -> Result<(), (u8, String)> {
     let mut arguments = std::env::args_os().skip(1);
     let path = arguments.next();
     if arguments.next().is_some() || path.as_deref() == Some(OsStr::new("--help")) {
-        let usage = format!("usage: {program} [FILE], standard input without FILE");
+        let usage = format!("usage: {program} [FILE]; without FILE, standard input is read");
         return Err((FAILED, usage));
     }
     let name = path.as_deref().unwrap_or(OsStr::new("standard input"));
