@@ -2,8 +2,9 @@
 //!
 //!     blk2text [FILE] > picture.txt
 //!
-//! `docs/USING.md` describes the text. Exit status 0: the text is written whole; 1: the block file is
-//! refused; 2: the system failed, or the program was called in a wrong way. Why: standard error.
+//! `docs/USING.md` describes the text. Exit status 0: the text is written whole. 1: the block file
+//! is refused. 2: the system failed, or the program was called in a wrong way. Standard error says
+//! why.
 
 mod text {
     mod kinds;

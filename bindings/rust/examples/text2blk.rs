@@ -2,8 +2,9 @@
 //!
 //!     text2blk [FILE] > picture.blk
 //!
-//! `docs/USING.md` describes the text. Exit status 0: the block file is written whole; 1: the text is
-//! refused; 2: the system failed, or the program was called in a wrong way. Why: standard error.
+//! `docs/USING.md` describes the text. Exit status 0: the block file is written whole. 1: the text
+//! is refused. 2: the system failed, or the program was called in a wrong way. Standard error says
+//! why.
 
 mod text {
     mod kinds;
