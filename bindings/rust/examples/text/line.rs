@@ -62,7 +62,7 @@ fn misshapen(words: &[&str]) -> String {
         }
     };
     let (asked, given) = (form.split(' ').count(), words.len());
-    format!("write '{form}', {asked} words; here are {given}")
+    format!("write '{form}': {asked} words, not {given}")
 }
 
 /// A word that may be a name.
