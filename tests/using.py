@@ -1,7 +1,7 @@
 #!/usr/bin/env python3
 """Compiles the two programs that docs/USING.md shows, runs them on samples B and J, and holds the matrix that they print against
-the stored listings. The steps up that the page shows are held against those that examples/c stores, and its listings of groups
-that have emptied against the program's.
+the stored listings. The steps up that the page shows are held against those that examples/c stores, its listings of groups that
+have emptied against the program's, and its texts of B against the two programs that read and write them.
 
     using.py     in the repository's root, after target/staticlib/librights_c.a, target/librights.rlib and target/bin/rights are built
 """
@@ -17,11 +17,11 @@ import samples
 
 ROOT = pathlib.Path(__file__).resolve().parent.parent
 TARGET = ROOT / "target"
+RUST = ["rustc", "--edition", "2021", "--extern", "rights=target/librights.rlib", "-o"]
 COMPILE = {
     "c": ["cc", "-std=c99", "-Wall", "-Wextra", "-Werror", "-Iinclude", "-o", "target/using-c", "target/using.c",
           "target/staticlib/librights_c.a"],
-    "rust": ["rustc", "--edition", "2021", "--extern", "rights=target/librights.rlib", "-o", "target/using-rust",
-             "target/using.rust"],
+    "rust": [*RUST, "target/using-rust", "target/using.rust"],
 }
 
 
@@ -39,6 +39,30 @@ def groups():
     for boxes in picture["boxes"], [byte % 2 for byte in picture["boxes"]]:
         file = samples.file_of({**picture, "boxes": boxes})
         yield subprocess.run([TARGET / "bin" / "rights"], input=file, capture_output=True, timeout=30).stdout.decode()
+
+
+def shows(page, lines):
+    """Whether the page shows these lines, which are some, one below the other."""
+    return lines != [] and "".join(f"    {line}\n" for line in lines) in page
+
+
+def texts(page):
+    """What the two programs for pictures as text do otherwise than the page shows: with B, and with a wrong name in it."""
+    (text,) = re.findall(r"```text\n(.*?)```", page, re.S)
+    (TARGET / "B.txt").write_text(text.replace("bob inside", "bobb inside"))
+    for name in ["text2blk", "blk2text"]:
+        subprocess.run([*RUST, f"target/{name}", f"bindings/rust/examples/{name}.rs"], cwd=ROOT, check=True)
+
+    def run(name, *arguments, given=b""):
+        return subprocess.run([TARGET / name, *arguments], cwd=TARGET, input=given, capture_output=True, timeout=30)
+
+    packed = (ROOT / "samples" / "B.blk").read_bytes()
+    if run("text2blk", given=text.encode()).stdout != packed:
+        yield "the page's text of B is another picture"
+    if not shows(page, run("blk2text", given=packed).stdout.decode().splitlines()):
+        yield "the page shows another text of B than blk2text"
+    if not shows(page, run("text2blk", "B.txt").stderr.decode().splitlines()):
+        yield "the page shows another message for a wrong name"
 
 
 def main():
@@ -60,10 +84,13 @@ def main():
                 print(f"{language}, {name}: {ran.stdout.decode()}{ran.stderr.decode()}")
     steps = (ROOT / "examples" / "c" / "steps" / "J.0.txt").read_text().splitlines()[:-1]
     for what, lines in [("steps up from user 0 of J", steps), *(("listing of groups", text.splitlines()) for text in groups())]:
-        if "".join(f"    {line}\n" for line in lines) not in page:
+        if not shows(page, lines):
             wrong += 1
             print(f"the page shows another {what}")
-    print(f"using: 2 programs on 2 samples, the steps up and 2 listings, {wrong} wrong")
+    for what in texts(page):
+        wrong += 1
+        print(what)
+    print(f"using: 2 programs on 2 samples, the steps up, 2 listings and 2 texts, {wrong} wrong")
     sys.exit(wrong > 0)
 
 
