@@ -246,7 +246,7 @@ mod tests {
         assert_eq!(Refusal::from_numbers(0, [0; 3]), None);
         assert_eq!(Refusal::from_numbers(18, [0; 3]), None);
         assert_eq!(Refusal::from_numbers(1, [3, 1, 0]), None);
-        assert_eq!(Refusal::from_numbers(9, [8, 1, 0]), None);
+        assert_eq!(Refusal::from_numbers(9, [10, 1, 0]), None);
         assert_eq!(Refusal::from_numbers(10, [65_536, 0, 0]), None);
         assert_eq!(Refusal::from_numbers(10, [0, 0, 1]), None);
     }

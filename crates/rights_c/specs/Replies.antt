@@ -12,6 +12,8 @@ use Rattle.headings.specs.declared.Headings.{Headings}
 use Rattle.headings.specs.declared.Headings.the-variants.{Written as HeadingsWritten, Refused as HeadingsRefused}
 use Rattle.blocks.specs.declared.Reading.{Reading}
 use Rattle.blocks.specs.declared.Reading.the-variants.{Tables, Refused as ReadRefused}
+use Rattle.packer.specs.declared.Packing.{Packing}
+use Rattle.packer.specs.declared.Packing.the-variants.{Packed, Refused as PackRefused}
 use Rattle.answers.specs.declared.Reply.{Reply as EntryReply}
 use Rattle.rights_c.specs.declared.Reply.{Reply}
 
@@ -57,6 +59,11 @@ abbrev pub readReply : Reading → Reply
 readReply (Tables c) = doneReply (c .boxes) (c .containments) (c .arrows)
 readReply (ReadRefused r) = refusedReply r
 
--- the version: major 3, minor 0, patch 0, as major × 65,536 + minor × 256 + patch
+-- packing: done with the length
+abbrev pub packReply : Packing → Reply
+packReply (Packed len) = doneReply len 0 0
+packReply (PackRefused r) = refusedReply r
+
+-- the version: major 3, minor 1, patch 0, as major × 65,536 + minor × 256 + patch
 abbrev pub version : ℕ
-version = 196608
+version = 196864

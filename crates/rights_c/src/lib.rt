@@ -9,13 +9,15 @@ ghost use Rattle.answers.specs.Calls.{replyOf, entryEarly, entryFault, judgeFau
 ghost use Rattle.lists.specs.Calls.{listEarly, listBefore, listAnswer, listAfter, workAfter};
 ghost use Rattle.headings.specs.Calls.{headingsOf, headingFault, usersAfter, filesAfter};
 ghost use Rattle.blocks.specs.Reads.{ReadDone};
+ghost use Rattle.packer.specs.Packs.{packAnswer, fileAfter};
 ghost use Rattle.rights_c.specs.Replies.{reply, doneReply, refusedReply, verdictReply, entryReply, askedReply};
-ghost use Rattle.rights_c.specs.Replies.{listReply, headingReply, readReply, version};
+ghost use Rattle.rights_c.specs.Replies.{listReply, headingReply, readReply, packReply, version};
 ghost use Rattle.blocks.specs.declared.Reading.{Reading};
 use answers::Entry;
 use blocks::Reading;
 use headings::Headings;
 use lists::Listed;
+use packer::Packing;
 use tables::Refusal;
 use tables::Verdict;
 
@@ -121,6 +123,15 @@ fn of_reading(x: Reading) -> Reply
     }
 }
 
+fn of_packing(x: Packing) -> Reply
+    ensures { λ r. ⌜ r ≡ packReply x ⌝ }
+{
+    match x {
+        Packing::Packed(len) => done(len, 0, 0),
+        Packing::Refused(y) => of_refusal(y),
+    }
+}
+
 #[no_mangle]
 pub extern "C" fn rights_judge(
     boxes: &[u8],
@@ -223,10 +234,20 @@ pub extern "C" fn rights_read(
     of_reading(blocks::read(file, boxes, rows, arrows))
 }
 
-// The version of these calls: major 2, minor 0, patch 0, one byte each.
+#[no_mangle]
+pub extern "C" fn rights_pack(boxes: &[u8], rows: &[u16], arrows: &[u16], file: &mut [u8]) -> Reply
+    ensures { λ r. ⌜ r
+        ≡ packReply (packAnswer (now (boxes .entry)) (now (rows .entry)) (now (arrows .entry)) (now (file .entry))) ⌝ }
+    ensures { λ _. ⌜ now (file .exit)
+        ≡ fileAfter (now (boxes .entry)) (now (rows .entry)) (now (arrows .entry)) (now (file .entry)) ⌝ }
+{
+    of_packing(packer::pack(boxes, rows, arrows, file))
+}
+
+// The version of these calls: major 3, minor 1, patch 0, one byte each.
 #[no_mangle]
 pub extern "C" fn rights_version() -> u32
     ensures { λ r. ⌜ r ≡ version ⌝ }
 {
-    0x030000
+    0x030100
 }
