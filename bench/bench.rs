@@ -38,6 +38,7 @@ enum Call {
     /// Users go into the list's buffer and files into the rows', which both suffice.
     Atoms,
     Read,
+    Pack,
 }
 
 use Call::*;
@@ -52,11 +53,12 @@ impl Call {
             List => "list",
             Atoms => "atoms",
             Read => "read",
+            Pack => "pack",
         }
     }
 
     fn of(name: &str) -> Option<Call> {
-        [Fill, Entry, Judge, Matrix, List, Atoms, Read]
+        [Fill, Entry, Judge, Matrix, List, Atoms, Read, Pack]
             .into_iter()
             .find(|c| c.name() == name)
     }
@@ -79,6 +81,7 @@ struct Buffers {
     boxes: Vec<u8>,
     rows: Vec<u16>,
     arrows: Vec<u16>,
+    file: Vec<u8>,
 }
 
 impl Buffers {
@@ -92,6 +95,7 @@ impl Buffers {
             boxes: vec![170; 256],
             rows: vec![43690; 2048],
             arrows: vec![43690; 2048],
+            file: vec![170; 8800],
         }
     }
 }
@@ -163,6 +167,7 @@ impl Case {
                 .map(|c| [c.users as u64, c.files as u64, 0]),
             Read => lent::read(&self.file, &mut b.boxes, &mut b.rows, &mut b.arrows)
                 .map(|c| [c.boxes, c.containments, c.arrows].map(|x| x as u64)),
+            Pack => p.pack(&mut b.file).map(|length| [length as u64, 0, 0]),
         };
         outcome.map_err(|refusal| refusal.numbers())
     }
@@ -188,6 +193,7 @@ impl Case {
             Atoms => twin::atoms(t, &mut b.list, &mut b.rows).map(|[u, f]| [u as u64, f as u64, 0]),
             Read => twin::read(&self.file, &mut b.boxes, &mut b.rows, &mut b.arrows)
                 .map(|c| [c.boxes, c.rows, c.arrows].map(|x| x as u64)),
+            Pack => twin::pack(t, &mut b.file).map(|length| [length as u64, 0, 0]),
         };
         outcome.map_err(|r| (r.number, r.places.map(|x| x as u64)))
     }
@@ -260,7 +266,7 @@ const CASES: &[(&str, Build, usize, &[Call])] = &[
         "typical",
         || pictures::typical(512),
         0,
-        &[Fill, Entry, Judge, Matrix, List, Atoms, Read],
+        &[Fill, Entry, Judge, Matrix, List, Atoms, Read, Pack],
     ),
     (
         "every-64",
@@ -292,7 +298,7 @@ const CASES: &[(&str, Build, usize, &[Call])] = &[
         "random-rows",
         || pictures::random_rows(256),
         64,
-        &[Fill, Entry, Read],
+        &[Fill, Entry, Read, Pack],
     ),
     (
         "single",
@@ -364,6 +370,13 @@ const GROWTH: &[Series] = &[
         sizes: BOXES,
         build: pictures::random_rows,
         call: Fill,
+    },
+    Series {
+        key: "grow-pack",
+        says: "random rows, 4 to a box, 512 arrows: boxes",
+        sizes: BOXES,
+        build: pictures::random_rows,
+        call: Pack,
     },
     Series {
         key: "grow-pairs",

@@ -780,3 +780,41 @@ pub fn read(
     }
     Ok(counts)
 }
+
+/// Head, filler and check around a block's records.
+fn finish_block(block: &mut [u8], kind: u8, number: usize, count: usize) {
+    block[..2].copy_from_slice(&[kind, 0]);
+    block[2..4].copy_from_slice(&(number as u16).to_le_bytes());
+    block[4..6].copy_from_slice(&(count as u16).to_le_bytes());
+    block[6..8].fill(0);
+    block[8 + KINDS[kind as usize - 1].0 * count..COVERED].fill(0);
+    let check = block_check(&block[..COVERED]);
+    block[COVERED..].copy_from_slice(&check.to_le_bytes());
+}
+
+pub fn pack(t: Tables, file: &mut [u8]) -> Result<usize, Refusal> {
+    check(t)?;
+    let blocks = 1 + (t.rows.len() / 2).div_ceil(125) + (t.arrows.len() / 4).div_ceil(83);
+    check_room(8, file.len(), BLOCK * blocks)?;
+    let (first, rest) = file.split_at_mut(BLOCK);
+    first[8..8 + t.boxes.len()].copy_from_slice(t.boxes);
+    finish_block(first, 1, 0, t.boxes.len());
+    let mut rest = rest.chunks_exact_mut(BLOCK).zip(1..);
+    for (part, (block, number)) in t.rows.chunks(2 * 125).zip(&mut rest) {
+        for (record, row) in block[8..].chunks_exact_mut(4).zip(part.chunks_exact(2)) {
+            record[..2].copy_from_slice(&row[0].to_le_bytes());
+            record[2..].copy_from_slice(&row[1].to_le_bytes());
+        }
+        finish_block(block, 2, number, part.len() / 2);
+    }
+    for (part, (block, number)) in t.arrows.chunks(4 * 83).zip(&mut rest) {
+        for (record, row) in block[8..].chunks_exact_mut(6).zip(part.chunks_exact(4)) {
+            record[..2].copy_from_slice(&row[0].to_le_bytes());
+            record[2..4].copy_from_slice(&row[1].to_le_bytes());
+            record[4] = row[2] as u8;
+            record[5] = row[3] as u8;
+        }
+        finish_block(block, 3, number, part.len() / 4);
+    }
+    Ok(BLOCK * blocks)
+}
