@@ -12,6 +12,8 @@
 #define PROGRAM "label"
 #include "picture.h"
 
+static uint8_t scratch[RIGHTS_SCRATCH_ROOM];
+
 enum { MODE = 0 };
 
 /* What the calls are lent beside the picture and scratch, long enough for every picture. */

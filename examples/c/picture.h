@@ -12,12 +12,11 @@
 
 enum { GOOD = 0, NOT_GOOD = 1, FAILED = 2 };
 
-/* The file, its picture and scratch, long enough for every picture. */
+/* The file and its picture, long enough for every picture. */
 static uint8_t file[RIGHTS_FILE_ROOM];
 static uint8_t boxes[RIGHTS_BOXES_ROOM];
 static uint16_t rows[RIGHTS_ROWS_ROOM], arrows[RIGHTS_ARROWS_ROOM];
 static size_t boxes_len, rows_len, arrows_len;
-static uint8_t scratch[RIGHTS_SCRATCH_ROOM];
 
 /* A refusal: its number, its name, and the three numbers as the header lists them. */
 static void tell(FILE *out, rights_reply reply) {

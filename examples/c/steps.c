@@ -13,6 +13,8 @@
 #include "picture.h"
 #include <stdlib.h>
 
+static uint8_t scratch[RIGHTS_SCRATCH_ROOM];
+
 /* The boxes of which the scratch says this about box b. How many they are. */
 static int print_boxes(const char *words, size_t b, uint8_t said) {
     int count = 0;

@@ -8,6 +8,7 @@
 //       atomic_boxes
 //   f   a block file, and how many places of the three tables are lent; for read, and for a block reader that moves on from
 //       the first block, from the last block and from behind it
+//   b   a picture to be packed into blocks: its three tables, and how many places of the file are lent; for pack
 //   c   bytes, for their check
 // Every buffer has 65,600 places, which hold 170 or 43690 before each call. What is written is the label and a line for each call:
 // what it answers, and then what every place of every buffer holds, as in a table.
@@ -24,6 +25,7 @@ use headings::Headings;
 use libc::STDIN_FILENO;
 use libc::STDOUT_FILENO;
 use lists::Listed;
+use packer::Packing;
 use tables::Refusal;
 use tables::Verdict;
 
@@ -312,6 +314,18 @@ fn show_reading(reading: Reading) {
     }
 }
 
+fn show_packing(p: Packing) {
+    match p {
+        Packing::Packed(n) => {
+            io::write_all(STDOUT_FILENO, b"packed");
+            print(n);
+        }
+        Packing::Refused(r) => {
+            show_refusal(r);
+        }
+    }
+}
+
 // The head of the block that a reader sees, if any.
 fn show_seen(seen: Seen) {
     match seen {
@@ -493,6 +507,25 @@ fn file_case() {
     show_moves(&file[..n]);
 }
 
+// Packs a picture into as many places of the file as the input says.
+fn show_blocks(boxes: &[u8], rows: &[u16], arrows: &[u16], file: &mut [u8]) {
+    let n = bytes_lent(file, number().value);
+    show_packing(packer::pack(boxes, rows, arrows, &mut file[..n]));
+    show_bytes(file);
+    io::write_all(STDOUT_FILENO, b"\n");
+}
+
+fn pack_case() {
+    let mut boxes = bytes();
+    let mut rows = numbers();
+    let mut arrows = numbers();
+    let mut file = bytes();
+    let b = byte_table(&mut boxes);
+    let r = number_table(&mut rows);
+    let a = number_table(&mut arrows);
+    show_blocks(&boxes[..b], &rows[..r], &arrows[..a], &mut file);
+}
+
 fn check_case() {
     let mut bytes = bytes();
     let n = byte_table(&mut bytes);
@@ -508,6 +541,9 @@ fn case() {
     }
     io::write_all(STDOUT_FILENO, &label);
     match label[0] {
+        b'b' => {
+            pack_case();
+        }
         b'c' => {
             check_case();
         }
