@@ -1,14 +1,12 @@
+-- The room is that of the blocks counted, and one block fewer has too little. Assumes nothing.
 use mathlib.Core.Path.{_≡_, sym}
 use Prim.Native.Nat.{_+_, _*_, _-_, _<_, _≤_}
 use native.Mathlib.Nat.{mul-zero, mul-suc}
 use native.Mathlib.Numerals.{add-one}
 use Rattle.packer.proofs.Regular.{blocks-are}
-use native.Mathlib.Omega.{arith}
 use borrow.Author.Needs.{needs}
 use Rattle.packer.proofs.blocks_for.Statement.{statement}
 use Rattle.packer.proofs.blocks_for.Tie as tie
-use Rattle.packer.proofs.blocks_for.Reads as reads
-use Rattle.packer.proofs.blocks_for.Lts as lts
 
 abbrev Inv-loop : tie.InvT-loop
 Inv-loop rows capacity blocks₀ room₀ blocks room = (room ≡ capacity * blocks) × (room < rows + capacity) × (blocks ≤ room)
@@ -16,33 +14,18 @@ Inv-loop rows capacity blocks₀ room₀ blocks room = (room ≡ capacity * bloc
 abbrev μ-loop : tie.MeasureT-loop
 μ-loop rows capacity blocks₀ room₀ blocks room = rows - room
 
--- src/lib.rt:87:5
 loop-holds : tie.Need-loop-holds Inv-loop μ-loop
 loop-holds c = (sym (mul-zero _), search needs, search needs)
 
--- src/lib.rt:88:9
-add-blocks : tie.Need-add-blocks Inv-loop μ-loop
-add-blocks c = search needs
-
--- src/lib.rt:89:9
-add-room : tie.Need-add-room Inv-loop μ-loop
-add-room c = search needs
-
--- src/lib.rt:87:5
-loop-less : tie.Need-loop-less Inv-loop μ-loop
-loop-less c = search needs
-
--- src/lib.rt:87:5
 loop-again : tie.Need-loop-again Inv-loop μ-loop
 loop-again c =
     let l = c .before .loop in
     (rw (add-one, mul-suc, ← l .inv .0), search needs, search needs)
 
--- src/lib.rt:81:1
 returns : tie.Need-returns Inv-loop μ-loop
 returns c = let l = c .before .loop in sym (blocks-are _ _ _ (c .before .before .pre .0) (rw (← l .inv .0) (search needs)) (rw (← l .inv .0) (l .inv .1)))
 
 pub blocks-for-spec : {M : Type 1} → statement M
 blocks-for-spec =
     tie.close
-    (tie.spec Inv-loop μ-loop loop-holds add-blocks add-room loop-less loop-again returns)
+    (tie.spec Inv-loop μ-loop loop-holds (search needs) (search needs) (search needs) loop-again returns)

@@ -14,12 +14,6 @@ use native.Mathlib.Omega.{arith}
 use borrow.Author.Needs.{needs}
 use Rattle.packer.proofs.pack.Statement.{statement}
 use Rattle.packer.proofs.pack.Tie as tie
-use Rattle.packer.proofs.pack.Reads as reads
-use Rattle.packer.proofs.pack.Lts as lts
-use Rattle.packer.proofs.blocks_for.Reads as blocks-for-reads
-use Rattle.packer.proofs.put_kind.Reads as put-kind-reads
-use Rattle.tables.proofs.check.Reads as check-reads
-use Rattle.tables.proofs.check_room.Reads as check-room-reads
 
 -- what each stage found
 tabled : (c : tie.After-enum-told) → let a = c .before .before .before .before .before .before .before .args in verdictOf (tableFault (a .boxes .now) (a .rows .now) (a .arrows .now)) ≡ Passed
@@ -42,101 +36,63 @@ room c =
     let a = s .before .before .before .before .before .before .before .before .before .args in
     room-there (a .boxes .now) (a .rows .now) (a .arrows .now) (a .file .now) (tabled (s .before .before)) _ (named s) (roomed c)
 
--- src/lib.rt:357:9
-check-requires : tie.Need-check-requires
-check-requires c κs = search needs
-
--- src/lib.rt:358:29
-enum-known-tables : tie.Need-enum-known-tables
-enum-known-tables c = search needs
-
--- src/lib.rt:359:9
 returns : tie.Need-returns
 returns c =
     let a = c .before .before .before .before .before .before .before .before .args in
     by-tables (a .boxes .now) (a .rows .now) (a .arrows .now) (a .file .now) _ (sym (c .before .before .before .check .ensures) ∙ c .before .tables .given .1)
 
-enum-told : tie.Need-enum-told
-enum-told c = search needs
-
--- src/lib.rt:361:9
 blocks-for-requires : tie.Need-blocks-for-requires
 blocks-for-requires c κs =
     let a = c .before .before .before .before .before .before .before .args in
     let r = sound-rows (a .boxes .now) (a .rows .now) (a .arrows .now) (passed _ (tabled c)) .few-rows in
     (omega arith, omega arith, omega arith)
 
--- src/lib.rt:362:9
 blocks-for-requires-2 : tie.Need-blocks-for-requires-2
 blocks-for-requires-2 c κs =
     let a = c .before .before .before .before .before .before .before .before .args in
     let r = sound-arrows (a .boxes .now) (a .rows .now) (a .arrows .now) (passed _ (tabled (c .before))) .few-arrows in
     (omega arith, omega arith, omega arith)
 
--- src/lib.rt:363:30
 add-need : tie.Need-add-need
 add-need c =
     omega (arith, few c .0)
 
--- src/lib.rt:363:30
 add-need-2 : tie.Need-add-need-2
 add-need-2 c =
     omega (arith, few c .0, few c .1)
 
--- src/lib.rt:363:16
 mul-need : tie.Need-mul-need
 mul-need c =
     omega (arith, few c .0, few c .1)
 
--- src/lib.rt:364:9
-check-room-requires : tie.Need-check-room-requires
-check-room-requires c κs = search needs
-
--- src/lib.rt:365:29
-enum-known-room : tie.Need-enum-known-room
-enum-known-room c = search needs
-
--- src/lib.rt:366:9
 returns-2 : tie.Need-returns-2
 returns-2 c =
     let s = c .before .before .before .before in
     let a = c .before .before .before .before .before .before .before .before .before .before .before .before .before .args in
     by-room (a .boxes .now) (a .rows .now) (a .arrows .now) (a .file .now) (tabled (s .before .before)) _ (named s) _ (sym (c .before .before .before .check-room .ensures) ∙ c .before .room .given .1)
 
-enum-told-2 : tie.Need-enum-told-2
-enum-told-2 c = search needs
-
--- src/lib.rt:368:5
 put-kind-requires : tie.Need-put-kind-requires
 put-kind-requires c κs =
     let o = c .before in
     let s = o .before .before .before in
     boxes-fit _ _ _ (tabled (s .before .before)) _ _ (s .before .blocks-for .ensures) (s .blocks-for2 .ensures) _ (room o)
 
--- src/lib.rt:369:5
 put-kind-requires-2 : tie.Need-put-kind-requires-2
 put-kind-requires-2 c κs =
     let o = c .before .before .before .before .before in
     let s = o .before .before .before in
     containments-fit _ _ _ (tabled (s .before .before)) _ _ (s .before .blocks-for .ensures) (s .blocks-for2 .ensures) _ (rw (c .before .before .before .put-kind .ensures) (simp length-sets (room o)))
 
--- src/lib.rt:383:9
 add-put-kind : tie.Need-add-put-kind
 add-put-kind c =
     omega (arith, few (c .before .before .before .before .before .before .before .before .before .before .before) .0)
 
--- src/lib.rt:378:5
 put-kind-requires-3 : tie.Need-put-kind-requires-3
 put-kind-requires-3 c κs =
     let o = c .before .before .before .before .before .before .before .before .before in
     let s = o .before .before .before in
     arrows-fit _ _ _ (tabled (s .before .before)) _ _ (s .before .blocks-for .ensures) (s .blocks-for2 .ensures) _ (rw (c .before .before .before .put-kind2 .ensures) (simp length-sets (rw (c .before .before .before .before .before .before .before .put-kind .ensures) (simp length-sets (room o)))))
 
--- src/lib.rt:352:1
-same-length : tie.Need-same-length
-same-length c = search needs
-
--- src/lib.rt:352:1
 returns-3 : tie.Need-returns-3
 returns-3 c =
     let o = c .before .before .before .before .before .before .before .before .before .before .before .before in
@@ -150,22 +106,22 @@ pub pack-spec : {M : Type 1} → statement M
 pack-spec =
     tie.close
     (tie.spec
-    check-requires
-    enum-known-tables
+    (λ c κs. search needs)
+    (search needs)
     returns
-    enum-told
+    (search needs)
     blocks-for-requires
     blocks-for-requires-2
     add-need
     add-need-2
     mul-need
-    check-room-requires
-    enum-known-room
+    (λ c κs. search needs)
+    (search needs)
     returns-2
-    enum-told-2
+    (search needs)
     put-kind-requires
     put-kind-requires-2
     add-put-kind
     put-kind-requires-3
-    same-length
+    (search needs)
     returns-3)
