@@ -12,7 +12,7 @@ use Rattle.blocks.proofs.MadeBlocks.{capacities, record-sizes}
 use Rattle.blocks.proofs.JoinedLaws.{joined-none}
 use Rattle.blocks.proofs.Placing.{put-more as put-next}
 use Rattle.packer.specs.Packed.{boxBytes, containmentBytes, arrowBytes, recordBytes, rowsOf}
-use Rattle.packer.specs.Walks.{step, steps, blockAt, recordAt, Within, Begins}
+use Rattle.packer.specs.Walks.{step, steps, blockByte, recordByte, Within, Begins}
 use Rattle.packer.specs.declared.Walk.{Walk}
 use Rattle.packer.proofs.Lengths.{kinds, record-length}
 use Rattle.packer.proofs.Regular.{rows-by-kind}
@@ -23,12 +23,12 @@ pub record Goes (kind size off rows len : ℕ) (w : Walk) (all own : List ℕ) :
   pub row-there : w .row < rows
   pub small : w .first + w .block < 64
   pub within : off + size ≤ 500
-  pub room : blockAt w + 8 + off + size ≤ len
-  pub place : recordAt kind w ≡ blockAt w + 8 + off
+  pub room : blockByte w + 8 + off + size ≤ len
+  pub place : recordByte kind w ≡ blockByte w + 8 + off
   pub bytes : all ≡ own
 
-pub goes-put : {kind size off rows len : ℕ} {w : Walk} {all own : List ℕ} → Goes kind size off rows len w all own → (from : ℕ) → from ≡ blockAt w
-    → (l l′ : List ℕ) → l′ ≡ sets l (from + 8 + off) own → l′ ≡ sets l (recordAt kind w) all
+pub goes-put : {kind size off rows len : ℕ} {w : Walk} {all own : List ℕ} → Goes kind size off rows len w all own → (from : ℕ) → from ≡ blockByte w
+    → (l l′ : List ℕ) → l′ ≡ sets l (from + 8 + off) own → l′ ≡ sets l (recordByte kind w) all
 goes-put g from e l l′ p = rw (g .place, g .bytes, ← e) p
 
 module _ (kind : ℕ) (boxes rows arrows : List ℕ) (len : ℕ) (w : Walk) (at : Within kind (rowsOf boxes rows arrows kind) len w) where
@@ -64,7 +64,7 @@ module _ (kind : ℕ) (boxes rows arrows file₀ : List ℕ) (w₀ : Walk) (coun
     pub most : j ≤ count
     pub the-walk : w ≡ steps (capacity kind) w₀ j
     pub same-length : length file ≡ length file₀
-    pub so-far : file ≡ sets file₀ (blockAt w₀ + 8) (joined (λ i. recordBytes boxes rows arrows kind (w₀ .row + i)) j)
+    pub so-far : file ≡ sets file₀ (blockByte w₀ + 8) (joined (λ i. recordBytes boxes rows arrows kind (w₀ .row + i)) j)
 
   pub put-none : Put 0 file₀ w₀
   unfolding steps
@@ -90,12 +90,12 @@ module _ (kind : ℕ) (boxes rows arrows file₀ : List ℕ) (w₀ : Walk) (coun
         })
 
     -- one record more
-    pub put-more : (file′ : List ℕ) (w′ : Walk) → file′ ≡ sets file (recordAt kind w) (recordBytes boxes rows arrows kind (w .row))
+    pub put-more : (file′ : List ℕ) (w′ : Walk) → file′ ≡ sets file (recordByte kind w) (recordBytes boxes rows arrows kind (w .row))
         → w′ ≡ step (capacity kind) w → Put (j + 1) file′ w′
     put-more file′ w′ e s = record {
       most = omega arith;
       the-walk = s ∙ rw (put .the-walk) (sym (steps-more (capacity kind) w₀ j));
       same-length = rw e (simp length-sets (put .same-length));
-      so-far = e ∙ rw (stands, put .so-far) (put-next file₀ (blockAt w₀ + 8) _ (recordSize kind)
+      so-far = e ∙ rw (stands, put .so-far) (put-next file₀ (blockByte w₀ + 8) _ (recordSize kind)
           (λ i. record-length kind (begins .low) (begins .high) boxes rows arrows (w₀ .row + i)) j _ refl);
     }

@@ -13,7 +13,7 @@ use Rattle.blocks.specs.Blocks.{capacity, recordSize, joined}
 use Rattle.blocks.proofs.JoinedLaws.{joined-none}
 use Rattle.blocks.proofs.Placing.{joined-length, put-more}
 use Rattle.packer.specs.Packed.{bytes32, headBytes, covered, blockOf, least, recordBytes, rowsOf, countIn, kindBlock}
-use Rattle.packer.specs.Walks.{walkFrom, steps, blockAt, Begins, KindFits}
+use Rattle.packer.specs.Walks.{walkFrom, steps, blockByte, Begins, KindFits}
 use Rattle.packer.specs.declared.Walk.{Walk}
 use Rattle.packer.proofs.Lengths.{least-most, capacity-some, head-length, records-fit, record-length, covered-length, kind-block-length}
 use Rattle.packer.proofs.Regular.{block-begun, full-but-last}
@@ -26,12 +26,12 @@ used-most {kind} {count = count} begins size e = rw e (records-fit kind (begins 
 
 module _ (kind : ℕ) (boxes rows arrows l₀ : List ℕ) (w : Walk) (count : ℕ) (begins : Begins kind (rowsOf boxes rows arrows kind) (length l₀) w count) where
   -- head, records, zeros, and the check of what then stands there
-  pub block-made : (l₁ l₂ l₃ l₄ : List ℕ) (at number n size : ℕ) → at ≡ blockAt w → number ≡ w .first + w .block → n ≡ count → size ≡ recordSize kind
+  pub block-made : (l₁ l₂ l₃ l₄ : List ℕ) (at number n size : ℕ) → at ≡ blockByte w → number ≡ w .first + w .block → n ≡ count → size ≡ recordSize kind
       → l₁ ≡ sets l₀ at (headBytes kind number n)
-      → l₂ ≡ sets l₁ (blockAt w + 8) (joined (λ j. recordBytes boxes rows arrows kind (w .row + j)) count)
+      → l₂ ≡ sets l₁ (blockByte w + 8) (joined (λ j. recordBytes boxes rows arrows kind (w .row + j)) count)
       → l₃ ≡ sets l₂ (at + 8 + size * count) (zeros (500 - size * count))
       → l₄ ≡ sets l₃ (at + 508) (bytes32 (fnv1a (take 508 (drop at l₃))))
-      → l₄ ≡ sets l₀ (blockAt w) (blockOf kind (w .first + w .block) count (λ j. recordBytes boxes rows arrows kind (w .row + j)))
+      → l₄ ≡ sets l₀ (blockByte w) (blockOf kind (w .first + w .block) count (λ j. recordBytes boxes rows arrows kind (w .row + j)))
   unfolding blockOf covered
   block-made l₁ l₂ l₃ l₄ at number n size e₁ e₂ e₃ e₄ p₁ p₂ p₃ p₄ =
       let f : ℕ → List ℕ = λ j. recordBytes boxes rows arrows kind (w .row + j) in
@@ -40,18 +40,18 @@ module _ (kind : ℕ) (boxes rows arrows l₀ : List ℕ) (w : Walk) (count : �
       let r = joined f count in
       let u = recordSize kind * count in
       let z = zeros (500 - u) in
-      let head : l₁ ≡ sets l₀ (blockAt w) h = rw (e₁, e₂, e₃) at p₁ in
-      let two : l₂ ≡ sets l₀ (blockAt w) (h ++ r) = chain l₀ l₁ l₂ (blockAt w) 8 h r (head-length kind _ count) head p₂ in
+      let head : l₁ ≡ sets l₀ (blockByte w) h = rw (e₁, e₂, e₃) at p₁ in
+      let two : l₂ ≡ sets l₀ (blockByte w) (h ++ r) = chain l₀ l₁ l₂ (blockByte w) 8 h r (head-length kind _ count) head p₂ in
       let used : length (h ++ r) ≡ 8 + u = simp (length-append, head-length kind (w .first + w .block) count, joined-length f (recordSize kind) count (λ j _. len j)) in
-      let behind : blockAt w + 8 + u ≡ blockAt w + (8 + u) = omega arith in
-      let filler : l₃ ≡ sets l₂ (blockAt w + (8 + u)) z = rw (e₁, e₄, behind) at p₃ in
-      let three : l₃ ≡ sets l₀ (blockAt w) (h ++ r ++ z) = chain l₀ l₂ l₃ (blockAt w) (8 + u) (h ++ r) z used two filler in
-      let all : l₃ ≡ sets l₀ (blockAt w) (h ++ (r ++ z)) = rw append-assoc at three in
+      let behind : blockByte w + 8 + u ≡ blockByte w + (8 + u) = omega arith in
+      let filler : l₃ ≡ sets l₂ (blockByte w + (8 + u)) z = rw (e₁, e₄, behind) at p₃ in
+      let three : l₃ ≡ sets l₀ (blockByte w) (h ++ r ++ z) = chain l₀ l₂ l₃ (blockByte w) (8 + u) (h ++ r) z used two filler in
+      let all : l₃ ≡ sets l₀ (blockByte w) (h ++ (r ++ z)) = rw append-assoc at three in
       let whole : length (h ++ (r ++ z)) ≡ 508 = covered-length kind (begins .low) (begins .high) (w .first + w .block) count f (begins .most) len in
-      let room : blockAt w + 508 ≤ length l₀ = let m = begins .room in omega arith in
-      let seen : take 508 (drop (blockAt w) l₃) ≡ h ++ (r ++ z) = rw all (stored l₀ (blockAt w) 508 (h ++ (r ++ z)) whole room) in
-      let check : l₄ ≡ sets l₃ (blockAt w + 508) (bytes32 (fnv1a (h ++ (r ++ z)))) = rw (e₁, seen) at p₄ in
-      chain l₀ l₃ l₄ (blockAt w) 508 (h ++ (r ++ z)) (bytes32 (fnv1a (h ++ (r ++ z)))) whole all check
+      let room : blockByte w + 508 ≤ length l₀ = let m = begins .room in omega arith in
+      let seen : take 508 (drop (blockByte w) l₃) ≡ h ++ (r ++ z) = rw all (stored l₀ (blockByte w) 508 (h ++ (r ++ z)) whole room) in
+      let check : l₄ ≡ sets l₃ (blockByte w + 508) (bytes32 (fnv1a (h ++ (r ++ z)))) = rw (e₁, seen) at p₄ in
+      chain l₀ l₃ l₄ (blockByte w) 508 (h ++ (r ++ z)) (bytes32 (fnv1a (h ++ (r ++ z)))) whole all check
 
 -- a loop that has written so many blocks of a kind
 module _ (boxes rows arrows : List ℕ) (kind : ℕ) (l₀ : List ℕ) (first blocks : ℕ) where
@@ -104,7 +104,7 @@ module _ (boxes rows arrows : List ℕ) (kind : ℕ) (l₀ : List ℕ) (first bl
 
       -- one block more
       module _ (file′ : List ℕ) (w′ : Walk) (walked : w′ ≡ steps (capacity kind) w count)
-          (put : file′ ≡ sets file (blockAt w) (blockOf kind (w .first + w .block) count (λ j. recordBytes boxes rows arrows kind (w .row + j)))) where
+          (put : file′ ≡ sets file (blockByte w) (blockOf kind (w .first + w .block) count (λ j. recordBytes boxes rows arrows kind (w .row + j)))) where
         next-block : blockOf kind (w .first + w .block) count (λ j. recordBytes boxes rows arrows kind (w .row + j)) ≡ kindBlock boxes rows arrows kind k
         unfolding kindBlock
         next-block = rw (stands, count-is, asked .the-first)

@@ -1,13 +1,14 @@
 -- Pictures A and B (document 01) packed, and lengths at the capacities: tables and bytes written out, and the theorem that the
 -- definitions say the same (`packed-right`, `lengths-right`). Assumes nothing.
 use mathlib.Core.Path.{_≡_, refl}
-use mathlib.Core.List.{List, [], _∷_, _++_, map}
+use mathlib.Core.List.{List, [], _∷_, _++_}
 use Prim.Native.Nat.{ℕ}
-use lib.ListN.{length, replicate}
+use lib.ListN.{length}
 use Rattle.tables.specs.Buffers.{zeros}
 use Rattle.blocks.specs.Fnv.{fnvStart, fnvStep, fnvFold, fnv1a}
 use Rattle.blocks.specs.Blocks.{byKind, capacity, recordSize, joined}
-use Rattle.packer.specs.Packed.{bytes16, bytes32, boxBytes, containmentBytes, arrowBytes, headBytes, covered, blockOf, least, blocksFor}
+use Rattle.packer.specs.Packed.{bytes16, bytes32, boxBytes, containmentBytes, arrowBytes}
+use Rattle.packer.specs.Packed.{headBytes, covered, blockOf, least, blocksFor}
 use Rattle.packer.specs.Packed.{rowsOf, recordBytes, blocksOf, firstOf, countIn, kindBlock, kindBytes, packed}
 
 pub record Picture : Type 0 where
@@ -59,6 +60,6 @@ packed-right = (refl, refl)
 
 pub lengths-right : lengths ≡ 1536 ∷ 2560 ∷ []
 unfolding
-    lengths zeros fnvStart fnvStep fnvFold fnv1a byKind capacity recordSize joined bytes16 bytes32 boxBytes containmentBytes arrowBytes headBytes
-    covered blockOf least blocksFor rowsOf recordBytes blocksOf firstOf countIn kindBlock kindBytes packed
+    lengths zeros fnvStart fnvStep fnvFold fnv1a byKind capacity recordSize joined bytes16 bytes32 boxBytes containmentBytes
+    arrowBytes headBytes covered blockOf least blocksFor rowsOf recordBytes blocksOf firstOf countIn kindBlock kindBytes packed
 lengths-right = refl

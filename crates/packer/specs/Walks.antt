@@ -28,11 +28,11 @@ steps capacity w zero = w
 steps capacity w (suc n) = step capacity (steps capacity w n)
 
 -- the byte of the file at which the walk's block begins, and the one at which its record does
-abbrev pub blockAt : Walk → ℕ
-blockAt w = 512 * (w .first + w .block)
+abbrev pub blockByte : Walk → ℕ
+blockByte w = 512 * (w .first + w .block)
 
-abbrev pub recordAt : (kind : ℕ) → Walk → ℕ
-recordAt kind w = blockAt w + 8 + recordSize kind * w .place
+abbrev pub recordByte : (kind : ℕ) → Walk → ℕ
+recordByte kind w = blockByte w + 8 + recordSize kind * w .place
 
 -- the walk stands at a row of a kind, of which there are so many, and at a place of a block that a file of so many bytes has
 pub record Within (kind total len : ℕ) (w : Walk) : Type 0 where
@@ -42,7 +42,7 @@ pub record Within (kind total len : ℕ) (w : Walk) : Type 0 where
   pub the-row : w .row < total
   pub the-place : w .place < capacity kind
   pub the-block : w .first + w .block < 64
-  pub room : blockAt w + 512 ≤ len
+  pub room : blockByte w + 512 ≤ len
 
 -- the walk stands at the first place of such a block, and as many rows follow as the block has records
 pub record Begins (kind total len : ℕ) (w : Walk) (count : ℕ) : Type 0 where
@@ -53,7 +53,7 @@ pub record Begins (kind total len : ℕ) (w : Walk) (count : ℕ) : Type 0 where
   pub most : count ≤ capacity kind
   pub the-place : w .place ≡ 0
   pub the-block : w .first + w .block < 64
-  pub room : blockAt w + 512 ≤ len
+  pub room : blockByte w + 512 ≤ len
 
 -- the blocks of a kind, from the number of its first one on, have room in a file of so many bytes
 pub record KindFits (boxes rows arrows : List ℕ) (kind first blocks len : ℕ) : Type 0 where

@@ -1,24 +1,24 @@
 // Packs a picture into a block file: blocks of each kind full but the last, none empty but the one of a picture without boxes.
+mod put;
+
 ghost use mathlib.Core.Path.{_≡_};
-ghost use mathlib.Core.List.{[], _∷_};
-ghost use Prim.Native.Nat.{_+_, _*_, _/_, _%_, _^_, _<_, _≤_};
-ghost use lib.ListN.{length, take, drop};
+ghost use Prim.Native.Nat.{_+_, _*_, _^_, _<_};
+ghost use lib.ListN.{length};
 ghost use lib.Seq.{sets};
-ghost use Rattle.tables.specs.Buffers.{zeros};
-ghost use Rattle.tables.specs.Rows.{rowCount, arrowCount};
-ghost use Rattle.blocks.specs.Fnv.{fnv1a};
 ghost use Rattle.blocks.specs.Blocks.{capacity, recordSize, joined};
-ghost use Rattle.packer.specs.Packed.{bytes16, bytes32, headBytes, blockOf, least, blocksFor};
-ghost use Rattle.packer.specs.Packed.{boxBytes, containmentBytes, arrowBytes, recordBytes, rowsOf, kindBytes};
+ghost use Rattle.packer.specs.Packed.{blockOf, least, blocksFor, recordBytes, rowsOf, kindBytes};
 ghost use Rattle.packer.specs.Packs.{packAnswer, fileAfter};
-ghost use Rattle.packer.specs.Walks.{walkFrom, step, steps, blockAt, recordAt, Within, Begins, KindFits};
+ghost use Rattle.packer.specs.Walks.{walkFrom, step, steps, blockByte, recordByte, Within, Begins, KindFits};
 use blocks::ArrowRecord;
 use blocks::BoxRecord;
-use blocks::Check;
 use blocks::ContainmentRecord;
 use blocks::by_kind;
-use tables::Arrow;
-use tables::Containment;
+use put::put_arrow;
+use put::put_box;
+use put::put_check;
+use put::put_containment;
+use put::put_head;
+use put::put_zeros;
 use tables::Refusal;
 use tables::Verdict;
 use tables::check_room;
@@ -70,9 +70,9 @@ impl Walk {
     }
 
     // The byte at which the block begins.
-    fn block_at(self) -> usize
+    fn block_byte(self) -> usize
         requires { ⌜ self .first + self .block < 2 ^ 32 ⌝ }
-        ensures { λ r. ⌜ r ≡ blockAt self ⌝ }
+        ensures { λ r. ⌜ r ≡ blockByte self ⌝ }
     {
         BLOCK_SIZE * (self.first + self.block)
     }
@@ -90,96 +90,6 @@ fn blocks_for(rows: usize, capacity: usize) -> usize
         room += capacity;
     }
     blocks
-}
-
-fn low8(x: u16) -> u8
-    ensures { λ r. ⌜ r ≡ x % 256 ⌝ }
-{
-    (x % 256) as u8
-}
-
-fn high8(x: u16) -> u8
-    ensures { λ r. ⌜ r ≡ x / 256 ⌝ }
-{
-    (x / 256) as u8
-}
-
-fn low16(x: u32) -> u16
-    ensures { λ r. ⌜ r ≡ x % 65536 ⌝ }
-{
-    (x % 65536) as u16
-}
-
-fn high16(x: u32) -> u16
-    ensures { λ r. ⌜ r ≡ x / 65536 ⌝ }
-{
-    (x / 65536) as u16
-}
-
-// Writes two bytes.
-fn put_two(x: u8, y: u8, at: usize, file: &mut [u8])
-    requires { ⌜ at + 2 ≤ length (now file) ⌝ }
-    ensures { λ _. ⌜ now (file .exit) ≡ sets (now (file .entry)) at (x ∷ y ∷ []) ⌝ }
-{
-    file[at] = x;
-    file[at + 1] = y;
-}
-
-// Writes a number of 16 bits.
-fn put16(x: u16, at: usize, file: &mut [u8])
-    requires { ⌜ at + 2 ≤ length (now file) ⌝ }
-    ensures { λ _. ⌜ now (file .exit) ≡ sets (now (file .entry)) at (bytes16 x) ⌝ }
-{
-    put_two(low8(x), high8(x), at, file);
-}
-
-// Writes a number of 32 bits.
-fn put32(x: u32, at: usize, file: &mut [u8])
-    requires { ⌜ at + 4 ≤ length (now file) ⌝ }
-    ensures { λ _. ⌜ now (file .exit) ≡ sets (now (file .entry)) at (bytes32 x) ⌝ }
-{
-    put16(low16(x), at, file);
-    put16(high16(x), at + 2, file);
-}
-
-// Writes a block's head.
-fn put_head(kind: u8, number: u16, count: u16, at: usize, file: &mut [u8])
-    requires { ⌜ at + 8 ≤ length (now file) ⌝ }
-    ensures { λ _. ⌜ now (file .exit) ≡ sets (now (file .entry)) at (headBytes kind number count) ⌝ }
-{
-    put_two(kind, 0, at, file);
-    put16(number, at + 2, file);
-    put16(count, at + 4, file);
-    put_two(0, 0, at + 6, file);
-}
-
-// Writes the record of a box.
-fn put_box(boxes: &[u8], row: usize, at: usize, file: &mut [u8])
-    requires { ⌜ (row < length (now boxes)) × (at + 1 ≤ length (now file)) ⌝ }
-    ensures { λ _. ⌜ now (file .exit) ≡ sets (now (file .entry)) at (boxBytes (now (boxes .entry)) row) ⌝ }
-{
-    file[at] = boxes[row];
-}
-
-// Writes the record of a containment.
-fn put_containment(rows: &[u16], row: usize, at: usize, file: &mut [u8])
-    requires { ⌜ (row < rowCount (now rows)) × (at + 4 ≤ length (now file)) ⌝ }
-    ensures { λ _. ⌜ now (file .exit) ≡ sets (now (file .entry)) at (containmentBytes (now (rows .entry)) row) ⌝ }
-{
-    let r = Containment::at(rows, row);
-    put16(r.outer, at, file);
-    put16(r.inner, at + 2, file);
-}
-
-// Writes the record of an arrow.
-fn put_arrow(arrows: &[u16], row: usize, at: usize, file: &mut [u8])
-    requires { ⌜ (row < arrowCount (now arrows)) × (at + 6 ≤ length (now file)) ⌝ }
-    ensures { λ _. ⌜ now (file .exit) ≡ sets (now (file .entry)) at (arrowBytes (now (arrows .entry)) row) ⌝ }
-{
-    let a = Arrow::at(arrows, row);
-    put16(a.tail, at, file);
-    put16(a.head, at + 2, file);
-    put_two(low8(a.mode), low8(a.sign), at + 4, file);
 }
 
 // How many records a block of a kind holds.
@@ -209,10 +119,10 @@ fn size_of(kind: u8) -> usize
 // Writes the record of the row at which the walk stands.
 fn put_record(kind: u8, boxes: &[u8], rows: &[u16], arrows: &[u16], walk: Walk, file: &mut [u8])
     requires { ⌜ Within kind (rowsOf (now boxes) (now rows) (now arrows) kind) (length (now file)) walk ⌝ }
-    ensures { λ _. ⌜ now (file .exit) ≡ sets (now (file .entry)) (recordAt kind walk)
+    ensures { λ _. ⌜ now (file .exit) ≡ sets (now (file .entry)) (recordByte kind walk)
         (recordBytes (now (boxes .entry)) (now (rows .entry)) (now (arrows .entry)) kind (walk .row)) ⌝ }
 {
-    let from = walk.block_at() + 8;
+    let from = walk.block_byte() + 8;
     if kind == BoxRecord::KIND {
         put_box(boxes, walk.row, from + walk.place, file);
         return;
@@ -246,7 +156,7 @@ fn put_records(
 ) -> Walk
     requires { ⌜ Begins kind (rowsOf (now boxes) (now rows) (now arrows) kind) (length (now file)) walk count ⌝ }
     ensures { λ r. ⌜ r ≡ steps (capacity kind) walk count ⌝ }
-    ensures { λ _. ⌜ now (file .exit) ≡ sets (now (file .entry)) (blockAt walk + 8)
+    ensures { λ _. ⌜ now (file .exit) ≡ sets (now (file .entry)) (blockByte walk + 8)
         (joined (λ j. recordBytes (now (boxes .entry)) (now (rows .entry)) (now (arrows .entry)) kind (walk .row + j)) count) ⌝ }
 {
     let capacity = capacity_of(kind);
@@ -256,26 +166,6 @@ fn put_records(
         w = w.next(capacity);
     }
     w
-}
-
-// Writes zeros.
-fn put_zeros(count: usize, at: usize, file: &mut [u8])
-    requires { ⌜ at + count ≤ length (now file) ⌝ }
-    ensures { λ _. ⌜ now (file .exit) ≡ sets (now (file .entry)) at (zeros count) ⌝ }
-{
-    for i in 0..count {
-        file[at + i] = 0;
-    }
-}
-
-// Writes the check of the 508 bytes from a place on behind them.
-fn put_check(at: usize, file: &mut [u8])
-    requires { ⌜ at + 512 ≤ length (now file) ⌝ }
-    ensures { λ _. ⌜ now (file .exit) ≡ sets (now (file .entry)) (at + 508) (bytes32 (fnv1a (take 508 (drop at (now (file .entry)))))) ⌝ }
-{
-    let to = at + Check::COVERED;
-    let c = Check::fresh().part(&file[at..to]);
-    put32(c.state, to, file);
 }
 
 // Writes the block at which the walk stands, with so many records, and answers the walk behind them.
@@ -290,10 +180,10 @@ fn put_block(
 ) -> Walk
     requires { ⌜ Begins kind (rowsOf (now boxes) (now rows) (now arrows) kind) (length (now file)) walk count ⌝ }
     ensures { λ r. ⌜ r ≡ steps (capacity kind) walk count ⌝ }
-    ensures { λ _. ⌜ now (file .exit) ≡ sets (now (file .entry)) (blockAt walk) (blockOf kind (walk .first + walk .block) count
+    ensures { λ _. ⌜ now (file .exit) ≡ sets (now (file .entry)) (blockByte walk) (blockOf kind (walk .first + walk .block) count
         (λ j. recordBytes (now (boxes .entry)) (now (rows .entry)) (now (arrows .entry)) kind (walk .row + j))) ⌝ }
 {
-    let at = walk.block_at();
+    let at = walk.block_byte();
     put_head(
         kind,
         narrow(walk.first + walk.block),

@@ -19,14 +19,14 @@ sub-put-zeros c = used c
 add-put-zeros-2 : tie.Need-add-put-zeros-2
 add-put-zeros-2 c =
     let at-block = c .before .before .before .before .before .before .before .before .before .before .before .before in
-    omega (arith, used c, at-block .block-at .ensures, at-block .before .before .before .before .before .pre .the-block)
+    omega (arith, used c, at-block .block-byte .ensures, at-block .before .before .before .before .before .pre .the-block)
 
 put-zeros-requires : tie.Need-put-zeros-requires
 put-zeros-requires c κs =
     let at-size = c .before in
     let at-block = at-size .before .before .before .before .before .before .before .before .before .before .before .before in
     let u = used at-size in
-    let e = at-block .block-at .ensures in
+    let e = at-block .block-byte .ensures in
     let m = at-block .before .before .before .before .before .pre .room in
     search needs
 
@@ -42,7 +42,7 @@ returns c =
     let at-block = at-number .before .before in (
       at-records .put-records .ensures .0,
       block-made _ _ _ _ _ _ _ (at-block .before .before .before .before .before .pre) _ _ _ _ _ _ _ _
-          (at-block .block-at .ensures) (at-number .narrow .ensures) (at-count .narrow2 .ensures) (at-size .size-of .ensures)
+          (at-block .block-byte .ensures) (at-number .narrow .ensures) (at-count .narrow2 .ensures) (at-size .size-of .ensures)
           (at-head .put-head .ensures) (at-records .put-records .ensures .1) (at-zeros .put-zeros .ensures) (at-check .put-check .ensures),
     )
 

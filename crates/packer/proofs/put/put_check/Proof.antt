@@ -8,8 +8,8 @@ use Rattle.blocks.proofs.MadeBlocks.{check-is}
 use Rattle.packer.specs.Packed.{bytes32}
 use native.Mathlib.Omega.{arith}
 use borrow.Author.Needs.{needs}
-use Rattle.packer.proofs.put_check.Statement.{statement}
-use Rattle.packer.proofs.put_check.Tie as tie
+use Rattle.packer.proofs.put.put_check.Statement.{statement}
+use Rattle.packer.proofs.put.put_check.Tie as tie
 
 returns : tie.Need-returns
 returns c =

@@ -5,8 +5,8 @@ use mathlib.Core.List.{_∷_, [], _++_}
 use Rattle.tables.specs.declared.Arrow.{Arrow}
 use Rattle.packer.specs.Packed.{bytes16, arrowBytes}
 use borrow.Author.Needs.{needs}
-use Rattle.packer.proofs.put_arrow.Statement.{statement}
-use Rattle.packer.proofs.put_arrow.Tie as tie
+use Rattle.packer.proofs.put.put_arrow.Statement.{statement}
+use Rattle.packer.proofs.put.put_arrow.Tie as tie
 
 returns : tie.Need-returns
 unfolding arrowBytes bytes16

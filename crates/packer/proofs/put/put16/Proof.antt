@@ -1,8 +1,8 @@
 -- Two bytes, low and high. Assumes nothing.
 use Rattle.packer.specs.Packed.{bytes16}
 use borrow.Author.Needs.{needs}
-use Rattle.packer.proofs.put16.Statement.{statement}
-use Rattle.packer.proofs.put16.Tie as tie
+use Rattle.packer.proofs.put.put16.Statement.{statement}
+use Rattle.packer.proofs.put.put16.Tie as tie
 
 returns : tie.Need-returns
 unfolding bytes16

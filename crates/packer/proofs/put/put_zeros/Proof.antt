@@ -8,8 +8,8 @@ use Rattle.tables.specs.Buffers.{zeros}
 use Rattle.tables.proofs.BufferLaws.{zeros-is}
 use Rattle.packer.proofs.Putting.{zeros-more}
 use borrow.Author.Needs.{needs}
-use Rattle.packer.proofs.put_zeros.Statement.{statement}
-use Rattle.packer.proofs.put_zeros.Tie as tie
+use Rattle.packer.proofs.put.put_zeros.Statement.{statement}
+use Rattle.packer.proofs.put.put_zeros.Tie as tie
 
 abbrev Inv-loop : tie.InvT-loop
 Inv-loop count at file₀ i₀ file i = (i ≤ count) × (length file ≡ length file₀) × (file ≡ sets file₀ at (zeros i))

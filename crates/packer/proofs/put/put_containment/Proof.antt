@@ -4,8 +4,8 @@ use Rattle.tables.specs.declared.Containment.{Containment}
 use Rattle.packer.specs.Packed.{bytes16, containmentBytes}
 use Rattle.packer.proofs.Putting.{chain}
 use borrow.Author.Needs.{needs}
-use Rattle.packer.proofs.put_containment.Statement.{statement}
-use Rattle.packer.proofs.put_containment.Tie as tie
+use Rattle.packer.proofs.put.put_containment.Statement.{statement}
+use Rattle.packer.proofs.put.put_containment.Tie as tie
 
 returns : tie.Need-returns
 unfolding containmentBytes bytes16

@@ -2,8 +2,8 @@
 use mathlib.Core.Path.{refl}
 use Rattle.packer.specs.Packed.{boxBytes}
 use borrow.Author.Needs.{needs}
-use Rattle.packer.proofs.put_box.Statement.{statement}
-use Rattle.packer.proofs.put_box.Tie as tie
+use Rattle.packer.proofs.put.put_box.Statement.{statement}
+use Rattle.packer.proofs.put.put_box.Tie as tie
 
 returns : tie.Need-returns
 unfolding boxBytes

@@ -3,8 +3,8 @@ use lib.ListN.{length-set}
 use native.Mathlib.Numerals.{add-one}
 use native.Mathlib.Omega.{arith}
 use borrow.Author.Needs.{needs}
-use Rattle.packer.proofs.put_two.Statement.{statement}
-use Rattle.packer.proofs.put_two.Tie as tie
+use Rattle.packer.proofs.put.put_two.Statement.{statement}
+use Rattle.packer.proofs.put.put_two.Tie as tie
 
 slice-write-file-2 : tie.Need-slice-write-file-2
 slice-write-file-2 c = simp length-set (omega arith)

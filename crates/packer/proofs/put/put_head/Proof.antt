@@ -4,8 +4,8 @@ use Rattle.packer.proofs.Putting.{chain}
 use mathlib.Core.List.{_∷_, [], _++_}
 use Rattle.packer.specs.Packed.{bytes16, headBytes}
 use borrow.Author.Needs.{needs}
-use Rattle.packer.proofs.put_head.Statement.{statement}
-use Rattle.packer.proofs.put_head.Tie as tie
+use Rattle.packer.proofs.put.put_head.Statement.{statement}
+use Rattle.packer.proofs.put.put_head.Tie as tie
 
 returns : tie.Need-returns
 unfolding headBytes bytes16

@@ -3,8 +3,8 @@ use mathlib.Core.Path.{refl}
 use Rattle.packer.specs.Packed.{bytes16, bytes32}
 use Rattle.packer.proofs.Putting.{chain}
 use borrow.Author.Needs.{needs}
-use Rattle.packer.proofs.put32.Statement.{statement}
-use Rattle.packer.proofs.put32.Tie as tie
+use Rattle.packer.proofs.put.put32.Statement.{statement}
+use Rattle.packer.proofs.put.put32.Tie as tie
 
 returns : tie.Need-returns
 unfolding bytes32 bytes16
