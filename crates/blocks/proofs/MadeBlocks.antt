@@ -39,17 +39,9 @@ pub of-arrows : (a b c : ℕ) → byKind 3 a b c ≡ c
 unfolding byKind
 of-arrows a b c = refl
 
-pub capacity-is : (kind : ℕ) → capacity kind ≡ byKind kind 500 125 83
-unfolding capacity
-capacity-is kind = refl
-
 pub capacities : (capacity 1 ≡ 500) × (capacity 2 ≡ 125) × (capacity 3 ≡ 83)
 unfolding byKind capacity
 capacities = (refl, refl, refl)
-
-pub size-is : (kind : ℕ) → recordSize kind ≡ byKind kind 1 4 6
-unfolding recordSize
-size-is kind = refl
 
 pub record-sizes : (recordSize 1 ≡ 1) × (recordSize 2 ≡ 4) × (recordSize 3 ≡ 6)
 unfolding byKind recordSize

@@ -180,7 +180,7 @@ impl ArrowRecord {
 }
 
 // One of three numbers by a block's kind, 0 for any other kind.
-pub fn by_kind(kind: u8, boxes: usize, containments: usize, arrows: usize) -> usize
+fn by_kind(kind: u8, boxes: usize, containments: usize, arrows: usize) -> usize
     ensures { λ r. ⌜ r ≡ byKind kind boxes containments arrows ⌝ }
 {
     if kind == BoxRecord::KIND {

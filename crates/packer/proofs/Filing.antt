@@ -15,9 +15,10 @@ use Rattle.tables.specs.declared.Verdict.the-variants.{Passed, Refused as Stopp
 use Rattle.tables.proofs.BufferLaws.{written-none, written-run}
 use Rattle.tables.proofs.TableLaws.{room-passed, sound-rows, sound-arrows}
 use Rattle.tables.proofs.Verdicts.{passed, refused, past, stop}
+use Rattle.blocks.proofs.MadeBlocks.{capacities, record-sizes}
 use Rattle.packer.specs.Packed.{blocksFor, blocksOf, kindBytes, packed}
 use Rattle.packer.specs.Packs.{packingOf, packFault, packAnswer, fileAfter}
-use Rattle.packer.specs.Walks.{KindFits}
+use Rattle.packer.specs.Walks.{boxKind, containmentKind, arrowKind, OfKind, BlocksFit}
 use Rattle.packer.specs.declared.Packing.the-variants.{Packed, Refused}
 use Rattle.packer.proofs.Lengths.{kind-length, packed-length}
 use Rattle.packer.proofs.Regular.{rows-by-kind, blocks-by-kind, first-by-kind, fills-1, fills-2, fills-3, box-block}
@@ -51,40 +52,50 @@ module _ (boxes rows arrows : List ℕ) where
     pub need-is : 512 * (1 + second + third) ≡ length (packed boxes rows arrows)
     need-is = sym (packed-length boxes rows arrows ∙ rw (box-blocks, second-is, third-is))
 
-    -- room for all is room for each kind
+    -- the three kinds as the call knows them
+    pub boxes-known : OfKind boxes rows arrows (boxKind (length boxes))
+    boxes-known = record {
+      low = omega arith;
+      high = omega arith;
+      few = let b = sound-rows boxes rows arrows (passed _ sound) .few-boxes in omega arith;
+      the-size = sym (record-sizes .0);
+      the-capacity = sym (capacities .0);
+      the-rows = sym (rows-by-kind boxes rows arrows .0);
+      the-first = sym (first-by-kind boxes rows arrows .0);
+    }
+
+    pub containments-known : OfKind boxes rows arrows (containmentKind (rowCount rows) 1)
+    containments-known = record {
+      low = omega arith;
+      high = omega arith;
+      few = sound-rows boxes rows arrows (passed _ sound) .few-rows;
+      the-size = sym (record-sizes .1);
+      the-capacity = sym (capacities .1);
+      the-rows = sym (rows-by-kind boxes rows arrows .1);
+      the-first = sym (first-by-kind boxes rows arrows .1 ∙ box-blocks);
+    }
+
+    pub arrows-known : OfKind boxes rows arrows (arrowKind (arrowCount arrows) (1 + second))
+    arrows-known = record {
+      low = omega arith;
+      high = omega arith;
+      few = let a = sound-arrows boxes rows arrows (passed _ sound) .few-arrows in omega arith;
+      the-size = sym (record-sizes .2);
+      the-capacity = sym (capacities .2);
+      the-rows = sym (rows-by-kind boxes rows arrows .2);
+      the-first = sym (first-by-kind boxes rows arrows .2 ∙ rw (box-blocks, second-is));
+    }
+
+    -- their blocks, and room for all is room for each
     module _ (len : ℕ) (room : 512 * (1 + second + third) ≤ len) where
-      pub boxes-fit : KindFits boxes rows arrows 1 0 1 len
-      boxes-fit = record {
-        low = omega arith;
-        high = omega arith;
-        few = rw (rows-by-kind boxes rows arrows .0) (let b = sound-rows boxes rows arrows (passed _ sound) .few-boxes in omega arith);
-        the-first = sym (first-by-kind boxes rows arrows .0);
-        the-blocks = sym box-blocks;
-        numbers = omega arith;
-        room = omega arith;
-      }
+      pub boxes-fit : (1 ≡ blocksOf boxes rows arrows 1) × BlocksFit (boxKind (length boxes)) 1 len
+      boxes-fit = (sym box-blocks, record { numbers = omega arith; room = omega arith })
 
-      pub containments-fit : KindFits boxes rows arrows 2 1 second len
-      containments-fit = record {
-        low = omega arith;
-        high = omega arith;
-        few = rw (rows-by-kind boxes rows arrows .1) (sound-rows boxes rows arrows (passed _ sound) .few-rows);
-        the-first = sym (first-by-kind boxes rows arrows .1 ∙ box-blocks);
-        the-blocks = sym second-is;
-        numbers = omega (arith, blocks-most .0);
-        room = omega arith;
-      }
+      pub containments-fit : (second ≡ blocksOf boxes rows arrows 2) × BlocksFit (containmentKind (rowCount rows) 1) second len
+      containments-fit = (sym second-is, record { numbers = omega (arith, blocks-most .0); room = omega arith })
 
-      pub arrows-fit : KindFits boxes rows arrows 3 (1 + second) third len
-      arrows-fit = record {
-        low = omega arith;
-        high = omega arith;
-        few = rw (rows-by-kind boxes rows arrows .2) (let a = sound-arrows boxes rows arrows (passed _ sound) .few-arrows in omega arith);
-        the-first = sym (first-by-kind boxes rows arrows .2 ∙ rw (box-blocks, second-is));
-        the-blocks = sym third-is;
-        numbers = omega (arith, blocks-most .0, blocks-most .1);
-        room = omega arith;
-      }
+      pub arrows-fit : (third ≡ blocksOf boxes rows arrows 3) × BlocksFit (arrowKind (arrowCount arrows) (1 + second)) third len
+      arrows-fit = (sym third-is, record { numbers = omega (arith, blocks-most .0, blocks-most .1); room = omega arith })
 
     -- the kinds written one after the other
     pub file-made : (l₀ l₁ l₂ l₃ : List ℕ) → 512 * (1 + second + third) ≤ length l₀ → l₁ ≡ sets l₀ (512 * 0) (kindBytes boxes rows arrows 1)

@@ -15,16 +15,16 @@ use Rattle.blocks.proofs.Placing.{joined-length}
 use Rattle.packer.specs.Packed.{bytes16, bytes32, boxBytes, containmentBytes, arrowBytes, headBytes, covered, blockOf, least}
 use Rattle.packer.specs.Packed.{rowsOf, recordBytes, blocksOf, countIn, kindBlock, kindBytes, packed}
 
--- 1, 2 or 3
-abbrev pub Kind : ℕ → Type 0
-Kind k = (k ≡ 1) ⊎ ((k ≡ 2) ⊎ (k ≡ 3))
-
-pub kinds : (kind : ℕ) → 1 ≤ kind → kind ≤ 3 → Kind kind
+-- a kind is 1, 2 or 3
+kinds : (kind : ℕ) → 1 ≤ kind → kind ≤ 3 → (kind ≡ 1) ⊎ ((kind ≡ 2) ⊎ (kind ≡ 3))
 kinds zero h l = absurd (omega arith)
 kinds (suc zero) h l = inl refl
 kinds (suc (suc zero)) h l = inr (inl refl)
 kinds (suc (suc (suc zero))) h l = inr (inr refl)
 kinds (suc (suc (suc (suc k)))) h l = absurd (omega arith)
+
+pub third-kind : (kind : ℕ) → 1 ≤ kind → kind ≤ 3 → (kind ≡ 1 → ⊥) → (kind ≡ 2 → ⊥) → kind ≡ 3
+third-kind kind low high a b = ⊎-elim (λ e. absurd (a e)) (λ d. ⊎-elim (λ e. absurd (b e)) (λ e. e) d) (kinds kind low high)
 
 -- the smaller of two
 pub least-most : (a b : ℕ) → (least a b ≤ a) × (least a b ≤ b)

@@ -15,7 +15,7 @@ steps-more cap w n = rw add-one
 
 module _ (cap : ℕ) (w : Walk) (begins : w .place ≡ 0) where
   -- within the block at whose first place the walk stood
-  pub steps-within : (j : ℕ) → j < cap → steps cap w j ≡ record { first = w .first; row = w .row + j; block = w .block; place = j }
+  pub steps-within : (j : ℕ) → j < cap → steps cap w j ≡ record { row = w .row + j; block = w .block; place = j }
   unfolding steps step
   steps-within zero h = rw (add-zero, ← begins)
   steps-within (suc j) h =
@@ -23,7 +23,7 @@ module _ (cap : ℕ) (w : Walk) (begins : w .place ≡ 0) where
       rw (steps-within j (omega arith)) (rw (ne-eqb (j + 1) cap (λ e. omega arith), r, add-one (w .row + j), add-one j))
 
   -- behind it, if it is full
-  pub steps-full : 0 < cap → steps cap w cap ≡ record { first = w .first; row = w .row + cap; block = w .block + 1; place = 0 }
+  pub steps-full : 0 < cap → steps cap w cap ≡ record { row = w .row + cap; block = w .block + 1; place = 0 }
   unfolding step
   steps-full some =
       let e : cap ≡ cap - 1 + 1 = omega arith in

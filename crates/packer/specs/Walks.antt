@@ -1,22 +1,42 @@
--- What the inner functions of packing ask of and promise each other: the walk over the rows of a kind, with each row's block, counted
--- from the kind's first block, and its place in the block. No promise of a pub function names it. Assumes nothing.
+-- What the inner functions of packing ask of and promise each other: the blocks of a kind, and the walk over its rows, with each row's
+-- block, counted from the kind's first one, and its place in the block. No promise of a pub function names it. Assumes nothing.
 use mathlib.Core.Path.{_≡_}
 use mathlib.Core.Bool.{cond}
 use mathlib.Core.List.{List}
 use Prim.Native.Nat.{ℕ, zero, suc, _+_, _*_, _<_, _≤_}
 use lib.Dec.{eqb}
 use Rattle.blocks.specs.Blocks.{capacity, recordSize}
-use Rattle.packer.specs.Packed.{rowsOf, blocksOf, firstOf}
+use Rattle.packer.specs.Packed.{rowsOf, firstOf}
+use Rattle.packer.specs.declared.Kind.{Kind}
 use Rattle.packer.specs.declared.Walk.{Walk}
 
--- at the first row of a kind whose first block has a number
-abbrev pub walkFrom : (first : ℕ) → Walk
-walkFrom first = record { first = first; row = 0; block = 0; place = 0 }
+-- boxes, containments and arrows, by how many rows there are and the number of the first block
+abbrev pub boxKind : (rows : ℕ) → Kind
+boxKind rows = record { number = 1; size = 1; capacity = 500; rows = rows; first = 0 }
+
+abbrev pub containmentKind : (rows first : ℕ) → Kind
+containmentKind rows first = record { number = 2; size = 4; capacity = 125; rows = rows; first = first }
+
+abbrev pub arrowKind : (rows first : ℕ) → Kind
+arrowKind rows first = record { number = 3; size = 6; capacity = 83; rows = rows; first = first }
+
+-- the numbers are those of a kind of the picture
+pub record OfKind (boxes rows arrows : List ℕ) (kind : Kind) : Type 0 where
+  pub low : 1 ≤ kind .number
+  pub high : kind .number ≤ 3
+  pub few : kind .rows ≤ 1024
+  pub the-size : kind .size ≡ recordSize (kind .number)
+  pub the-capacity : kind .capacity ≡ capacity (kind .number)
+  pub the-rows : kind .rows ≡ rowsOf boxes rows arrows (kind .number)
+  pub the-first : kind .first ≡ firstOf boxes rows arrows (kind .number)
+
+-- at the first row
+abbrev pub walkStart : Walk
+walkStart = record { row = 0; block = 0; place = 0 }
 
 -- at the next row: the next place, or the first place of the next block
 unfoldable pub step : (capacity : ℕ) → Walk → Walk
 step capacity w = record {
-  first = w .first;
   row = w .row + 1;
   block = cond (eqb (w .place + 1) capacity) (w .block + 1) (w .block);
   place = cond (eqb (w .place + 1) capacity) 0 (w .place + 1);
@@ -28,39 +48,28 @@ steps capacity w zero = w
 steps capacity w (suc n) = step capacity (steps capacity w n)
 
 -- the byte of the file at which the walk's block begins, and the one at which its record does
-abbrev pub blockByte : Walk → ℕ
-blockByte w = 512 * (w .first + w .block)
+abbrev pub blockByte : Kind → Walk → ℕ
+blockByte kind w = 512 * (kind .first + w .block)
 
-abbrev pub recordByte : (kind : ℕ) → Walk → ℕ
-recordByte kind w = blockByte w + 8 + recordSize kind * w .place
+abbrev pub recordByte : Kind → Walk → ℕ
+recordByte kind w = blockByte kind w + 8 + kind .size * w .place
 
--- the walk stands at a row of a kind, of which there are so many, and at a place of a block that a file of so many bytes has
-pub record Within (kind total len : ℕ) (w : Walk) : Type 0 where
-  pub low : 1 ≤ kind
-  pub high : kind ≤ 3
-  pub few : total ≤ 1024
-  pub the-row : w .row < total
-  pub the-place : w .place < capacity kind
-  pub the-block : w .first + w .block < 64
-  pub room : blockByte w + 512 ≤ len
+-- the walk stands at a row, and at a place of a block that a file of so many bytes has
+pub record Within (kind : Kind) (len : ℕ) (w : Walk) : Type 0 where
+  pub the-row : w .row < kind .rows
+  pub the-place : w .place < kind .capacity
+  pub the-block : kind .first + w .block < 64
+  pub room : blockByte kind w + 512 ≤ len
 
 -- the walk stands at the first place of such a block, and as many rows follow as the block has records
-pub record Begins (kind total len : ℕ) (w : Walk) (count : ℕ) : Type 0 where
-  pub low : 1 ≤ kind
-  pub high : kind ≤ 3
-  pub few : total ≤ 1024
-  pub rows-left : w .row + count ≤ total
-  pub most : count ≤ capacity kind
+pub record Begins (kind : Kind) (len : ℕ) (w : Walk) (count : ℕ) : Type 0 where
+  pub rows-left : w .row + count ≤ kind .rows
+  pub most : count ≤ kind .capacity
   pub the-place : w .place ≡ 0
-  pub the-block : w .first + w .block < 64
-  pub room : blockByte w + 512 ≤ len
+  pub the-block : kind .first + w .block < 64
+  pub room : blockByte kind w + 512 ≤ len
 
--- the blocks of a kind, from the number of its first one on, have room in a file of so many bytes
-pub record KindFits (boxes rows arrows : List ℕ) (kind first blocks len : ℕ) : Type 0 where
-  pub low : 1 ≤ kind
-  pub high : kind ≤ 3
-  pub few : rowsOf boxes rows arrows kind ≤ 1024
-  pub the-first : first ≡ firstOf boxes rows arrows kind
-  pub the-blocks : blocks ≡ blocksOf boxes rows arrows kind
-  pub numbers : first + blocks ≤ 64
-  pub room : 512 * (first + blocks) ≤ len
+-- so many blocks, from the first one on, have room in a file of so many bytes
+pub record BlocksFit (kind : Kind) (blocks len : ℕ) : Type 0 where
+  pub numbers : kind .first + blocks ≤ 64
+  pub room : 512 * (kind .first + blocks) ≤ len

@@ -5,14 +5,14 @@ ghost use mathlib.Core.Path.{_≡_};
 ghost use Prim.Native.Nat.{_+_, _*_, _^_, _<_};
 ghost use lib.ListN.{length};
 ghost use lib.Seq.{sets};
-ghost use Rattle.blocks.specs.Blocks.{capacity, recordSize, joined};
-ghost use Rattle.packer.specs.Packed.{blockOf, least, blocksFor, recordBytes, rowsOf, kindBytes};
+ghost use Rattle.blocks.specs.Blocks.{joined};
+ghost use Rattle.packer.specs.Packed.{blockOf, least, blocksFor, recordBytes, blocksOf, kindBytes};
 ghost use Rattle.packer.specs.Packs.{packAnswer, fileAfter};
-ghost use Rattle.packer.specs.Walks.{walkFrom, step, steps, blockByte, recordByte, Within, Begins, KindFits};
+ghost use Rattle.packer.specs.Walks.{boxKind, containmentKind, arrowKind, OfKind, walkStart, step, steps};
+ghost use Rattle.packer.specs.Walks.{blockByte, recordByte, Within, Begins, BlocksFit};
 use blocks::ArrowRecord;
 use blocks::BoxRecord;
 use blocks::ContainmentRecord;
-use blocks::by_kind;
 use put::put_arrow;
 use put::put_box;
 use put::put_check;
@@ -26,10 +26,56 @@ use tables::narrow;
 
 const BLOCK_SIZE: usize = 512;
 
-// A walk over the rows of a kind: the number of the kind's first block, a row, its block counted from that one, and its place in
-// the block.
-struct Walk {
+// The blocks of a kind: the kind's number, the bytes of a record, how many records a block holds, how many rows there are, and the
+// number of the first block.
+struct Kind {
+    number: u8,
+    size: usize,
+    capacity: usize,
+    rows: usize,
     first: usize,
+}
+
+impl Kind {
+    fn boxes(rows: usize) -> Self
+        ensures { λ r. ⌜ r ≡ boxKind rows ⌝ }
+    {
+        Self {
+            number: BoxRecord::KIND,
+            size: BoxRecord::SIZE,
+            capacity: BoxRecord::CAPACITY,
+            rows,
+            first: 0,
+        }
+    }
+
+    fn containments(rows: usize, first: usize) -> Self
+        ensures { λ r. ⌜ r ≡ containmentKind rows first ⌝ }
+    {
+        Self {
+            number: ContainmentRecord::KIND,
+            size: ContainmentRecord::SIZE,
+            capacity: ContainmentRecord::CAPACITY,
+            rows,
+            first,
+        }
+    }
+
+    fn arrows(rows: usize, first: usize) -> Self
+        ensures { λ r. ⌜ r ≡ arrowKind rows first ⌝ }
+    {
+        Self {
+            number: ArrowRecord::KIND,
+            size: ArrowRecord::SIZE,
+            capacity: ArrowRecord::CAPACITY,
+            rows,
+            first,
+        }
+    }
+}
+
+// A walk over the rows of a kind: a row, its block counted from the kind's first one, and its place in the block.
+struct Walk {
     row: usize,
     block: usize,
     place: usize,
@@ -37,11 +83,10 @@ struct Walk {
 
 impl Walk {
     // At the first row.
-    fn from(first: usize) -> Self
-        ensures { λ r. ⌜ r ≡ walkFrom first ⌝ }
+    fn start() -> Self
+        ensures { λ r. ⌜ r ≡ walkStart ⌝ }
     {
         Self {
-            first,
             row: 0,
             block: 0,
             place: 0,
@@ -55,27 +100,25 @@ impl Walk {
     {
         if self.place + 1 == capacity {
             return Self {
-                first: self.first,
                 row: self.row + 1,
                 block: self.block + 1,
                 place: 0,
             };
         }
         Self {
-            first: self.first,
             row: self.row + 1,
             block: self.block,
             place: self.place + 1,
         }
     }
+}
 
-    // The byte at which the block begins.
-    fn block_byte(self) -> usize
-        requires { ⌜ self .first + self .block < 2 ^ 32 ⌝ }
-        ensures { λ r. ⌜ r ≡ blockByte self ⌝ }
-    {
-        BLOCK_SIZE * (self.first + self.block)
-    }
+// The byte at which the walk's block begins.
+fn block_byte(kind: Kind, walk: Walk) -> usize
+    requires { ⌜ kind .first + walk .block < 2 ^ 32 ⌝ }
+    ensures { λ r. ⌜ r ≡ blockByte kind walk ⌝ }
+{
+    BLOCK_SIZE * (kind.first + walk.block)
 }
 
 // How many blocks so many rows fill.
@@ -92,61 +135,27 @@ fn blocks_for(rows: usize, capacity: usize) -> usize
     blocks
 }
 
-// How many records a block of a kind holds.
-fn capacity_of(kind: u8) -> usize
-    ensures { λ r. ⌜ r ≡ capacity kind ⌝ }
-{
-    by_kind(
-        kind,
-        BoxRecord::CAPACITY,
-        ContainmentRecord::CAPACITY,
-        ArrowRecord::CAPACITY,
-    )
-}
-
-// How many bytes a record of a kind has.
-fn size_of(kind: u8) -> usize
-    ensures { λ r. ⌜ r ≡ recordSize kind ⌝ }
-{
-    by_kind(
-        kind,
-        BoxRecord::SIZE,
-        ContainmentRecord::SIZE,
-        ArrowRecord::SIZE,
-    )
-}
-
 // Writes the record of the row at which the walk stands.
-fn put_record(kind: u8, boxes: &[u8], rows: &[u16], arrows: &[u16], walk: Walk, file: &mut [u8])
-    requires { ⌜ Within kind (rowsOf (now boxes) (now rows) (now arrows) kind) (length (now file)) walk ⌝ }
+fn put_record(kind: Kind, boxes: &[u8], rows: &[u16], arrows: &[u16], walk: Walk, file: &mut [u8])
+    requires { ⌜ OfKind (now boxes) (now rows) (now arrows) kind × Within kind (length (now file)) walk ⌝ }
     ensures { λ _. ⌜ now (file .exit) ≡ sets (now (file .entry)) (recordByte kind walk)
-        (recordBytes (now (boxes .entry)) (now (rows .entry)) (now (arrows .entry)) kind (walk .row)) ⌝ }
+        (recordBytes (now (boxes .entry)) (now (rows .entry)) (now (arrows .entry)) (kind .number) (walk .row)) ⌝ }
 {
-    let from = walk.block_byte() + 8;
-    if kind == BoxRecord::KIND {
-        put_box(boxes, walk.row, from + walk.place, file);
+    let at = block_byte(kind, walk) + 8 + kind.size * walk.place;
+    if kind.number == BoxRecord::KIND {
+        put_box(boxes, walk.row, at, file);
         return;
     }
-    if kind == ContainmentRecord::KIND {
-        put_containment(
-            rows,
-            walk.row,
-            from + ContainmentRecord::SIZE * walk.place,
-            file,
-        );
+    if kind.number == ContainmentRecord::KIND {
+        put_containment(rows, walk.row, at, file);
         return;
     }
-    put_arrow(
-        arrows,
-        walk.row,
-        from + ArrowRecord::SIZE * walk.place,
-        file,
-    );
+    put_arrow(arrows, walk.row, at, file);
 }
 
 // Writes the records of a block, from its first place on, and answers the walk behind them.
 fn put_records(
-    kind: u8,
+    kind: Kind,
     boxes: &[u8],
     rows: &[u16],
     arrows: &[u16],
@@ -154,23 +163,22 @@ fn put_records(
     count: usize,
     file: &mut [u8],
 ) -> Walk
-    requires { ⌜ Begins kind (rowsOf (now boxes) (now rows) (now arrows) kind) (length (now file)) walk count ⌝ }
-    ensures { λ r. ⌜ r ≡ steps (capacity kind) walk count ⌝ }
-    ensures { λ _. ⌜ now (file .exit) ≡ sets (now (file .entry)) (blockByte walk + 8)
-        (joined (λ j. recordBytes (now (boxes .entry)) (now (rows .entry)) (now (arrows .entry)) kind (walk .row + j)) count) ⌝ }
+    requires { ⌜ OfKind (now boxes) (now rows) (now arrows) kind × Begins kind (length (now file)) walk count ⌝ }
+    ensures { λ r. ⌜ r ≡ steps (kind .capacity) walk count ⌝ }
+    ensures { λ _. ⌜ now (file .exit) ≡ sets (now (file .entry)) (blockByte kind walk + 8)
+        (joined (λ j. recordBytes (now (boxes .entry)) (now (rows .entry)) (now (arrows .entry)) (kind .number) (walk .row + j)) count) ⌝ }
 {
-    let capacity = capacity_of(kind);
     let mut w = walk;
     for j in 0..count {
         put_record(kind, boxes, rows, arrows, w, file);
-        w = w.next(capacity);
+        w = w.next(kind.capacity);
     }
     w
 }
 
 // Writes the block at which the walk stands, with so many records, and answers the walk behind them.
 fn put_block(
-    kind: u8,
+    kind: Kind,
     boxes: &[u8],
     rows: &[u16],
     arrows: &[u16],
@@ -178,21 +186,22 @@ fn put_block(
     count: usize,
     file: &mut [u8],
 ) -> Walk
-    requires { ⌜ Begins kind (rowsOf (now boxes) (now rows) (now arrows) kind) (length (now file)) walk count ⌝ }
-    ensures { λ r. ⌜ r ≡ steps (capacity kind) walk count ⌝ }
-    ensures { λ _. ⌜ now (file .exit) ≡ sets (now (file .entry)) (blockByte walk) (blockOf kind (walk .first + walk .block) count
-        (λ j. recordBytes (now (boxes .entry)) (now (rows .entry)) (now (arrows .entry)) kind (walk .row + j))) ⌝ }
+    requires { ⌜ OfKind (now boxes) (now rows) (now arrows) kind × Begins kind (length (now file)) walk count ⌝ }
+    ensures { λ r. ⌜ r ≡ steps (kind .capacity) walk count ⌝ }
+    ensures { λ _. ⌜ now (file .exit) ≡ sets (now (file .entry)) (blockByte kind walk)
+        (blockOf (kind .number) (kind .first + walk .block) count
+        (λ j. recordBytes (now (boxes .entry)) (now (rows .entry)) (now (arrows .entry)) (kind .number) (walk .row + j))) ⌝ }
 {
-    let at = walk.block_byte();
+    let at = block_byte(kind, walk);
     put_head(
-        kind,
-        narrow(walk.first + walk.block),
+        kind.number,
+        narrow(kind.first + walk.block),
         narrow(count),
         at,
         file,
     );
     let w = put_records(kind, boxes, rows, arrows, walk, count, file);
-    let used = size_of(kind) * count;
+    let used = kind.size * count;
     put_zeros(500 - used, at + 8 + used, file);
     put_check(at, file);
     w
@@ -208,25 +217,16 @@ fn least_of(a: usize, b: usize) -> usize
     b
 }
 
-// Writes the blocks of a kind, from the number of its first block on.
-fn put_kind(
-    kind: u8,
-    boxes: &[u8],
-    rows: &[u16],
-    arrows: &[u16],
-    first: usize,
-    blocks: usize,
-    file: &mut [u8],
-)
-    requires { ⌜ KindFits (now boxes) (now rows) (now arrows) kind first blocks (length (now file)) ⌝ }
-    ensures { λ _. ⌜ now (file .exit) ≡ sets (now (file .entry)) (512 * first)
-        (kindBytes (now (boxes .entry)) (now (rows .entry)) (now (arrows .entry)) kind) ⌝ }
+// Writes the blocks of a kind, of which there are so many.
+fn put_kind(kind: Kind, boxes: &[u8], rows: &[u16], arrows: &[u16], blocks: usize, file: &mut [u8])
+    requires { ⌜ OfKind (now boxes) (now rows) (now arrows) kind ⌝ }
+    requires { ⌜ (blocks ≡ blocksOf (now boxes) (now rows) (now arrows) (kind .number)) × BlocksFit kind blocks (length (now file)) ⌝ }
+    ensures { λ _. ⌜ now (file .exit) ≡ sets (now (file .entry)) (512 * kind .first)
+        (kindBytes (now (boxes .entry)) (now (rows .entry)) (now (arrows .entry)) (kind .number)) ⌝ }
 {
-    let total = by_kind(kind, boxes.len(), rows.len() / 2, arrows.len() / 4);
-    let capacity = capacity_of(kind);
-    let mut walk = Walk::from(first);
+    let mut walk = Walk::start();
     for k in 0..blocks {
-        let count = least_of(total - walk.row, capacity);
+        let count = least_of(kind.rows - walk.row, kind.capacity);
         walk = put_block(kind, boxes, rows, arrows, walk, count, file);
     }
 }
@@ -255,22 +255,20 @@ pub fn pack(boxes: &[u8], rows: &[u16], arrows: &[u16], file: &mut [u8]) -> Pack
     if let Verdict::Refused(r) = room {
         return Packing::Refused(r);
     }
-    put_kind(BoxRecord::KIND, boxes, rows, arrows, 0, 1, file);
+    put_kind(Kind::boxes(boxes.len()), boxes, rows, arrows, 1, file);
     put_kind(
-        ContainmentRecord::KIND,
+        Kind::containments(rows.len() / 2, 1),
         boxes,
         rows,
         arrows,
-        1,
         second,
         file,
     );
     put_kind(
-        ArrowRecord::KIND,
+        Kind::arrows(arrows.len() / 4, 1 + second),
         boxes,
         rows,
         arrows,
-        1 + second,
         third,
         file,
     );

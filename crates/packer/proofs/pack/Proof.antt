@@ -9,7 +9,8 @@ use Rattle.tables.specs.declared.Verdict.the-variants.{Passed}
 use Rattle.tables.proofs.TableLaws.{sound-rows, sound-arrows}
 use Rattle.tables.proofs.Verdicts.{passed}
 use Rattle.packer.specs.Packed.{packed}
-use Rattle.packer.proofs.Filing.{blocks-most, need-is, boxes-fit, containments-fit, arrows-fit, file-made, by-tables, by-room, room-there, by-none}
+use Rattle.packer.proofs.Filing.{blocks-most, need-is, boxes-known, containments-known, arrows-known, boxes-fit, containments-fit, arrows-fit}
+use Rattle.packer.proofs.Filing.{file-made, by-tables, by-room, room-there, by-none}
 use native.Mathlib.Omega.{arith}
 use borrow.Author.Needs.{needs}
 use Rattle.packer.proofs.pack.Statement.{statement}
@@ -73,34 +74,49 @@ returns-2 c =
 
 put-kind-requires : tie.Need-put-kind-requires
 put-kind-requires c κs =
-    let o = c .before in
+    let o = c .before .before in
     let s = o .before .before .before in
-    boxes-fit _ _ _ (tabled (s .before .before)) _ _ (s .before .blocks-for .ensures) (s .blocks-for2 .ensures) _ (room o)
+    let found = tabled (s .before .before) in
+    rw (c .before .boxes .ensures) (
+      boxes-known _ _ _ found _ _ (s .before .blocks-for .ensures) (s .blocks-for2 .ensures),
+      boxes-fit _ _ _ found _ _ (s .before .blocks-for .ensures) (s .blocks-for2 .ensures) _ (room o),
+    )
 
 put-kind-requires-2 : tie.Need-put-kind-requires-2
 put-kind-requires-2 c κs =
-    let o = c .before .before .before .before .before in
+    let o = c .before .before .before .before .before .before .before in
     let s = o .before .before .before in
-    containments-fit _ _ _ (tabled (s .before .before)) _ _ (s .before .blocks-for .ensures) (s .blocks-for2 .ensures) _ (rw (c .before .before .before .put-kind .ensures) (simp length-sets (room o)))
+    let found = tabled (s .before .before) in
+    rw (c .before .containments .ensures) (
+      containments-known _ _ _ found _ _ (s .before .blocks-for .ensures) (s .blocks-for2 .ensures),
+      containments-fit _ _ _ found _ _ (s .before .blocks-for .ensures) (s .blocks-for2 .ensures) _ (rw (c .before .before .before .before .put-kind .ensures) (simp length-sets (room o))),
+    )
 
-add-put-kind : tie.Need-add-put-kind
-add-put-kind c =
-    omega (arith, few (c .before .before .before .before .before .before .before .before .before .before .before) .0)
+add-arrows : tie.Need-add-arrows
+add-arrows c =
+    omega (arith, few (c .before .before .before .before .before .before .before .before .before .before .before .before .before) .0)
 
 put-kind-requires-3 : tie.Need-put-kind-requires-3
 put-kind-requires-3 c κs =
-    let o = c .before .before .before .before .before .before .before .before .before in
+    let o = c .before .before .before .before .before .before .before .before .before .before .before .before in
     let s = o .before .before .before in
-    arrows-fit _ _ _ (tabled (s .before .before)) _ _ (s .before .blocks-for .ensures) (s .blocks-for2 .ensures) _ (rw (c .before .before .before .put-kind2 .ensures) (simp length-sets (rw (c .before .before .before .before .before .before .before .put-kind .ensures) (simp length-sets (room o)))))
+    let found = tabled (s .before .before) in
+    rw (c .before .arrows .ensures) (
+      arrows-known _ _ _ found _ _ (s .before .blocks-for .ensures) (s .blocks-for2 .ensures),
+      arrows-fit _ _ _ found _ _ (s .before .blocks-for .ensures) (s .blocks-for2 .ensures) _ (rw (c .before .before .before .before .put-kind2 .ensures) (simp length-sets (rw (c .before .before .before .before .before .before .before .before .before .put-kind .ensures) (simp length-sets (room o))))),
+    )
 
 returns-3 : tie.Need-returns-3
 returns-3 c =
-    let o = c .before .before .before .before .before .before .before .before .before .before .before .before in
+    let o = c .before .before .before .before .before .before .before .before .before .before .before .before .before .before .before in
     let s = o .before .before .before in
+    let found = tabled (s .before .before) in
     let a = o .before .before .before .before .before .before .before .before .before .before .before .before .args in
-    by-none (a .boxes .now) (a .rows .now) (a .arrows .now) (a .file .now) (tabled (s .before .before)) _ (named s) (roomed o) _
-    (file-made (a .boxes .now) (a .rows .now) (a .arrows .now) (tabled (s .before .before)) _ _ (s .before .blocks-for .ensures) (s .blocks-for2 .ensures) _ _ _ _ (room o)
-    (c .before .before .before .before .before .before .before .before .before .before .put-kind .ensures) (c .before .before .before .before .before .before .put-kind2 .ensures) (c .before .before .put-kind3 .ensures))
+    by-none (a .boxes .now) (a .rows .now) (a .arrows .now) (a .file .now) found _ (named s) (roomed o) _
+    (file-made (a .boxes .now) (a .rows .now) (a .arrows .now) found _ _ (s .before .blocks-for .ensures) (s .blocks-for2 .ensures) _ _ _ _ (room o)
+    (rw (c .before .before .before .before .before .before .before .before .before .before .before .before .before .before .boxes .ensures) at (c .before .before .before .before .before .before .before .before .before .before .before .before .put-kind .ensures))
+    (rw (c .before .before .before .before .before .before .before .before .before .containments .ensures) at (c .before .before .before .before .before .before .before .put-kind2 .ensures))
+    (rw (c .before .before .before .before .arrows .ensures) at (c .before .before .put-kind3 .ensures)))
 
 pub pack-spec : {M : Type 1} → statement M
 pack-spec =
@@ -119,9 +135,12 @@ pack-spec =
     (search needs)
     returns-2
     (search needs)
+    (λ c κs. search needs)
     put-kind-requires
+    (λ c κs. search needs)
     put-kind-requires-2
-    add-put-kind
+    add-arrows
+    (λ c κs. search needs)
     put-kind-requires-3
     (search needs)
     returns-3)

@@ -1,48 +1,55 @@
 -- Head, records, filler and check, one behind the other (`block-made`). Assumes nothing.
 use Rattle.packer.proofs.Writing.{used-most, block-made}
-use Prim.Native.Nat.{_*_, _≤_}
 use native.Mathlib.Omega.{arith}
 use borrow.Author.Needs.{needs}
 use Rattle.packer.proofs.put_block.Statement.{statement}
 use Rattle.packer.proofs.put_block.Tie as tie
 
--- the bytes of the records
-used : (c : tie.After-size-of) → c .size-of .result * c .before .before .before .before .before .before .before .before .before .before .before .before .before .before .before .before .before .args .count ≤ 500
-used c = used-most (c .before .before .before .before .before .before .before .before .before .before .before .before .before .before .before .before .before .pre) _ (c .size-of .ensures)
+narrow-requires-2 : tie.Need-narrow-requires-2
+narrow-requires-2 c κs =
+    let asked = c .before .before .before .before .before .before .before .before .pre in omega (arith, asked .1 .rows-left, asked .0 .few)
 
 mul-used : tie.Need-mul-used
-mul-used c = omega (arith, used c)
+mul-used c =
+    omega (arith, used-most (c .before .before .before .before .before .before .before .before .before .before .before .before .before .before .before .before .before .before .pre))
 
 sub-put-zeros : tie.Need-sub-put-zeros
-sub-put-zeros c = used c
+sub-put-zeros c =
+    used-most (c .before .before .before .before .before .before .before .before .before .before .before .before .before .before .before .before .before .before .pre)
 
 add-put-zeros-2 : tie.Need-add-put-zeros-2
 add-put-zeros-2 c =
-    let at-block = c .before .before .before .before .before .before .before .before .before .before .before .before in
-    omega (arith, used c, at-block .block-byte .ensures, at-block .before .before .before .before .before .pre .the-block)
+    let at-block = c .before .before .before .before .before .before .before .before .before .before .before .before .before in
+    let asked = at-block .before .before .before .before .before .pre in
+    omega (arith, used-most asked, at-block .block-byte .ensures, asked .1 .the-block)
 
 put-zeros-requires : tie.Need-put-zeros-requires
 put-zeros-requires c κs =
-    let at-size = c .before in
-    let at-block = at-size .before .before .before .before .before .before .before .before .before .before .before .before in
-    let u = used at-size in
+    let at-block = c .before .before .before .before .before .before .before .before .before .before .before .before .before .before in
+    let asked = at-block .before .before .before .before .before .pre in
+    let u = used-most asked in
     let e = at-block .block-byte .ensures in
-    let m = at-block .before .before .before .before .before .pre .room in
+    let m = asked .1 .room in
+    search needs
+
+put-check-requires : tie.Need-put-check-requires
+put-check-requires c κs =
+    let at-block = c .before .before .before .before .before .before .before .before .before .before .before .before .before .before .before .before .before .before in
+    let e = at-block .block-byte .ensures in
+    let m = at-block .before .before .before .before .before .pre .1 .room in
     search needs
 
 returns : tie.Need-returns
 returns c =
     let at-check = c .before .before in
     let at-zeros = at-check .before .before .before .before in
-    let at-size = at-zeros .before .before in
-    let at-records = at-size .before .before .before in
+    let at-records = at-zeros .before .before .before .before .before in
     let at-head = at-records .before .before .before .before in
     let at-count = at-head .before .before in
     let at-number = at-count .before in
-    let at-block = at-number .before .before in (
+    let at-block = at-number .before .before .before in (
       at-records .put-records .ensures .0,
-      block-made _ _ _ _ _ _ _ (at-block .before .before .before .before .before .pre) _ _ _ _ _ _ _ _
-          (at-block .block-byte .ensures) (at-number .narrow .ensures) (at-count .narrow2 .ensures) (at-size .size-of .ensures)
+      block-made _ _ _ _ _ _ _ (at-block .before .before .before .before .before .pre) _ _ _ _ _ _ _ (at-block .block-byte .ensures) (at-number .narrow .ensures) (at-count .narrow2 .ensures)
           (at-head .put-head .ensures) (at-records .put-records .ensures .1) (at-zeros .put-zeros .ensures) (at-check .put-check .ensures),
     )
 
@@ -53,8 +60,7 @@ put-block-spec =
     (λ c κs. search needs)
     (search needs)
     (λ c κs. search needs)
-    (λ c κs. search needs)
-    (λ c κs. search needs)
+    narrow-requires-2
     (λ c κs. search needs)
     (λ c κs. search needs)
     mul-used
@@ -62,6 +68,6 @@ put-block-spec =
     (search needs)
     add-put-zeros-2
     put-zeros-requires
-    (λ c κs. search needs)
+    put-check-requires
     (search needs)
     returns)
