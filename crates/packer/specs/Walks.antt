@@ -3,7 +3,7 @@
 use mathlib.Core.Path.{_≡_}
 use mathlib.Core.Bool.{cond}
 use mathlib.Core.List.{List}
-use Prim.Native.Nat.{ℕ, zero, suc, _+_, _*_, _<_, _≤_}
+use Prim.Native.Nat.{ℕ, zero, suc, _+_, _*_, _^_, _<_, _≤_}
 use lib.Dec.{eqb}
 use Rattle.blocks.specs.Blocks.{capacity, recordSize}
 use Rattle.packer.specs.Packed.{rowsOf, firstOf}
@@ -47,21 +47,22 @@ unfoldable pub steps : (capacity : ℕ) → Walk → ℕ → Walk
 steps capacity w zero = w
 steps capacity w (suc n) = step capacity (steps capacity w n)
 
--- the byte of the file at which the walk's block begins, and the one at which its record does
+-- the walk stands at the first place of a block, and so many records follow: as many rows of the table as that, no more than the block
+-- holds, and room for them from a byte of the file on
+pub record Run (size capacity rows : ℕ) (w : Walk) (count at len : ℕ) : Type 0 where
+  pub few : rows ≤ 1024
+  pub rows-left : w .row + count ≤ rows
+  pub most : count ≤ capacity
+  pub the-place : w .place ≡ 0
+  pub the-block : w .block < 64
+  pub the-byte : at < 2 ^ 32
+  pub room : at + size * count ≤ len
+
+-- the byte of the file at which the walk's block begins
 abbrev pub blockByte : Kind → Walk → ℕ
 blockByte kind w = 512 * (kind .first + w .block)
 
-abbrev pub recordByte : Kind → Walk → ℕ
-recordByte kind w = blockByte kind w + 8 + kind .size * w .place
-
--- the walk stands at a row, and at a place of a block that a file of so many bytes has
-pub record Within (kind : Kind) (len : ℕ) (w : Walk) : Type 0 where
-  pub the-row : w .row < kind .rows
-  pub the-place : w .place < kind .capacity
-  pub the-block : kind .first + w .block < 64
-  pub room : blockByte kind w + 512 ≤ len
-
--- the walk stands at the first place of such a block, and as many rows follow as the block has records
+-- the walk stands at the first place of a block that a file of so many bytes has, and as many rows follow as the block has records
 pub record Begins (kind : Kind) (len : ℕ) (w : Walk) (count : ℕ) : Type 0 where
   pub rows-left : w .row + count ≤ kind .rows
   pub most : count ≤ kind .capacity

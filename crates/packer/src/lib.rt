@@ -5,11 +5,13 @@ ghost use mathlib.Core.Path.{_≡_};
 ghost use Prim.Native.Nat.{_+_, _*_, _^_, _<_};
 ghost use lib.ListN.{length};
 ghost use lib.Seq.{sets};
+ghost use Rattle.tables.specs.Rows.{rowCount, arrowCount};
 ghost use Rattle.blocks.specs.Blocks.{joined};
-ghost use Rattle.packer.specs.Packed.{blockOf, least, blocksFor, recordBytes, blocksOf, kindBytes};
+ghost use Rattle.packer.specs.Packed.{boxBytes, containmentBytes, arrowBytes, blockOf, least, blocksFor};
+ghost use Rattle.packer.specs.Packed.{recordBytes, blocksOf, kindBytes};
 ghost use Rattle.packer.specs.Packs.{packAnswer, fileAfter};
 ghost use Rattle.packer.specs.Walks.{boxKind, containmentKind, arrowKind, OfKind, walkStart, step, steps};
-ghost use Rattle.packer.specs.Walks.{blockByte, recordByte, Within, Begins, BlocksFit};
+ghost use Rattle.packer.specs.Walks.{Run, blockByte, Begins, BlocksFit};
 use blocks::ArrowRecord;
 use blocks::BoxRecord;
 use blocks::ContainmentRecord;
@@ -135,25 +137,49 @@ fn blocks_for(rows: usize, capacity: usize) -> usize
     blocks
 }
 
-// Writes the record of the row at which the walk stands.
-fn put_record(kind: Kind, boxes: &[u8], rows: &[u16], arrows: &[u16], walk: Walk, file: &mut [u8])
-    requires { ⌜ OfKind (now boxes) (now rows) (now arrows) kind × Within kind (length (now file)) walk ⌝ }
-    ensures { λ _. ⌜ now (file .exit) ≡ sets (now (file .entry)) (recordByte kind walk)
-        (recordBytes (now (boxes .entry)) (now (rows .entry)) (now (arrows .entry)) (kind .number) (walk .row)) ⌝ }
+// Writes the records of a block of boxes, from its first place on, and answers the walk behind them.
+fn put_boxes(boxes: &[u8], walk: Walk, count: usize, at: usize, file: &mut [u8]) -> Walk
+    requires { ⌜ Run 1 500 (length (now boxes)) walk count at (length (now file)) ⌝ }
+    ensures { λ r. ⌜ r ≡ steps 500 walk count ⌝ }
+    ensures { λ _. ⌜ now (file .exit) ≡ sets (now (file .entry)) at (joined (λ j. boxBytes (now (boxes .entry)) (walk .row + j)) count) ⌝ }
 {
-    let at = block_byte(kind, walk) + 8 + kind.size * walk.place;
-    if kind.number == BoxRecord::KIND {
-        put_box(boxes, walk.row, at, file);
-        return;
+    let mut w = walk;
+    for j in 0..count {
+        put_box(boxes, w.row, at + w.place, file);
+        w = w.next(BoxRecord::CAPACITY);
     }
-    if kind.number == ContainmentRecord::KIND {
-        put_containment(rows, walk.row, at, file);
-        return;
-    }
-    put_arrow(arrows, walk.row, at, file);
+    w
 }
 
-// Writes the records of a block, from its first place on, and answers the walk behind them.
+// The same of containments.
+fn put_containments(rows: &[u16], walk: Walk, count: usize, at: usize, file: &mut [u8]) -> Walk
+    requires { ⌜ Run 4 125 (rowCount (now rows)) walk count at (length (now file)) ⌝ }
+    ensures { λ r. ⌜ r ≡ steps 125 walk count ⌝ }
+    ensures { λ _. ⌜ now (file .exit) ≡ sets (now (file .entry)) at (joined (λ j. containmentBytes (now (rows .entry)) (walk .row + j)) count) ⌝ }
+{
+    let mut w = walk;
+    for j in 0..count {
+        put_containment(rows, w.row, at + ContainmentRecord::SIZE * w.place, file);
+        w = w.next(ContainmentRecord::CAPACITY);
+    }
+    w
+}
+
+// The same of arrows.
+fn put_arrows(arrows: &[u16], walk: Walk, count: usize, at: usize, file: &mut [u8]) -> Walk
+    requires { ⌜ Run 6 83 (arrowCount (now arrows)) walk count at (length (now file)) ⌝ }
+    ensures { λ r. ⌜ r ≡ steps 83 walk count ⌝ }
+    ensures { λ _. ⌜ now (file .exit) ≡ sets (now (file .entry)) at (joined (λ j. arrowBytes (now (arrows .entry)) (walk .row + j)) count) ⌝ }
+{
+    let mut w = walk;
+    for j in 0..count {
+        put_arrow(arrows, w.row, at + ArrowRecord::SIZE * w.place, file);
+        w = w.next(ArrowRecord::CAPACITY);
+    }
+    w
+}
+
+// The same of any kind.
 fn put_records(
     kind: Kind,
     boxes: &[u8],
@@ -168,12 +194,14 @@ fn put_records(
     ensures { λ _. ⌜ now (file .exit) ≡ sets (now (file .entry)) (blockByte kind walk + 8)
         (joined (λ j. recordBytes (now (boxes .entry)) (now (rows .entry)) (now (arrows .entry)) (kind .number) (walk .row + j)) count) ⌝ }
 {
-    let mut w = walk;
-    for j in 0..count {
-        put_record(kind, boxes, rows, arrows, w, file);
-        w = w.next(kind.capacity);
+    let at = block_byte(kind, walk) + 8;
+    if kind.number == BoxRecord::KIND {
+        return put_boxes(boxes, walk, count, at, file);
     }
-    w
+    if kind.number == ContainmentRecord::KIND {
+        return put_containments(rows, walk, count, at, file);
+    }
+    put_arrows(arrows, walk, count, at, file)
 }
 
 // Writes the block at which the walk stands, with so many records, and answers the walk behind them.

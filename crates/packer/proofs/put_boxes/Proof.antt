@@ -1,0 +1,73 @@
+-- After j turns j records of the block stand in the file (`Put`). Assumes nothing.
+use mathlib.Core.Path.{_≡_}
+use Prim.Native.Nat.{_-_}
+use Rattle.packer.specs.Packed.{boxBytes}
+use Rattle.packer.proofs.Records.{Put, put-none, at-row, put-more, box-length}
+use native.Mathlib.Omega.{arith}
+use borrow.Author.Needs.{needs}
+use Rattle.packer.proofs.put_boxes.Statement.{statement}
+use Rattle.packer.proofs.put_boxes.Tie as tie
+
+abbrev Inv-loop : tie.InvT-loop
+Inv-loop boxes count at file₀ w₀ j₀ file w j = Put 1 500 (boxBytes boxes) at file₀ w₀ count j file w
+
+abbrev μ-loop : tie.MeasureT-loop
+μ-loop boxes count at file₀ w₀ j₀ file w j = count - j
+
+loop-holds : tie.Need-loop-holds Inv-loop μ-loop
+loop-holds c =
+    put-none _ _ _ _ _ _ _
+
+add-put-box : tie.Need-add-put-box Inv-loop μ-loop
+add-put-box c =
+    let at-loop = c .before .before in
+    let run = at-loop .before .before .before .pre in
+    let w = at-row _ _ _ _ _ _ _ run _ _ _ (at-loop .loop .inv) (search needs) in
+    omega (arith, w .2, run .most, run .the-byte)
+
+put-box-requires : tie.Need-put-box-requires Inv-loop μ-loop
+put-box-requires c κs =
+    let at-loop = c .before .before .before in
+    let run = at-loop .before .before .before .pre in
+    let w = at-row _ _ _ _ _ _ _ run _ _ _ (at-loop .loop .inv) (search needs) in
+    (omega (arith, w .0, run .rows-left), omega (arith, w .2, run .room, at-loop .loop .inv .same-length))
+
+next-requires : tie.Need-next-requires Inv-loop μ-loop
+next-requires c κs =
+    let at-loop = c .before .before .before .before .before .before in
+    let run = at-loop .before .before .before .pre in
+    let w = at-row _ _ _ _ _ _ _ run _ _ _ (at-loop .loop .inv) (search needs) in
+    (omega (arith, w .0, run .rows-left, run .few), omega (arith, w .1, run .the-block), omega (arith, w .2, run .most))
+
+loop-again : tie.Need-loop-again Inv-loop μ-loop
+loop-again c =
+    let at-loop = c .before .before .before .before .before .before .before in
+    let run = at-loop .before .before .before .pre in
+    let w = at-row _ _ _ _ _ _ _ run _ _ _ (at-loop .loop .inv) (search needs) in
+    put-more _ _ _ _ _ _ _ run _ _ _ (at-loop .loop .inv) (search needs) (box-length _) _ _ _ (c .before .before .before .put-box .ensures) (omega (arith, w .2)) (c .next .ensures)
+
+same-length : tie.Need-same-length Inv-loop μ-loop
+same-length c =
+    c .before .loop .inv .same-length
+
+returns : tie.Need-returns Inv-loop μ-loop
+returns c =
+    let l = c .before .loop in
+    let e : l .j ≡ c .before .before .before .before .args .count = let m = l .inv .most in omega arith in
+    (rw e at (l .inv .the-walk), rw e at (l .inv .so-far))
+
+pub put-boxes-spec : {M : Type 1} → statement M
+put-boxes-spec =
+    tie.close
+    (tie.spec
+    Inv-loop
+    μ-loop
+    loop-holds
+    add-put-box
+    put-box-requires
+    next-requires
+    (search needs)
+    (search needs)
+    loop-again
+    same-length
+    returns)
