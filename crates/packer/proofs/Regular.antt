@@ -92,7 +92,11 @@ module _ (boxes rows arrows : List ℕ) where
   pub blocks-by-kind : (blocksOf boxes rows arrows 1 ≡ cond (eqb (length boxes) 0) 1 (blocksFor 500 (length boxes)))
       × (blocksOf boxes rows arrows 2 ≡ blocksFor 125 (rowCount rows)) × (blocksOf boxes rows arrows 3 ≡ blocksFor 83 (arrowCount arrows))
   unfolding blocksOf
-  blocks-by-kind = (of-boxes _ _ _, of-containments _ _ _, of-arrows _ _ _)
+  blocks-by-kind = (
+    rw (rows-by-kind .0, capacities .0),
+    rw (rows-by-kind .1, capacities .1),
+    rw (rows-by-kind .2, capacities .2),
+  )
 
   pub first-by-kind : (firstOf boxes rows arrows 1 ≡ 0) × (firstOf boxes rows arrows 2 ≡ blocksOf boxes rows arrows 1)
       × (firstOf boxes rows arrows 3 ≡ blocksOf boxes rows arrows 1 + blocksOf boxes rows arrows 2)

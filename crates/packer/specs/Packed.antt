@@ -1,6 +1,6 @@
 -- Document 02, P1: the one regular packing of a picture as a block file. Blocks of each kind are full but the last, and none is
 -- empty, except that a picture without boxes has one box block of count 0. Assumes nothing.
-use mathlib.Core.Bool.{cond}
+use mathlib.Core.Bool.{cond, _&&_}
 use mathlib.Core.List.{List, [], _∷_, _++_}
 use Prim.Native.Nat.{ℕ, _+_, _*_, _-_, _/_, _%_}
 use lib.Dec.{eqb, ltb}
@@ -61,11 +61,9 @@ module _ (boxes rows arrows : List ℕ) where
   unfoldable pub recordBytes : (kind i : ℕ) → List ℕ
   recordBytes kind i = cond (eqb kind 1) (boxBytes boxes i) (cond (eqb kind 2) (containmentBytes rows i) (arrowBytes arrows i))
 
-  -- how many blocks a kind has: of boxes at least one
+  -- how many blocks a kind has: as many as its rows fill, and of boxes at least one
   unfoldable pub blocksOf : (kind : ℕ) → ℕ
-  blocksOf kind =
-      byKind kind
-      (cond (eqb (length boxes) 0) 1 (blocksFor 500 (length boxes))) (blocksFor 125 (rowCount rows)) (blocksFor 83 (arrowCount arrows))
+  blocksOf kind = cond (eqb kind 1 && eqb (rowsOf kind) 0) 1 (blocksFor (capacity kind) (rowsOf kind))
 
   -- the number of a kind's first block: box blocks, then containment blocks, then arrow blocks
   unfoldable pub firstOf : (kind : ℕ) → ℕ
