@@ -11,3 +11,4 @@ pub mod Order
 pub mod Rooms
 pub mod Made
 pub mod MadeBlocks
+pub mod GoodBlocks

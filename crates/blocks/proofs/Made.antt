@@ -18,7 +18,7 @@ use Rattle.tables.proofs.TableLaws.{both-none}
 use Rattle.blocks.proofs.Order.{length-whole, length-good}
 use Rattle.blocks.proofs.Placing.{joined-length}
 
-good-whole : (file : List ℕ) → fileFault file ≡ none → length file % 512 ≡ 0
+pub good-whole : (file : List ℕ) → fileFault file ≡ none → length file % 512 ≡ 0
 unfolding fileFault
 good-whole file e = length-whole (length file) (both-none _ _ e .0) .0
 

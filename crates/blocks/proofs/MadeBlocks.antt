@@ -15,7 +15,7 @@ use Rattle.tables.specs.Faults.{countFault, roomFault}
 use Rattle.tables.proofs.BufferLaws.{zeros-is}
 use Rattle.tables.proofs.SearchLaws.{given-false, first-zero}
 use Rattle.tables.proofs.Verdicts.{past}
-use Rattle.blocks.specs.Fnv.{fnvStart, fnvFold, fnv1a}
+use Rattle.blocks.specs.Fnv.{fnvStart, fnvStep, fnvFold, fnv1a}
 use Rattle.blocks.specs.Blocks.{number16, number32, headOf, byKind, capacity, recordSize, recordsEnd, boxRecord, containmentRecord, arrowRecord, boxRow, containmentRow, arrowRow, countOf, joined, boxesSaid, containmentsSaid, arrowsSaid, wrongCheck, wrongHead, allZero, wrongFiller, blockFault}
 use Rattle.blocks.specs.Files.{kindBefore, blocksFault, boxesIn, containmentsIn, arrowsIn}
 use Rattle.blocks.specs.Reads.{countsIn, tablesFault}
@@ -52,6 +52,16 @@ record-sizes = (refl, refl, refl)
 pub check-is : (bytes : List ℕ) → fnv1a bytes ≡ fnvFold fnvStart bytes
 unfolding fnv1a
 check-is bytes = refl
+
+-- it has 32 bits
+fold-small : (state : ℕ) (bytes : List ℕ) → state < 4294967296 → fnvFold state bytes < 4294967296
+unfolding fnvFold fnvStep
+fold-small state [] h = h
+fold-small state (byte ∷ bytes) h = fold-small (fnvStep state byte) bytes (omega arith)
+
+pub check-small : (bytes : List ℕ) → fnv1a bytes < 4294967296
+unfolding fnv1a fnvStart
+check-small bytes = fold-small fnvStart bytes (omega arith)
 
 pub number16-is : (block : List ℕ) (at : ℕ) → number16 block at ≡ getD block at 0 + 256 * getD block (at + 1) 0
 unfolding number16
@@ -184,7 +194,7 @@ pub none-before : (blocks : ℕ → List ℕ) → (blocksFault blocks 0 ≡ none
 unfolding blocksFault kindBefore
 none-before blocks = (first-zero _, refl)
 
-kind-after : (blocks : ℕ → List ℕ) (k : ℕ) → kindBefore blocks (suc k) ≡ headOf (blocks k) .kind
+pub kind-after : (blocks : ℕ → List ℕ) (k : ℕ) → kindBefore blocks (suc k) ≡ headOf (blocks k) .kind
 unfolding kindBefore
 kind-after blocks k = refl
 

@@ -10,3 +10,10 @@ pub mod Filing
 pub mod BlockSays
 pub mod PackedBlocks
 pub mod ReadBack
+pub mod PackedRegular
+pub mod PackedBytes
+pub mod Runs
+pub mod BlockIs
+pub mod KindRuns
+pub mod SaidRows
+pub mod OnePacking

@@ -62,15 +62,15 @@ module _ (boxes rows arrows : List ℕ) where
       (λ j h b l. rw (same j h, ← first) (kind-sound boxes rows arrows kind low high j b l))
 
   -- where the blocks of each kind stand
-  block-1 : (j : ℕ) → j < blocksOf boxes rows arrows 1 → blocks (0 + j) ≡ kindBlock boxes rows arrows 1 j
+  pub block-1 : (j : ℕ) → j < blocksOf boxes rows arrows 1 → blocks (0 + j) ≡ kindBlock boxes rows arrows 1 j
   unfolding blocks
   block-1 j h = rw zero-add (glue-low _ _ _ j h)
 
-  block-2 : (j : ℕ) → j < blocksOf boxes rows arrows 2 → blocks (blocksOf boxes rows arrows 1 + j) ≡ kindBlock boxes rows arrows 2 j
+  pub block-2 : (j : ℕ) → j < blocksOf boxes rows arrows 2 → blocks (blocksOf boxes rows arrows 1 + j) ≡ kindBlock boxes rows arrows 2 j
   unfolding blocks
   block-2 j h = glue-high _ _ _ j ∙ glue-low _ _ _ j h
 
-  block-3 : (j : ℕ) → j < blocksOf boxes rows arrows 3
+  pub block-3 : (j : ℕ) → j < blocksOf boxes rows arrows 3
       → blocks (blocksOf boxes rows arrows 1 + blocksOf boxes rows arrows 2 + j) ≡ kindBlock boxes rows arrows 3 j
   unfolding blocks
   block-3 j h = rw add-assoc (glue-high _ _ _ (blocksOf boxes rows arrows 2 + j) ∙ glue-high _ _ _ j)
