@@ -141,7 +141,7 @@ pub record Good (before place kind count : ℕ) (block : List ℕ) : Type 0 wher
   pub check : fnv1a (take 508 block) ≡ number32 block 508
   pub filler : drop (8 + recordSize kind * count) (take 508 block) ≡ zeros (500 - recordSize kind * count)
 
-pub good-block : (before place : ℕ) (block : List ℕ) → length block ≡ 512 → blockFault before place block ≡ none
+good-block : (before place : ℕ) (block : List ℕ) → length block ≡ 512 → blockFault before place block ≡ none
     → Good before place (headOf block .kind) (headOf block .count) block
 unfolding blockFault wrongCheck wrongFiller recordsEnd
 good-block before place block whole e =

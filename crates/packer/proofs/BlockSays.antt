@@ -37,7 +37,7 @@ check-behind xs x e =
 
 module _ (kind : ℕ) (low : 1 ≤ kind) (high : kind ≤ 3) (number count : ℕ) (records : ℕ → List ℕ)
     (most : count ≤ capacity kind) (len : (j : ℕ) → length (records j) ≡ recordSize kind) where
-  pub block-head : headOf (blockOf kind number count records) ≡ headMade kind number count
+  block-head : headOf (blockOf kind number count records) ≡ headMade kind number count
   unfolding blockOf covered headBytes bytes16
   block-head =
       head-made kind (number % 256) (number / 256) (count % 256) (count / 256) _
@@ -66,11 +66,11 @@ module _ (kind : ℕ) (low : 1 ≤ kind) (high : kind ≤ 3) (number count : ℕ
       ∙ drop-at r z w (joined-length records (recordSize kind) count (λ j l. len j))
 
   -- after blocks of no higher kind, at its place
-  pub block-sound : (before : ℕ) → before ≤ kind → blockFault before number (blockOf kind number count records) ≡ none
+  block-sound : (before : ℕ) → before ≤ kind → blockFault before number (blockOf kind number count records) ≡ none
   block-sound before after = block-passed before number kind count _ _ block-head low high after most block-check block-filler
 
   -- its records are those that it is made of
-  pub record-is : (j : ℕ) → j < count → RecordIs (blockOf kind number count records) (recordSize kind) j (records j)
+  record-is : (j : ℕ) → j < count → RecordIs (blockOf kind number count records) (recordSize kind) j (records j)
   unfolding blockOf covered
   record-is j l i h =
       let w = recordSize kind in

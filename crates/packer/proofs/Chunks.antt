@@ -94,7 +94,7 @@ chunk-step c n m h = go (ltb (n - c * m) c) refl
         let l = ltb-false (n - c * m) c e in
         rw (mul-suc, least-high (n - c * m) c l, least-low (c * m + c) n (omega arith))
 
-pub joined-chunks : (g : ℕ → List ℕ) (c n m : ℕ)
+joined-chunks : (g : ℕ → List ℕ) (c n m : ℕ)
     → joined (λ k. joined (λ j. g (c * k + j)) (least (n - c * k) c)) m ≡ joined g (least (c * m) n)
 joined-chunks g c n zero = joined-none _ ∙ sym (rw (mul-zero, least-low 0 n (omega arith)) (joined-none g))
 joined-chunks g c n (suc m) =

@@ -68,7 +68,7 @@ module _ (file : List ℕ) where
       run-good j h = rw (← run .own j h) (file-block file good (from + j) (there j h))
 
       -- its blocks but the last are full
-      pub run-full : (j : ℕ) → suc j < m → countAt file (from + j) ≡ capacity kind
+      run-full : (j : ℕ) → suc j < m → countAt file (from + j) ≡ capacity kind
       run-full j h =
           let a = run .own j (omega arith) in
           let b = run .own (suc j) h in

@@ -16,7 +16,7 @@ use Rattle.packer.specs.Packed.{bytes16, bytes32, boxBytes, containmentB
 use Rattle.packer.specs.Packed.{rowsOf, recordBytes, blocksOf, countIn, kindBlock, kindBytes, packed}
 
 -- a kind is 1, 2 or 3
-kinds : (kind : ℕ) → 1 ≤ kind → kind ≤ 3 → (kind ≡ 1) ⊎ ((kind ≡ 2) ⊎ (kind ≡ 3))
+pub kinds : (kind : ℕ) → 1 ≤ kind → kind ≤ 3 → (kind ≡ 1) ⊎ ((kind ≡ 2) ⊎ (kind ≡ 3))
 kinds zero h l = absurd (omega arith)
 kinds (suc zero) h l = inl refl
 kinds (suc (suc zero)) h l = inr (inl refl)
@@ -74,7 +74,7 @@ module _ (kind : ℕ) (low : 1 ≤ kind) (high : kind ≤ 3) where
         let fit = records-fit count most in
         simp (length-append, head-length kind number count, joined-length records (recordSize kind) count (λ j h. len j), zeros-length) (omega arith)
 
-    pub block-length : length (blockOf kind number count records) ≡ 512
+    block-length : length (blockOf kind number count records) ≡ 512
     unfolding blockOf bytes32 bytes16
     block-length = simp (length-append, covered-length)
 
