@@ -1,7 +1,8 @@
 #!/usr/bin/env python3
 """Compiles the two programs that docs/USING.md shows, runs them on samples B and J, and holds the matrix that they print against
 the stored listings. The steps up that the page shows are held against those that examples/c stores, its listings of groups that
-have emptied against the program's, and its texts of B against the two programs that read and write them.
+have emptied against the program's, and its texts of B against the two programs that read and write them. Its lines for packing, put
+behind the reading of its C program, must write the samples as they were.
 
     using.py     in the repository's root, after target/staticlib/librights_c.a, target/librights.rlib and target/bin/rights are built
 """
@@ -46,6 +47,20 @@ def shows(page, lines):
     return lines != [] and "".join(f"    {line}\n" for line in lines) in page
 
 
+def packs(page):
+    """The samples that the page's lines for packing write otherwise than they were read."""
+    (program,) = re.findall(r"```c\n(.*?)```", page, re.S)
+    (lines,) = re.findall(r"^    uint8_t packed.*?, out\);\n", page, re.S | re.M)
+    reading = program[:program.index("    if (!done(rights_judge(")]
+    (TARGET / "using-pack.c").write_text(f"{reading}    FILE *out = stdout;\n{lines}    return 0;\n}}\n")
+    command = ["cc", "-std=c99", "-Iinclude", "-o", "target/using-pack", "target/using-pack.c", "target/staticlib/librights_c.a"]
+    subprocess.run(command, cwd=ROOT, check=True)
+    for name in ["B", "J"]:
+        file = (ROOT / "samples" / f"{name}.blk").read_bytes()
+        if subprocess.run([TARGET / "using-pack"], input=file, capture_output=True, timeout=30).stdout != file:
+            yield f"the page's lines for packing write another file of {name}"
+
+
 def texts(page):
     """What the two programs for pictures as text do otherwise than the page shows: with B, and with a wrong name in it."""
     (text,) = re.findall(r"```text\n(.*?)```", page, re.S)
@@ -87,10 +102,10 @@ def main():
         if not shows(page, lines):
             wrong += 1
             print(f"the page shows another {what}")
-    for what in texts(page):
+    for what in [*packs(page), *texts(page)]:
         wrong += 1
         print(what)
-    print(f"using: 2 programs on 2 samples, the steps up, 2 listings and 2 texts, {wrong} wrong")
+    print(f"using: 2 programs and the lines for packing on 2 samples, the steps up, 2 listings and 2 texts, {wrong} wrong")
     sys.exit(wrong > 0)
 
 
