@@ -141,7 +141,8 @@ fn blocks_for(rows: usize, capacity: usize) -> usize
 fn put_boxes(boxes: &[u8], walk: Walk, count: usize, at: usize, file: &mut [u8]) -> Walk
     requires { ⌜ Run 1 500 (length (now boxes)) walk count at (length (now file)) ⌝ }
     ensures { λ r. ⌜ r ≡ steps 500 walk count ⌝ }
-    ensures { λ _. ⌜ now (file .exit) ≡ sets (now (file .entry)) at (joined (λ j. boxBytes (now (boxes .entry)) (walk .row + j)) count) ⌝ }
+    ensures { λ _. ⌜ now (file .exit) ≡ sets (now (file .entry)) at
+        (joined (λ j. boxBytes (now (boxes .entry)) (walk .row + j)) count) ⌝ }
 {
     let mut w = walk;
     for j in 0..count {
@@ -151,11 +152,12 @@ fn put_boxes(boxes: &[u8], walk: Walk, count: usize, at: usize, file: &mut [u8])
     w
 }
 
-// The same of containments.
+// The same for containments.
 fn put_containments(rows: &[u16], walk: Walk, count: usize, at: usize, file: &mut [u8]) -> Walk
     requires { ⌜ Run 4 125 (rowCount (now rows)) walk count at (length (now file)) ⌝ }
     ensures { λ r. ⌜ r ≡ steps 125 walk count ⌝ }
-    ensures { λ _. ⌜ now (file .exit) ≡ sets (now (file .entry)) at (joined (λ j. containmentBytes (now (rows .entry)) (walk .row + j)) count) ⌝ }
+    ensures { λ _. ⌜ now (file .exit) ≡ sets (now (file .entry)) at
+        (joined (λ j. containmentBytes (now (rows .entry)) (walk .row + j)) count) ⌝ }
 {
     let mut w = walk;
     for j in 0..count {
@@ -165,11 +167,12 @@ fn put_containments(rows: &[u16], walk: Walk, count: usize, at: usize, file: &mu
     w
 }
 
-// The same of arrows.
+// The same for arrows.
 fn put_arrows(arrows: &[u16], walk: Walk, count: usize, at: usize, file: &mut [u8]) -> Walk
     requires { ⌜ Run 6 83 (arrowCount (now arrows)) walk count at (length (now file)) ⌝ }
     ensures { λ r. ⌜ r ≡ steps 83 walk count ⌝ }
-    ensures { λ _. ⌜ now (file .exit) ≡ sets (now (file .entry)) at (joined (λ j. arrowBytes (now (arrows .entry)) (walk .row + j)) count) ⌝ }
+    ensures { λ _. ⌜ now (file .exit) ≡ sets (now (file .entry)) at
+        (joined (λ j. arrowBytes (now (arrows .entry)) (walk .row + j)) count) ⌝ }
 {
     let mut w = walk;
     for j in 0..count {
@@ -179,7 +182,7 @@ fn put_arrows(arrows: &[u16], walk: Walk, count: usize, at: usize, file: &mut [u
     w
 }
 
-// The same of any kind.
+// The same for any kind.
 fn put_records(
     kind: Kind,
     boxes: &[u8],
