@@ -1,10 +1,10 @@
 -- The file made of its kinds, and the stages of the call: a refusal by checks 1 to 7, one by check 9, and none. Assumes nothing.
-use mathlib.Core.Path.{_≡_, sym, ap, _∙_}
+use mathlib.Core.Path.{_≡_, refl, sym, ap, _∙_}
 use mathlib.Core.List.{List, [], _++_, append-assoc}
 use mathlib.Core.Option.{none, some}
 use Prim.Native.Nat.{ℕ, _+_, _*_, _≤_}
 use native.Mathlib.Omega.{arith}
-use lib.ListN.{length, length-append}
+use lib.ListN.{length, take, length-append}
 use lib.Seq.{sets}
 use Rattle.tables.specs.Buffers.{written}
 use Rattle.tables.specs.Rows.{rowCount, arrowCount}
@@ -13,6 +13,7 @@ use Rattle.tables.specs.Refusals.{verdictOf}
 use Rattle.tables.specs.declared.Refusal.{Refusal}
 use Rattle.tables.specs.declared.Verdict.the-variants.{Passed, Refused as Stopped}
 use Rattle.tables.proofs.BufferLaws.{written-none, written-run}
+use Rattle.tables.proofs.PartLaws.{part-is}
 use Rattle.tables.proofs.TableLaws.{room-passed, sound-rows, sound-arrows}
 use Rattle.tables.proofs.Verdicts.{passed, refused, past, stop}
 use Rattle.blocks.proofs.MadeBlocks.{capacities, record-sizes}
@@ -150,3 +151,10 @@ module _ (boxes rows arrows : List ℕ) where
         by-none end e =
             let f : packFault boxes rows arrows file ≡ none = by-nine ∙ passed _ fits in
             (rw (f, is), rw f e)
+
+    -- where the call is not refused, the first bytes of the lent file, as many as it answers, are the packed file
+    pub packed-part : packFault boxes rows arrows file ≡ none
+        → (packAnswer boxes rows arrows file ≡ Packed (length (packed boxes rows arrows)))
+        × (take (length (packed boxes rows arrows)) (fileAfter boxes rows arrows file) ≡ packed boxes rows arrows)
+    unfolding packingOf packAnswer fileAfter
+    packed-part e = (rw e, rw e (part-is (packed boxes rows arrows) file _ _ (refl, refl)))
