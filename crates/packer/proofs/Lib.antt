@@ -4,7 +4,7 @@ pub mod Lengths
 pub mod Chunks
 pub mod Regular
 pub mod Walking
-pub mod Records
+pub mod RecordLaws
 pub mod Writing
 pub mod Filing
 pub mod BlockSays

@@ -16,16 +16,10 @@ use Rattle.packer.specs.Packed.{bytes32, headBytes, covered, blockOf, le
 use Rattle.packer.specs.Walks.{OfKind, walkStart, steps, blockByte, Begins, BlocksFit}
 use Rattle.packer.specs.declared.Kind.{Kind}
 use Rattle.packer.specs.declared.Walk.{Walk}
-use Rattle.packer.proofs.Lengths.{least-most, capacity-some, head-length, records-fit, record-length, covered-length, kind-block-length}
+use Rattle.packer.proofs.Lengths.{least-most, capacity-some, head-length, record-length, covered-length, kind-block-length}
 use Rattle.packer.proofs.Regular.{block-begun, full-but-last}
 use Rattle.packer.proofs.Putting.{chain, stored}
 use Rattle.packer.proofs.Walking.{steps-full}
-
--- the records' bytes fit between head and check
-pub used-most : {boxes rows arrows : List ℕ} {kind : Kind} {len count : ℕ} {w : Walk}
-    → OfKind boxes rows arrows kind × Begins kind len w count → kind .size * count ≤ 500
-used-most {kind = kind} {count = count} asked =
-    rw (asked .0 .the-size) (records-fit (kind .number) (asked .0 .low) (asked .0 .high) count (rw (← asked .0 .the-capacity) (asked .1 .most)))
 
 module _ (kind : Kind) (boxes rows arrows l₀ : List ℕ) (w : Walk) (count : ℕ)
     (asked : OfKind boxes rows arrows kind × Begins kind (length l₀) w count) where

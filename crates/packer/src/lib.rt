@@ -1,26 +1,25 @@
 // Packs a picture into a block file: blocks of each kind full but the last, none empty but the one of a picture without boxes.
 mod put;
+mod records;
 
 ghost use mathlib.Core.Path.{_≡_};
 ghost use Prim.Native.Nat.{_+_, _*_, _^_, _<_};
 ghost use lib.ListN.{length};
 ghost use lib.Seq.{sets};
-ghost use Rattle.tables.specs.Rows.{rowCount, arrowCount};
 ghost use Rattle.blocks.specs.Blocks.{joined};
-ghost use Rattle.packer.specs.Packed.{boxBytes, containmentBytes, arrowBytes, blockOf, least, blocksFor};
-ghost use Rattle.packer.specs.Packed.{recordBytes, blocksOf, kindBytes};
+ghost use Rattle.packer.specs.Packed.{blockOf, least, blocksFor, recordBytes, blocksOf, kindBytes};
 ghost use Rattle.packer.specs.Packs.{packAnswer, fileAfter};
 ghost use Rattle.packer.specs.Walks.{boxKind, containmentKind, arrowKind, OfKind, walkStart, step, steps};
-ghost use Rattle.packer.specs.Walks.{Run, blockByte, Begins, BlocksFit};
+ghost use Rattle.packer.specs.Walks.{blockByte, Begins, BlocksFit};
 use blocks::ArrowRecord;
 use blocks::BoxRecord;
 use blocks::ContainmentRecord;
-use put::put_arrow;
-use put::put_box;
 use put::put_check;
-use put::put_containment;
 use put::put_head;
 use put::put_zeros;
+use records::put_arrows;
+use records::put_boxes;
+use records::put_containments;
 use tables::Refusal;
 use tables::Verdict;
 use tables::check_room;
@@ -137,52 +136,7 @@ fn blocks_for(rows: usize, capacity: usize) -> usize
     blocks
 }
 
-// Writes the records of a block of boxes, from its first place on, and answers the walk behind them.
-fn put_boxes(boxes: &[u8], walk: Walk, count: usize, at: usize, file: &mut [u8]) -> Walk
-    requires { ⌜ Run 1 500 (length (now boxes)) walk count at (length (now file)) ⌝ }
-    ensures { λ r. ⌜ r ≡ steps 500 walk count ⌝ }
-    ensures { λ _. ⌜ now (file .exit) ≡ sets (now (file .entry)) at
-        (joined (λ j. boxBytes (now (boxes .entry)) (walk .row + j)) count) ⌝ }
-{
-    let mut w = walk;
-    for j in 0..count {
-        put_box(boxes, w.row, at + w.place, file);
-        w = w.next(BoxRecord::CAPACITY);
-    }
-    w
-}
-
-// The same for containments.
-fn put_containments(rows: &[u16], walk: Walk, count: usize, at: usize, file: &mut [u8]) -> Walk
-    requires { ⌜ Run 4 125 (rowCount (now rows)) walk count at (length (now file)) ⌝ }
-    ensures { λ r. ⌜ r ≡ steps 125 walk count ⌝ }
-    ensures { λ _. ⌜ now (file .exit) ≡ sets (now (file .entry)) at
-        (joined (λ j. containmentBytes (now (rows .entry)) (walk .row + j)) count) ⌝ }
-{
-    let mut w = walk;
-    for j in 0..count {
-        put_containment(rows, w.row, at + ContainmentRecord::SIZE * w.place, file);
-        w = w.next(ContainmentRecord::CAPACITY);
-    }
-    w
-}
-
-// The same for arrows.
-fn put_arrows(arrows: &[u16], walk: Walk, count: usize, at: usize, file: &mut [u8]) -> Walk
-    requires { ⌜ Run 6 83 (arrowCount (now arrows)) walk count at (length (now file)) ⌝ }
-    ensures { λ r. ⌜ r ≡ steps 83 walk count ⌝ }
-    ensures { λ _. ⌜ now (file .exit) ≡ sets (now (file .entry)) at
-        (joined (λ j. arrowBytes (now (arrows .entry)) (walk .row + j)) count) ⌝ }
-{
-    let mut w = walk;
-    for j in 0..count {
-        put_arrow(arrows, w.row, at + ArrowRecord::SIZE * w.place, file);
-        w = w.next(ArrowRecord::CAPACITY);
-    }
-    w
-}
-
-// The same for any kind.
+// Writes the records of a block, from its first place on, and answers the walk behind them.
 fn put_records(
     kind: Kind,
     boxes: &[u8],
@@ -195,7 +149,8 @@ fn put_records(
     requires { ⌜ OfKind (now boxes) (now rows) (now arrows) kind × Begins kind (length (now file)) walk count ⌝ }
     ensures { λ r. ⌜ r ≡ steps (kind .capacity) walk count ⌝ }
     ensures { λ _. ⌜ now (file .exit) ≡ sets (now (file .entry)) (blockByte kind walk + 8)
-        (joined (λ j. recordBytes (now (boxes .entry)) (now (rows .entry)) (now (arrows .entry)) (kind .number) (walk .row + j)) count) ⌝ }
+        (joined (λ j. recordBytes (now (boxes .entry)) (now (rows .entry)) (now (arrows .entry)) (kind .number) (walk .row + j))
+        count) ⌝ }
 {
     let at = block_byte(kind, walk) + 8;
     if kind.number == BoxRecord::KIND {
@@ -251,7 +206,8 @@ fn least_of(a: usize, b: usize) -> usize
 // Writes the blocks of a kind, of which there are so many.
 fn put_kind(kind: Kind, boxes: &[u8], rows: &[u16], arrows: &[u16], blocks: usize, file: &mut [u8])
     requires { ⌜ OfKind (now boxes) (now rows) (now arrows) kind ⌝ }
-    requires { ⌜ (blocks ≡ blocksOf (now boxes) (now rows) (now arrows) (kind .number)) × BlocksFit kind blocks (length (now file)) ⌝ }
+    requires { ⌜ (blocks ≡ blocksOf (now boxes) (now rows) (now arrows) (kind .number))
+        × BlocksFit kind blocks (length (now file)) ⌝ }
     ensures { λ _. ⌜ now (file .exit) ≡ sets (now (file .entry)) (512 * kind .first)
         (kindBytes (now (boxes .entry)) (now (rows .entry)) (now (arrows .entry)) (kind .number)) ⌝ }
 {

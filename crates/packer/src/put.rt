@@ -115,7 +115,8 @@ pub fn put_zeros(count: usize, at: usize, file: &mut [u8])
 // Writes the check of the 508 bytes from a place on behind them.
 pub fn put_check(at: usize, file: &mut [u8])
     requires { ⌜ at + 512 ≤ length (now file) ⌝ }
-    ensures { λ _. ⌜ now (file .exit) ≡ sets (now (file .entry)) (at + 508) (bytes32 (fnv1a (take 508 (drop at (now (file .entry)))))) ⌝ }
+    ensures { λ _. ⌜ now (file .exit)
+        ≡ sets (now (file .entry)) (at + 508) (bytes32 (fnv1a (take 508 (drop at (now (file .entry)))))) ⌝ }
 {
     let to = at + Check::COVERED;
     let c = Check::fresh().part(&file[at..to]);

@@ -1,5 +1,6 @@
 -- Head, records, filler and check, one behind the other (`block-made`). Assumes nothing.
-use Rattle.packer.proofs.Writing.{used-most, block-made}
+use Rattle.packer.proofs.RecordLaws.{used-most}
+use Rattle.packer.proofs.Writing.{block-made}
 use native.Mathlib.Omega.{arith}
 use borrow.Author.Needs.{needs}
 use Rattle.packer.proofs.put_block.Statement.{statement}

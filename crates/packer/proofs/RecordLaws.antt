@@ -1,20 +1,20 @@
 -- The records of a block written one after the other, and what that means of each kind. Assumes nothing.
 use mathlib.Core.Path.{_≡_, refl, sym, _∙_}
 use mathlib.Core.List.{List}
-use Prim.Native.Nat.{ℕ, _+_, _*_, _<_, _≤_}
+use Prim.Native.Nat.{ℕ, _+_, _*_, _^_, _<_, _≤_}
 use native.Mathlib.Omega.{arith}
 use lib.ListN.{length}
 use lib.Seq.{sets, length-sets}
 use Rattle.tables.specs.Rows.{rowCount, arrowCount}
 use Rattle.blocks.specs.Blocks.{joined}
 use Rattle.blocks.proofs.JoinedLaws.{joined-none}
-use Rattle.blocks.proofs.MadeBlocks.{capacities}
+use Rattle.blocks.proofs.MadeBlocks.{capacities, record-sizes}
 use Rattle.blocks.proofs.Placing.{put-more as put-next}
 use Rattle.packer.specs.Packed.{bytes16, boxBytes, containmentBytes, arrowBytes, recordBytes}
 use Rattle.packer.specs.Walks.{OfKind, step, steps, Run, blockByte, Begins}
 use Rattle.packer.specs.declared.Kind.{Kind}
 use Rattle.packer.specs.declared.Walk.{Walk}
-use Rattle.packer.proofs.Lengths.{third-kind}
+use Rattle.packer.proofs.Lengths.{third-kind, records-fit}
 use Rattle.packer.proofs.Regular.{rows-by-kind}
 use Rattle.packer.proofs.Walking.{steps-more, steps-within}
 
@@ -39,6 +39,14 @@ module _ (size capacity : ℕ) (bytes : ℕ → List ℕ) (at : ℕ) (file₀ : 
     pub at-row : (w .row ≡ w₀ .row + j) × (w .block ≡ w₀ .block) × (w .place ≡ j)
     at-row = (rw stands, rw stands, rw stands)
 
+    -- what a step asks
+    pub next-small : (w .row < 2 ^ 32) × (w .block < 2 ^ 32) × (w .place < 2 ^ 32)
+    next-small =
+        let few = run .few in
+        let left = run .rows-left in
+        let small = run .the-block in
+        (rw stands (omega arith), rw stands (omega arith), rw stands (omega arith))
+
     -- one record more
     pub put-more : ((i : ℕ) → length (bytes i) ≡ size) → (to : ℕ) (file′ : List ℕ) (w′ : Walk)
         → file′ ≡ sets file to (bytes (w .row)) → to ≡ at + size * j → w′ ≡ step capacity w → Put (j + 1) file′ w′
@@ -48,6 +56,13 @@ module _ (size capacity : ℕ) (bytes : ℕ → List ℕ) (at : ℕ) (file₀ : 
       same-length = rw e (simp length-sets (put .same-length));
       so-far = e ∙ rw (stands, put .so-far) (put-next file₀ at _ size (λ i. len (w₀ .row + i)) j to place);
     }
+
+  -- all of them
+  pub put-all : (j : ℕ) (file : List ℕ) (w : Walk) → Put j file w → (j < count → ⊥)
+      → (w ≡ steps capacity w₀ count) × (file ≡ sets file₀ at (joined (λ i. bytes (w₀ .row + i)) count))
+  put-all j file w put end =
+      let e : j ≡ count = let m = put .most in omega arith in
+      (rw e at (put .the-walk), rw e at (put .so-far))
 
 -- the bytes of a record
 pub box-length : (boxes : List ℕ) (i : ℕ) → length (boxBytes boxes i) ≡ 1
@@ -62,6 +77,12 @@ pub arrow-length : (arrows : List ℕ) (i : ℕ) → length (arrowBytes arrows i
 unfolding arrowBytes bytes16
 arrow-length arrows i = refl
 
+-- the records' bytes fit between head and check
+pub used-most : {boxes rows arrows : List ℕ} {kind : Kind} {len count : ℕ} {w : Walk}
+    → OfKind boxes rows arrows kind × Begins kind len w count → kind .size * count ≤ 500
+used-most {kind = kind} {count = count} asked =
+    rw (asked .0 .the-size) (records-fit (kind .number) (asked .0 .low) (asked .0 .high) count (rw (← asked .0 .the-capacity) (asked .1 .most)))
+
 -- what is asked of and had from each kind's loop
 module _ (boxes rows arrows : List ℕ) (kind : Kind) (len : ℕ) (w : Walk) (count : ℕ)
     (asked : OfKind boxes rows arrows kind × Begins kind len w count) (at : ℕ) (from : at ≡ blockByte kind w) where
@@ -73,24 +94,28 @@ module _ (boxes rows arrows : List ℕ) (kind : Kind) (len : ℕ) (w : Walk) (co
   third : (kind .number ≡ 1 → ⊥) → (kind .number ≡ 2 → ⊥) → kind .number ≡ 3
   third = third-kind (kind .number) (asked .0 .low) (asked .0 .high)
 
-  pub boxes-run : kind .number ≡ 1 → Run 1 500 (length boxes) w count (at + 8) len
-  boxes-run e =
-      let n : kind .rows ≡ length boxes = asked .0 .the-rows ∙ rw (e, rows-by-kind boxes rows arrows .0) in
-      let c : kind .capacity ≡ 500 = asked .0 .the-capacity ∙ rw (e, capacities .0) in
+  -- the loop of a kind, by its numbers
+  run-of : (size capacity n : ℕ) → kind .size ≡ size → kind .capacity ≡ capacity → kind .rows ≡ n → Run size capacity n w count (at + 8) len
+  run-of size capacity n s c r =
       let few = asked .0 .few in
       let left = asked .1 .rows-left in
-      let most = asked .1 .most in
       let small = asked .1 .the-block in
       let room = asked .1 .room in
+      let used : size * count ≤ 500 = rw (← s) (used-most asked) in
       record {
         few = omega arith;
         rows-left = omega arith;
-        most = omega arith;
+        most = rw (← c) (asked .1 .most);
         the-place = asked .1 .the-place;
         the-block = omega arith;
         the-byte = omega arith;
         room = omega arith;
       }
+
+  pub boxes-run : kind .number ≡ 1 → Run 1 500 (length boxes) w count (at + 8) len
+  boxes-run e = run-of 1 500 (length boxes)
+      (asked .0 .the-size ∙ rw (e, record-sizes .0)) (asked .0 .the-capacity ∙ rw (e, capacities .0))
+      (asked .0 .the-rows ∙ rw (e, rows-by-kind boxes rows arrows .0))
 
   pub boxes-done : kind .number ≡ 1 → (r : Walk) (l l′ : List ℕ) → r ≡ steps 500 w count
       → l′ ≡ sets l (at + 8) (joined (λ j. boxBytes boxes (w .row + j)) count) → Done r l l′
@@ -98,23 +123,9 @@ module _ (boxes rows arrows : List ℕ) (kind : Kind) (len : ℕ) (w : Walk) (co
   boxes-done e r l l′ p q = (p ∙ rw (asked .0 .the-capacity, e, capacities .0), q ∙ rw (from, e))
 
   pub containments-run : kind .number ≡ 2 → Run 4 125 (rowCount rows) w count (at + 8) len
-  containments-run e =
-      let n : kind .rows ≡ rowCount rows = asked .0 .the-rows ∙ rw (e, rows-by-kind boxes rows arrows .1) in
-      let c : kind .capacity ≡ 125 = asked .0 .the-capacity ∙ rw (e, capacities .1) in
-      let few = asked .0 .few in
-      let left = asked .1 .rows-left in
-      let most = asked .1 .most in
-      let small = asked .1 .the-block in
-      let room = asked .1 .room in
-      record {
-        few = omega arith;
-        rows-left = omega arith;
-        most = omega arith;
-        the-place = asked .1 .the-place;
-        the-block = omega arith;
-        the-byte = omega arith;
-        room = omega arith;
-      }
+  containments-run e = run-of 4 125 (rowCount rows)
+      (asked .0 .the-size ∙ rw (e, record-sizes .1)) (asked .0 .the-capacity ∙ rw (e, capacities .1))
+      (asked .0 .the-rows ∙ rw (e, rows-by-kind boxes rows arrows .1))
 
   pub containments-done : kind .number ≡ 2 → (r : Walk) (l l′ : List ℕ) → r ≡ steps 125 w count
       → l′ ≡ sets l (at + 8) (joined (λ j. containmentBytes rows (w .row + j)) count) → Done r l l′
@@ -122,23 +133,9 @@ module _ (boxes rows arrows : List ℕ) (kind : Kind) (len : ℕ) (w : Walk) (co
   containments-done e r l l′ p q = (p ∙ rw (asked .0 .the-capacity, e, capacities .1), q ∙ rw (from, e))
 
   pub arrows-run : (kind .number ≡ 1 → ⊥) → (kind .number ≡ 2 → ⊥) → Run 6 83 (arrowCount arrows) w count (at + 8) len
-  arrows-run a b =
-      let n : kind .rows ≡ arrowCount arrows = asked .0 .the-rows ∙ rw (third a b, rows-by-kind boxes rows arrows .2) in
-      let c : kind .capacity ≡ 83 = asked .0 .the-capacity ∙ rw (third a b, capacities .2) in
-      let few = asked .0 .few in
-      let left = asked .1 .rows-left in
-      let most = asked .1 .most in
-      let small = asked .1 .the-block in
-      let room = asked .1 .room in
-      record {
-        few = omega arith;
-        rows-left = omega arith;
-        most = omega arith;
-        the-place = asked .1 .the-place;
-        the-block = omega arith;
-        the-byte = omega arith;
-        room = omega arith;
-      }
+  arrows-run a b = run-of 6 83 (arrowCount arrows)
+      (asked .0 .the-size ∙ rw (third a b, record-sizes .2)) (asked .0 .the-capacity ∙ rw (third a b, capacities .2))
+      (asked .0 .the-rows ∙ rw (third a b, rows-by-kind boxes rows arrows .2))
 
   pub arrows-done : (kind .number ≡ 1 → ⊥) → (kind .number ≡ 2 → ⊥) → (r : Walk) (l l′ : List ℕ) → r ≡ steps 83 w count
       → l′ ≡ sets l (at + 8) (joined (λ j. arrowBytes arrows (w .row + j)) count) → Done r l l′
