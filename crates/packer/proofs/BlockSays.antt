@@ -96,7 +96,7 @@ module _ (boxes rows arrows : List ℕ) where
     unfolding kindBlock
     kind-sound = block-sound kind low high _ _ _ (count-most kind low high boxes rows arrows k) (λ j. record-length kind low high boxes rows arrows _)
 
-    kind-record : (j : ℕ) → j < countIn boxes rows arrows kind k
+    pub kind-record : (j : ℕ) → j < countIn boxes rows arrows kind k
         → RecordIs (kindBlock boxes rows arrows kind k) (recordSize kind) j (recordBytes boxes rows arrows kind (capacity kind * k + j))
     unfolding kindBlock
     kind-record = record-is kind low high _ _ _ (count-most kind low high boxes rows arrows k) (λ j. record-length kind low high boxes rows arrows _)

@@ -10,6 +10,7 @@ pub mod Filing
 pub mod BlockSays
 pub mod PackedBlocks
 pub mod ReadBack
+pub mod Standing
 pub mod PackedRegular
 pub mod PackedBytes
 pub mod Runs

@@ -1,8 +1,9 @@
 -- The records of a block written one after the other, and what that means of each kind. Assumes nothing.
-use mathlib.Core.Path.{_≡_, refl, sym, _∙_}
+use mathlib.Core.Path.{_≡_, refl, sym, ap, _∙_}
 use mathlib.Core.List.{List}
 use Prim.Native.Nat.{ℕ, _+_, _*_, _^_, _<_, _≤_}
 use native.Mathlib.Omega.{arith}
+use native.Mathlib.Nat.{add-zero, add-assoc}
 use lib.ListN.{length}
 use lib.Seq.{sets, length-sets}
 use Rattle.tables.specs.Rows.{rowCount, arrowCount}
@@ -11,55 +12,59 @@ use Rattle.blocks.proofs.JoinedLaws.{joined-none}
 use Rattle.blocks.proofs.MadeBlocks.{capacities, record-sizes}
 use Rattle.blocks.proofs.Placing.{put-more as put-next}
 use Rattle.packer.specs.Packed.{bytes16, boxBytes, containmentBytes, arrowBytes, recordBytes}
-use Rattle.packer.specs.Walks.{OfKind, step, steps, Run, blockByte, Begins}
+use Rattle.packer.specs.Walks.{OfKind, walkAt, Run, blockByte, Begins}
 use Rattle.packer.specs.declared.Kind.{Kind}
 use Rattle.packer.specs.declared.Walk.{Walk}
 use Rattle.packer.proofs.Lengths.{third-kind, records-fit}
 use Rattle.packer.proofs.Regular.{rows-by-kind}
-use Rattle.packer.proofs.Walking.{steps-more, steps-within}
+use Rattle.packer.proofs.Walking.{walk-within}
 
 -- a loop that has put so many records, from a byte on
 module _ (size capacity : ℕ) (bytes : ℕ → List ℕ) (at : ℕ) (file₀ : List ℕ) (w₀ : Walk) (count : ℕ) where
   pub record Put (j : ℕ) (file : List ℕ) (w : Walk) : Type 0 where
     pub most : j ≤ count
-    pub the-walk : w ≡ steps capacity w₀ j
+    pub the-walk : w ≡ walkAt capacity (w₀ .row + j)
     pub same-length : length file ≡ length file₀
     pub so-far : file ≡ sets file₀ at (joined (λ i. bytes (w₀ .row + i)) j)
 
-  pub put-none : Put 0 file₀ w₀
-  unfolding steps
-  put-none = record { most = omega arith; the-walk = refl; same-length = refl; so-far = rw (joined-none (λ i. bytes (w₀ .row + i))) }
+  pub put-none : w₀ ≡ walkAt capacity (w₀ .row) → Put 0 file₀ w₀
+  put-none walked = record {
+    most = omega arith;
+    the-walk = rw add-zero walked;
+    same-length = refl;
+    so-far = rw (joined-none (λ i. bytes (w₀ .row + i)));
+  }
 
   module _ {rows : ℕ} (run : Run size capacity rows w₀ count at (length file₀)) (j : ℕ) (file : List ℕ) (w : Walk)
       (put : Put j file w) (less : j < count) where
     -- where the walk stands
     stands : w ≡ record { row = w₀ .row + j; block = w₀ .block; place = j }
-    stands = put .the-walk ∙ steps-within capacity w₀ (run .the-place) j (let m = run .most in omega arith)
+    stands = put .the-walk ∙ walk-within capacity w₀ (run .walked) (run .the-place) j (let m = run .most in omega arith)
 
-    pub at-row : (w .row ≡ w₀ .row + j) × (w .block ≡ w₀ .block) × (w .place ≡ j)
-    at-row = (rw stands, rw stands, rw stands)
+    pub at-row : (w .row ≡ w₀ .row + j) × (w .place ≡ j)
+    at-row = (rw stands, rw stands)
 
     -- what a step asks
-    pub next-small : (w .row < 2 ^ 32) × (w .block < 2 ^ 32) × (w .place < 2 ^ 32)
-    next-small =
+    pub next-asks : (0 < capacity) × (w .row < 2 ^ 32) × (w ≡ walkAt capacity (w .row))
+    next-asks =
         let few = run .few in
         let left = run .rows-left in
-        let small = run .the-block in
-        (rw stands (omega arith), rw stands (omega arith), rw stands (omega arith))
+        let most = run .most in
+        (omega arith, rw (at-row .0) (omega arith), put .the-walk ∙ ap (λ (r : ℕ). walkAt capacity r) (sym (at-row .0)))
 
     -- one record more
     pub put-more : ((i : ℕ) → length (bytes i) ≡ size) → (to : ℕ) (file′ : List ℕ) (w′ : Walk)
-        → file′ ≡ sets file to (bytes (w .row)) → to ≡ at + size * j → w′ ≡ step capacity w → Put (j + 1) file′ w′
+        → file′ ≡ sets file to (bytes (w .row)) → to ≡ at + size * j → w′ ≡ walkAt capacity (w .row + 1) → Put (j + 1) file′ w′
     put-more len to file′ w′ e place s = record {
       most = omega arith;
-      the-walk = s ∙ rw (put .the-walk) (sym (steps-more capacity w₀ j));
+      the-walk = s ∙ rw (at-row .0, add-assoc);
       same-length = rw e (simp length-sets (put .same-length));
       so-far = e ∙ rw (stands, put .so-far) (put-next file₀ at _ size (λ i. len (w₀ .row + i)) j to place);
     }
 
   -- all of them
   pub put-all : (j : ℕ) (file : List ℕ) (w : Walk) → Put j file w → (j < count → ⊥)
-      → (w ≡ steps capacity w₀ count) × (file ≡ sets file₀ at (joined (λ i. bytes (w₀ .row + i)) count))
+      → (w ≡ walkAt capacity (w₀ .row + count)) × (file ≡ sets file₀ at (joined (λ i. bytes (w₀ .row + i)) count))
   put-all j file w put end =
       let e : j ≡ count = let m = put .most in omega arith in
       (rw e at (put .the-walk), rw e at (put .so-far))
@@ -83,12 +88,16 @@ pub used-most : {boxes rows arrows : List ℕ} {kind : Kind} {len count : ℕ} {
 used-most {kind = kind} {count = count} asked =
     rw (asked .0 .the-size) (records-fit (kind .number) (asked .0 .low) (asked .0 .high) count (rw (← asked .0 .the-capacity) (asked .1 .most)))
 
+-- a file of the same length has the same room
+pub begins-still : {kind : Kind} {len len′ : ℕ} {w : Walk} {count : ℕ} → Begins kind len w count → len′ ≡ len → Begins kind len′ w count
+begins-still begins e = rw e begins
+
 -- what is asked of and had from each kind's loop
 module _ (boxes rows arrows : List ℕ) (kind : Kind) (len : ℕ) (w : Walk) (count : ℕ)
     (asked : OfKind boxes rows arrows kind × Begins kind len w count) (at : ℕ) (from : at ≡ blockByte kind w) where
   -- the walk behind the records, and the file with them
   abbrev pub Done : Walk → List ℕ → List ℕ → Type 0
-  Done r l l′ = (r ≡ steps (kind .capacity) w count)
+  Done r l l′ = (r ≡ walkAt (kind .capacity) (w .row + count))
       × (l′ ≡ sets l (blockByte kind w + 8) (joined (λ j. recordBytes boxes rows arrows (kind .number) (w .row + j)) count))
 
   third : (kind .number ≡ 1 → ⊥) → (kind .number ≡ 2 → ⊥) → kind .number ≡ 3
@@ -106,8 +115,8 @@ module _ (boxes rows arrows : List ℕ) (kind : Kind) (len : ℕ) (w : Walk) (co
         few = omega arith;
         rows-left = omega arith;
         most = rw (← c) (asked .1 .most);
+        walked = rw (← c) (asked .1 .walked);
         the-place = asked .1 .the-place;
-        the-block = omega arith;
         the-byte = omega arith;
         room = omega arith;
       }
@@ -117,7 +126,7 @@ module _ (boxes rows arrows : List ℕ) (kind : Kind) (len : ℕ) (w : Walk) (co
       (asked .0 .the-size ∙ rw (e, record-sizes .0)) (asked .0 .the-capacity ∙ rw (e, capacities .0))
       (asked .0 .the-rows ∙ rw (e, rows-by-kind boxes rows arrows .0))
 
-  pub boxes-done : kind .number ≡ 1 → (r : Walk) (l l′ : List ℕ) → r ≡ steps 500 w count
+  pub boxes-done : kind .number ≡ 1 → (r : Walk) (l l′ : List ℕ) → r ≡ walkAt 500 (w .row + count)
       → l′ ≡ sets l (at + 8) (joined (λ j. boxBytes boxes (w .row + j)) count) → Done r l l′
   unfolding recordBytes
   boxes-done e r l l′ p q = (p ∙ rw (asked .0 .the-capacity, e, capacities .0), q ∙ rw (from, e))
@@ -127,7 +136,7 @@ module _ (boxes rows arrows : List ℕ) (kind : Kind) (len : ℕ) (w : Walk) (co
       (asked .0 .the-size ∙ rw (e, record-sizes .1)) (asked .0 .the-capacity ∙ rw (e, capacities .1))
       (asked .0 .the-rows ∙ rw (e, rows-by-kind boxes rows arrows .1))
 
-  pub containments-done : kind .number ≡ 2 → (r : Walk) (l l′ : List ℕ) → r ≡ steps 125 w count
+  pub containments-done : kind .number ≡ 2 → (r : Walk) (l l′ : List ℕ) → r ≡ walkAt 125 (w .row + count)
       → l′ ≡ sets l (at + 8) (joined (λ j. containmentBytes rows (w .row + j)) count) → Done r l l′
   unfolding recordBytes
   containments-done e r l l′ p q = (p ∙ rw (asked .0 .the-capacity, e, capacities .1), q ∙ rw (from, e))
@@ -137,7 +146,7 @@ module _ (boxes rows arrows : List ℕ) (kind : Kind) (len : ℕ) (w : Walk) (co
       (asked .0 .the-size ∙ rw (third a b, record-sizes .2)) (asked .0 .the-capacity ∙ rw (third a b, capacities .2))
       (asked .0 .the-rows ∙ rw (third a b, rows-by-kind boxes rows arrows .2))
 
-  pub arrows-done : (kind .number ≡ 1 → ⊥) → (kind .number ≡ 2 → ⊥) → (r : Walk) (l l′ : List ℕ) → r ≡ steps 83 w count
+  pub arrows-done : (kind .number ≡ 1 → ⊥) → (kind .number ≡ 2 → ⊥) → (r : Walk) (l l′ : List ℕ) → r ≡ walkAt 83 (w .row + count)
       → l′ ≡ sets l (at + 8) (joined (λ j. arrowBytes arrows (w .row + j)) count) → Done r l l′
   unfolding recordBytes
   arrows-done a b r l l′ p q = (p ∙ rw (asked .0 .the-capacity, third a b, capacities .2), q ∙ rw (from, third a b))

@@ -1,11 +1,12 @@
 -- The packing is regular: blocks of each kind are full but the last, and none is empty, except that a picture without boxes has one box
 -- block of count 0. Every row is in a block. Assumes nothing.
-use mathlib.Core.Path.{_≡_, refl, _∙_}
+use mathlib.Core.Path.{_≡_, refl, sym, _∙_}
 use mathlib.Core.Bool.{Bool, true, false, cond}
 use mathlib.Core.List.{List}
 use Prim.Native.Nat.{ℕ, suc, _+_, _*_, _-_, _/_, _<_, _≤_}
 use native.Mathlib.Omega.{arith}
-use native.Mathlib.Nat.{add-zero, mul-suc, mul-le-mul-left, mul-add-div, div-eq-of-lt}
+use native.Mathlib.Nat.{add-zero, mul-zero, mul-suc, mul-le-mul-left, mul-add-div, div-eq-of-lt}
+use native.Mathlib.Numerals.{add-one}
 use borrow.Author.Tests.{eq-eqb, eqb-true, eqb-false}
 use lib.Dec.{eqb, ltb}
 use lib.ListN.{length}
@@ -13,8 +14,28 @@ use Rattle.tables.specs.Rows.{rowCount, arrowCount}
 use Rattle.blocks.specs.Blocks.{capacity}
 use Rattle.blocks.proofs.MadeBlocks.{of-boxes, of-containments, of-arrows, capacities}
 use Rattle.packer.specs.Packed.{least, blocksFor, rowsOf, blocksOf, firstOf, countIn}
-use Rattle.packer.proofs.Lengths.{of-kind, capacity-some}
+use Rattle.packer.proofs.Lengths.{of-kind, least-most, capacity-some}
 use Rattle.packer.proofs.Chunks.{least-low, least-high}
+
+-- ---- the smaller of two
+
+-- below both of two
+pub least-above : (i a b : ℕ) → i < a → i < b → i < least a b
+unfolding least
+least-above i a b p q = go (ltb a b)
+  where
+    go : (t : Bool) → i < cond t a b
+    go true = p
+    go false = q
+
+-- the second, if it is not the first
+least-second : (a b : ℕ) → least a b < a → least a b ≡ b
+unfolding least
+least-second a b = go (ltb a b)
+  where
+    go : (t : Bool) → cond t a b < a → cond t a b ≡ b
+    go true h = absurd (omega arith)
+    go false h = refl
 
 -- ---- m blocks of c records for n rows
 
@@ -31,6 +52,39 @@ blocks-are c n m some enough few =
     let e : n + (c - 1) ≡ c * m + r = omega arith in
     let l : r < c = omega arith in
     rw e (mul-add-div some m r ∙ rw (div-eq-of-lt l) (add-zero m))
+
+-- a loop that has taken the rows of m blocks, each full or with the rows that were left
+pub record Taken (c n m row : ℕ) : Type 0 where
+  pub most : row ≤ n
+  pub few : m ≤ row
+  pub enough : row ≤ c * m
+  pub begun : c * m < n + c
+  pub full : row < n → row ≡ c * m
+
+module _ (c n : ℕ) (some : 0 < c) where
+  pub taken-none : Taken c n 0 0
+  taken-none = record { most = omega arith; few = omega arith; enough = omega arith; begun = rw mul-zero (omega arith); full = λ h. rw mul-zero }
+
+  module _ (m row count : ℕ) (t : Taken c n m row) (less : row < n) (is : count ≡ least (n - row) c) where
+    -- one block more takes a row at least
+    pub taken-some : (0 < count) × (count ≤ n - row)
+    taken-some = (rw is (least-above 0 (n - row) c (omega arith) some), rw is (least-most (n - row) c .0))
+
+    pub taken-more : Taken c n (m + 1) (row + count)
+    taken-more =
+        let e : c * (m + 1) ≡ c * m + c = rw (add-one m, mul-suc) in
+        let l = least-most (n - row) c in
+        let f = t .full less in
+        record {
+          most = omega (arith, taken-some .1);
+          few = omega (arith, taken-some .0, t .few);
+          enough = omega (arith, l .1);
+          begun = omega arith;
+          full = λ more. let s : count ≡ c = is ∙ least-second (n - row) c (omega arith) in omega arith;
+        }
+
+  pub taken-all : (m row : ℕ) → Taken c n m row → (row < n → ⊥) → m ≡ blocksFor c n
+  taken-all m row t end = sym (blocks-are c n m some (let a = t .enough in omega arith) (t .begun))
 
 -- a block begins within the rows
 fills-begun : (c n m k : ℕ) → Fills c n m → k < m → c * k ≤ n
@@ -73,14 +127,6 @@ fills-containments n = record { enough = omega arith; few = omega arith; no-more
 fills-arrows : (n : ℕ) → Fills 83 n (blocksFor 83 n)
 unfolding blocksFor
 fills-arrows n = record { enough = omega arith; few = omega arith; no-more = λ h. omega arith }
-
-least-some : (a b : ℕ) → 0 < a → 0 < b → 0 < least a b
-unfolding least
-least-some a b p q = go (ltb a b)
-  where
-    go : (t : Bool) → 0 < cond t a b
-    go true = p
-    go false = q
 
 module _ (boxes rows arrows : List ℕ) where
   -- ---- by kind
@@ -150,7 +196,7 @@ module _ (boxes rows arrows : List ℕ) where
     -- no block of a kind that has rows is empty
     pub none-empty : (k : ℕ) → k < blocksOf boxes rows arrows kind → 0 < rowsOf boxes rows arrows kind → 0 < countIn boxes rows arrows kind k
     unfolding countIn
-    none-empty k h some = least-some _ (capacity kind) (fills-some (capacity kind) _ _ k fills h some) (capacity-some kind low high)
+    none-empty k h some = least-above 0 _ (capacity kind) (fills-some (capacity kind) _ _ k fills h some) (capacity-some kind low high)
 
     -- containments or arrows that aren't there have no block
     pub no-rows-no-block : rowsOf boxes rows arrows kind ≡ 0 → (kind ≡ 1 → ⊥) → blocksOf boxes rows arrows kind ≡ 0

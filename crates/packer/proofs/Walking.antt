@@ -1,32 +1,55 @@
--- The walk over the rows of a block. Assumes nothing.
-use mathlib.Core.Path.{_≡_, sym, subst, _∙_}
-use Prim.Native.Nat.{ℕ, zero, suc, _+_, _-_, _<_}
+-- The walk over the rows of a kind: document 02, P5. Assumes nothing.
+use mathlib.Core.Path.{_≡_, sym, ap, _∙_}
+use Prim.Native.Nat.{ℕ, _+_, _*_, _/_, _%_, _<_, _≤_}
 use native.Mathlib.Omega.{arith}
-use native.Mathlib.Nat.{add-zero}
+use native.Mathlib.Nat.{add-zero, mul-suc, mod-lt, mod-le, mod-eq-of-lt, div-le-self, div-eq-of-lt, div-add-mod, mul-add-div, mul-add-mod-self-left}
 use native.Mathlib.Numerals.{add-one}
-use borrow.Author.Tests.{eq-eqb, ne-eqb}
-use Rattle.packer.specs.Walks.{step, steps}
+use Rattle.packer.specs.Walks.{walkAt}
 use Rattle.packer.specs.declared.Walk.{Walk}
 
--- one row more
-pub steps-more : (cap : ℕ) (w : Walk) (n : ℕ) → steps cap w (n + 1) ≡ step cap (steps cap w n)
-unfolding steps
-steps-more cap w n = rw add-one
+-- at the row of a block and a place
+pub walk-at : (cap block place : ℕ) → place < cap
+    → walkAt cap (cap * block + place) ≡ record { row = cap * block + place; block = block; place = place }
+walk-at cap block place less =
+    let q : (cap * block + place) / cap ≡ block = mul-add-div (omega arith) block place ∙ rw (div-eq-of-lt less) (add-zero block) in
+    let r : (cap * block + place) % cap ≡ place = mul-add-mod-self-left cap block place ∙ mod-eq-of-lt less in
+    rw (q, r)
 
-module _ (cap : ℕ) (w : Walk) (begins : w .place ≡ 0) where
-  -- within the block at whose first place the walk stood
-  pub steps-within : (j : ℕ) → j < cap → steps cap w j ≡ record { row = w .row + j; block = w .block; place = j }
-  unfolding steps step
-  steps-within zero h = rw (add-zero, ← begins)
-  steps-within (suc j) h =
-      let r : w .row + suc j ≡ suc (w .row + j) = omega arith in
-      rw (steps-within j (omega arith)) (rw (ne-eqb (j + 1) cap (λ e. omega arith), r, add-one (w .row + j), add-one j))
+-- at the first row of a block
+pub walk-begun : (cap block : ℕ) → 0 < cap → walkAt cap (cap * block) ≡ record { row = cap * block; block = block; place = 0 }
+walk-begun cap block some = rw add-zero at (walk-at cap block 0 some)
 
-  -- behind it, if it is full
-  pub steps-full : 0 < cap → steps cap w cap ≡ record { row = w .row + cap; block = w .block + 1; place = 0 }
-  unfolding step
-  steps-full some =
-      let e : cap ≡ cap - 1 + 1 = omega arith in
-      let s : steps cap w cap ≡ step cap (steps cap w (cap - 1)) = subst (λ (n : ℕ). steps cap w n ≡ step cap (steps cap w (cap - 1))) (sym e) (steps-more cap w (cap - 1)) in
-      let r : w .row + (cap - 1) + 1 ≡ w .row + cap = omega arith in
-      s ∙ rw (steps-within (cap - 1) (omega arith), eq-eqb (cap - 1 + 1) cap (sym e), r)
+module _ (cap : ℕ) (w : Walk) (walked : w ≡ walkAt cap (w .row)) where
+  the-block : w .block ≡ w .row / cap
+  the-block = ap (λ (x : Walk). x .block) walked
+
+  the-place : w .place ≡ w .row % cap
+  the-place = ap (λ (x : Walk). x .place) walked
+
+  -- no further than the row
+  pub walk-small : (w .block ≤ w .row) × (w .place ≤ w .row)
+  walk-small = (rw the-block (div-le-self (w .row) cap), rw the-place (mod-le (w .row) cap))
+
+  -- the row, by block and place
+  the-row : w .row ≡ cap * w .block + w .place
+  the-row = rw (the-block, the-place) (sym (div-add-mod (w .row) cap))
+
+  -- the next row: the next place
+  pub next-place : 0 < cap → (w .place + 1 ≡ cap → ⊥) → record { row = w .row + 1; block = w .block; place = w .place + 1 } ≡ walkAt cap (w .row + 1)
+  next-place some not =
+      let less : w .place < cap = rw the-place (mod-lt (w .row) some) in
+      let e : w .row + 1 ≡ cap * w .block + (w .place + 1) = let r = the-row in omega arith in
+      rw e (sym (walk-at cap (w .block) (w .place + 1) (omega arith)))
+
+  -- or the first place of the next block
+  pub next-block : 0 < cap → w .place + 1 ≡ cap → record { row = w .row + 1; block = w .block + 1; place = 0 } ≡ walkAt cap (w .row + 1)
+  next-block some full =
+      let m : cap * (w .block + 1) ≡ cap * w .block + cap = rw (add-one (w .block), mul-suc) in
+      let e : w .row + 1 ≡ cap * (w .block + 1) + 0 = let r = the-row in omega arith in
+      rw e (sym (walk-at cap (w .block + 1) 0 some))
+
+  -- within the block at whose first place the walk stands
+  pub walk-within : w .place ≡ 0 → (j : ℕ) → j < cap → walkAt cap (w .row + j) ≡ record { row = w .row + j; block = w .block; place = j }
+  walk-within begins j less =
+      let e : w .row + j ≡ cap * w .block + j = let r = the-row in omega arith in
+      rw e (walk-at cap (w .block) j less)

@@ -1,5 +1,5 @@
 -- A block's parts written one after the other, and a kind's blocks. Assumes nothing.
-use mathlib.Core.Path.{_≡_, refl, sym, _∙_}
+use mathlib.Core.Path.{_≡_, refl, sym, ap, _∙_}
 use mathlib.Core.List.{List, _++_, append-assoc}
 use Prim.Native.Nat.{ℕ, _+_, _*_, _-_, _<_, _≤_}
 use native.Mathlib.Omega.{arith}
@@ -13,13 +13,13 @@ use Rattle.blocks.specs.Blocks.{capacity, recordSize, joined}
 use Rattle.blocks.proofs.JoinedLaws.{joined-none}
 use Rattle.blocks.proofs.Placing.{joined-length, put-more}
 use Rattle.packer.specs.Packed.{bytes32, headBytes, covered, blockOf, least, recordBytes, blocksOf, countIn, kindBlock}
-use Rattle.packer.specs.Walks.{OfKind, walkStart, steps, blockByte, Begins, BlocksFit}
+use Rattle.packer.specs.Walks.{OfKind, walkAt, blockByte, Begins, BlocksFit}
 use Rattle.packer.specs.declared.Kind.{Kind}
 use Rattle.packer.specs.declared.Walk.{Walk}
 use Rattle.packer.proofs.Lengths.{least-most, capacity-some, head-length, record-length, covered-length, kind-block-length}
 use Rattle.packer.proofs.Regular.{block-begun, full-but-last}
 use Rattle.packer.proofs.Putting.{chain, stored}
-use Rattle.packer.proofs.Walking.{steps-full}
+use Rattle.packer.proofs.Walking.{walk-begun}
 
 module _ (kind : Kind) (boxes rows arrows l₀ : List ℕ) (w : Walk) (count : ℕ)
     (asked : OfKind boxes rows arrows kind × Begins kind (length l₀) w count) where
@@ -60,14 +60,16 @@ module _ (kind : Kind) (boxes rows arrows l₀ : List ℕ) (w : Walk) (count : �
 module _ (boxes rows arrows : List ℕ) (kind : Kind) (l₀ : List ℕ) (blocks : ℕ) where
   pub record Wrote (k : ℕ) (file : List ℕ) (w : Walk) : Type 0 where
     pub most : k ≤ blocks
-    pub the-walk : k < blocks → w ≡ record { row = kind .capacity * k; block = k; place = 0 }
+    pub the-walk : w ≡ walkAt (kind .capacity) (w .row)
+    pub the-row : k < blocks → w .row ≡ kind .capacity * k
     pub same-length : length file ≡ length l₀
     pub so-far : file ≡ sets l₀ (512 * kind .first) (joined (kindBlock boxes rows arrows (kind .number)) k)
 
-  pub wrote-none : Wrote 0 l₀ walkStart
-  wrote-none = record {
+  pub wrote-none : (w : Walk) → ((capacity : ℕ) → w ≡ walkAt capacity 0) → Wrote 0 l₀ w
+  wrote-none w start = record {
     most = omega arith;
-    the-walk = λ _. rw mul-zero;
+    the-walk = rw (start (kind .capacity));
+    the-row = λ _. rw (start (kind .capacity), mul-zero);
     same-length = refl;
     so-far = rw (joined-none (kindBlock boxes rows arrows (kind .number)));
   }
@@ -76,7 +78,9 @@ module _ (boxes rows arrows : List ℕ) (kind : Kind) (l₀ : List ℕ) (blocks 
       (asked : (blocks ≡ blocksOf boxes rows arrows (kind .number)) × BlocksFit kind blocks (length l₀))
       (k : ℕ) (file : List ℕ) (w : Walk) (wrote : Wrote k file w) (less : k < blocks) where
     stands : w ≡ record { row = kind .capacity * k; block = k; place = 0 }
-    stands = wrote .the-walk less
+    stands =
+        let some : 0 < kind .capacity = rw (of .the-capacity) (capacity-some (kind .number) (of .low) (of .high)) in
+        wrote .the-walk ∙ rw (wrote .the-row less) (walk-begun (kind .capacity) k some)
 
     pub row-begun : w .row ≤ kind .rows
     row-begun = rw (stands, of .the-capacity, of .the-rows) (block-begun boxes rows arrows (kind .number) (of .low) (of .high) k (rw (← asked .0) less))
@@ -96,13 +100,14 @@ module _ (boxes rows arrows : List ℕ) (kind : Kind) (l₀ : List ℕ) (blocks 
           record {
             rows-left = rw is (omega (arith, m .0));
             most = rw is (m .1);
+            walked = wrote .the-walk;
             the-place = rw stands;
             the-block = rw stands (omega arith);
             room = rw (stands, wrote .same-length) (omega arith);
           }
 
       -- one block more
-      module _ (file′ : List ℕ) (w′ : Walk) (walked : w′ ≡ steps (kind .capacity) w count)
+      module _ (file′ : List ℕ) (w′ : Walk) (walked : w′ ≡ walkAt (kind .capacity) (w .row + count))
           (put : file′ ≡ sets file (blockByte kind w)
           (blockOf (kind .number) (kind .first + w .block) count (λ j. recordBytes boxes rows arrows (kind .number) (w .row + j)))) where
         next-block : blockOf (kind .number) (kind .first + w .block) count (λ j. recordBytes boxes rows arrows (kind .number) (w .row + j))
@@ -110,18 +115,20 @@ module _ (boxes rows arrows : List ℕ) (kind : Kind) (l₀ : List ℕ) (blocks 
         unfolding kindBlock
         next-block = rw (stands, count-is, of .the-first, of .the-capacity)
 
-        next-walk : k + 1 < blocks → w′ ≡ record { row = kind .capacity * (k + 1); block = k + 1; place = 0 }
-        next-walk h =
+        next-row : w′ .row ≡ w .row + count
+        next-row = rw walked
+
+        next-begun : k + 1 < blocks → w′ .row ≡ kind .capacity * (k + 1)
+        next-begun h =
             let last = full-but-last boxes rows arrows (kind .number) (of .low) (of .high) k (rw (← asked .0) h) in
             let full : count ≡ kind .capacity = count-is ∙ last ∙ sym (of .the-capacity) in
-            let m : kind .capacity * (k + 1) ≡ kind .capacity * k + kind .capacity = rw (add-one k, mul-suc) in
-            let some : 0 < kind .capacity = rw (of .the-capacity) (capacity-some (kind .number) (of .low) (of .high)) in
-            walked ∙ rw (full, stands, m) (steps-full (kind .capacity) _ refl some)
+            next-row ∙ rw (full, stands, add-one k, mul-suc)
 
         pub wrote-more : Wrote (k + 1) file′ w′
         wrote-more = record {
           most = omega arith;
-          the-walk = next-walk;
+          the-walk = walked ∙ ap (λ (r : ℕ). walkAt (kind .capacity) r) (sym next-row);
+          the-row = next-begun;
           same-length = rw put (simp length-sets (wrote .same-length));
           so-far = put ∙ rw (next-block, wrote .so-far) (put-more l₀ (512 * kind .first) (kindBlock boxes rows arrows (kind .number)) 512
               (kind-block-length (kind .number) (of .low) (of .high) boxes rows arrows) k _ (rw stands (omega arith)));

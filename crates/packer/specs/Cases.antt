@@ -1,5 +1,5 @@
--- Pictures A and B (document 01) packed, and lengths at the capacities: tables and bytes written out, and the theorem that the
--- definitions say the same (`packed-right`, `lengths-right`). Assumes nothing.
+-- Pictures A and B (document 01) packed, lengths at the capacities, and where rows stand: tables and bytes written out, and the theorems
+-- that the definitions say the same (`packed-right`, `lengths-right`, `walks-right`). Assumes nothing.
 use mathlib.Core.Path.{_≡_, refl}
 use mathlib.Core.List.{List, [], _∷_, _++_}
 use Prim.Native.Nat.{ℕ}
@@ -10,6 +10,8 @@ use Rattle.blocks.specs.Blocks.{byKind, capacity, recordSize, joined}
 use Rattle.packer.specs.Packed.{bytes16, bytes32, boxBytes, containmentBytes, arrowBytes}
 use Rattle.packer.specs.Packed.{headBytes, covered, blockOf, least, blocksFor}
 use Rattle.packer.specs.Packed.{rowsOf, recordBytes, blocksOf, firstOf, countIn, kindBlock, kindBytes, packed}
+use Rattle.packer.specs.Walks.{walkAt}
+use Rattle.packer.specs.declared.Walk.{Walk}
 
 pub record Picture : Type 0 where
   pub boxes : List ℕ
@@ -52,6 +54,10 @@ bytes-B =
 unfoldable pub lengths : List ℕ
 lengths = length (packedPicture (picture-of 250 332)) ∷ length (packedPicture (picture-of 252 336)) ∷ []
 
+-- (capacity, row): the walk at that row
+unfoldable pub walks : List Walk
+walks = walkAt 125 124 ∷ walkAt 125 125 ∷ walkAt 125 1023 ∷ walkAt 83 82 ∷ walkAt 83 511 ∷ walkAt 500 255 ∷ []
+
 pub packed-right : (packedPicture picture-A ≡ bytes-A) × (packedPicture picture-B ≡ bytes-B)
 unfolding
     zeros fnvStart fnvStep fnvFold fnv1a byKind capacity recordSize joined bytes16 bytes32 boxBytes containmentBytes arrowBytes headBytes
@@ -63,3 +69,9 @@ unfolding
     lengths zeros fnvStart fnvStep fnvFold fnv1a byKind capacity recordSize joined bytes16 bytes32 boxBytes containmentBytes
     arrowBytes headBytes covered blockOf least blocksFor rowsOf recordBytes blocksOf firstOf countIn kindBlock kindBytes packed
 lengths-right = refl
+
+pub walks-right : walks
+    ≡ record { row = 124; block = 0; place = 124 } ∷ record { row = 125; block = 1; place = 0 } ∷ record { row = 1023; block = 8; place = 23 }
+    ∷ record { row = 82; block = 0; place = 82 } ∷ record { row = 511; block = 6; place = 13 } ∷ record { row = 255; block = 0; place = 255 } ∷ []
+unfolding walks
+walks-right = refl

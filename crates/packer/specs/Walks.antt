@@ -1,10 +1,8 @@
 -- What the inner functions of packing ask of and promise each other: the blocks of a kind, and the walk over its rows, with each row's
 -- block, counted from the kind's first one, and its place in the block. No promise of a pub function names it. Assumes nothing.
 use mathlib.Core.Path.{_≡_}
-use mathlib.Core.Bool.{cond}
 use mathlib.Core.List.{List}
-use Prim.Native.Nat.{ℕ, zero, suc, _+_, _*_, _^_, _<_, _≤_}
-use lib.Dec.{eqb}
+use Prim.Native.Nat.{ℕ, _+_, _*_, _/_, _%_, _^_, _<_, _≤_}
 use Rattle.blocks.specs.Blocks.{capacity, recordSize}
 use Rattle.packer.specs.Packed.{rowsOf, firstOf}
 use Rattle.packer.specs.declared.Kind.{Kind}
@@ -30,22 +28,10 @@ pub record OfKind (boxes rows arrows : List ℕ) (kind : Kind) : Type 0 where
   pub the-rows : kind .rows ≡ rowsOf boxes rows arrows (kind .number)
   pub the-first : kind .first ≡ firstOf boxes rows arrows (kind .number)
 
--- at the first row
-abbrev pub walkStart : Walk
-walkStart = record { row = 0; block = 0; place = 0 }
-
--- at the next row: the next place, or the first place of the next block
-unfoldable pub step : (capacity : ℕ) → Walk → Walk
-step capacity w = record {
-  row = w .row + 1;
-  block = cond (eqb (w .place + 1) capacity) (w .block + 1) (w .block);
-  place = cond (eqb (w .place + 1) capacity) 0 (w .place + 1);
-}
-
--- so many rows on
-unfoldable pub steps : (capacity : ℕ) → Walk → ℕ → Walk
-steps capacity w zero = w
-steps capacity w (suc n) = step capacity (steps capacity w n)
+-- document 02, P5: where the walk stands at a row. The place is the remainder of the row's number by the kind's capacity, and the block
+-- the quotient, counted from the kind's first block
+abbrev pub walkAt : (capacity row : ℕ) → Walk
+walkAt capacity row = record { row = row; block = row / capacity; place = row % capacity }
 
 -- the walk stands at the first place of a block, and so many records follow: as many rows of the table as that, no more than the block
 -- holds, and room for them from a byte of the file on
@@ -53,8 +39,8 @@ pub record Run (size capacity rows : ℕ) (w : Walk) (count at len : ℕ) : Type
   pub few : rows ≤ 1024
   pub rows-left : w .row + count ≤ rows
   pub most : count ≤ capacity
+  pub walked : w ≡ walkAt capacity (w .row)
   pub the-place : w .place ≡ 0
-  pub the-block : w .block < 64
   pub the-byte : at < 2 ^ 32
   pub room : at + size * count ≤ len
 
@@ -66,6 +52,7 @@ blockByte kind w = 512 * (kind .first + w .block)
 pub record Begins (kind : Kind) (len : ℕ) (w : Walk) (count : ℕ) : Type 0 where
   pub rows-left : w .row + count ≤ kind .rows
   pub most : count ≤ kind .capacity
+  pub walked : w ≡ walkAt (kind .capacity) (w .row)
   pub the-place : w .place ≡ 0
   pub the-block : kind .first + w .block < 64
   pub room : blockByte kind w + 512 ≤ len

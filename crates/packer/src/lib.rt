@@ -3,13 +3,13 @@ mod put;
 mod records;
 
 ghost use mathlib.Core.Path.{_≡_};
-ghost use Prim.Native.Nat.{_+_, _*_, _^_, _<_};
+ghost use Prim.Native.Nat.{ℕ, _+_, _*_, _^_, _<_};
 ghost use lib.ListN.{length};
 ghost use lib.Seq.{sets};
 ghost use Rattle.blocks.specs.Blocks.{joined};
 ghost use Rattle.packer.specs.Packed.{blockOf, least, blocksFor, recordBytes, blocksOf, kindBytes};
 ghost use Rattle.packer.specs.Packs.{packAnswer, fileAfter};
-ghost use Rattle.packer.specs.Walks.{boxKind, containmentKind, arrowKind, OfKind, walkStart, step, steps};
+ghost use Rattle.packer.specs.Walks.{boxKind, containmentKind, arrowKind, OfKind, walkAt};
 ghost use Rattle.packer.specs.Walks.{blockByte, Begins, BlocksFit};
 use blocks::ArrowRecord;
 use blocks::BoxRecord;
@@ -85,7 +85,7 @@ struct Walk {
 impl Walk {
     // At the first row.
     fn start() -> Self
-        ensures { λ r. ⌜ r ≡ walkStart ⌝ }
+        ensures { λ r. ⌜ ((capacity : ℕ) → r ≡ walkAt capacity 0) ⌝ }
     {
         Self {
             row: 0,
@@ -96,20 +96,22 @@ impl Walk {
 
     // At the next row: the next place, or the first place of the next block.
     fn next(self, capacity: usize) -> Self
-        requires { ⌜ (self .row < 2 ^ 32) × (self .block < 2 ^ 32) × (self .place < 2 ^ 32) ⌝ }
-        ensures { λ r. ⌜ r ≡ step capacity self ⌝ }
+        requires { ⌜ (0 < capacity) × (self .row < 2 ^ 32) × (self ≡ walkAt capacity (self .row)) ⌝ }
+        ensures { λ r. ⌜ r ≡ walkAt capacity (self .row + 1) ⌝ }
     {
-        if self.place + 1 == capacity {
+        let row = self.row + 1;
+        let place = self.place + 1;
+        if place == capacity {
             return Self {
-                row: self.row + 1,
+                row,
                 block: self.block + 1,
                 place: 0,
             };
         }
         Self {
-            row: self.row + 1,
+            row,
             block: self.block,
-            place: self.place + 1,
+            place,
         }
     }
 }
@@ -122,16 +124,27 @@ fn block_byte(kind: Kind, walk: Walk) -> usize
     BLOCK_SIZE * (kind.first + walk.block)
 }
 
-// How many blocks so many rows fill.
+// The smaller of two.
+fn least_of(a: usize, b: usize) -> usize
+    ensures { λ r. ⌜ r ≡ least a b ⌝ }
+{
+    if a < b {
+        return a;
+    }
+    b
+}
+
+// How many blocks so many rows fill: each takes the rows that are left, or is full. A loop that only adds capacities up is made a division
+// by the compiler.
 fn blocks_for(rows: usize, capacity: usize) -> usize
     requires { ⌜ (0 < capacity) × (capacity < 2 ^ 32) × (rows < 2 ^ 32) ⌝ }
     ensures { λ r. ⌜ r ≡ blocksFor capacity rows ⌝ }
 {
     let mut blocks = 0;
-    let mut room = 0;
-    while room < rows {
+    let mut row = 0;
+    while row < rows {
+        row += least_of(rows - row, capacity);
         blocks += 1;
-        room += capacity;
     }
     blocks
 }
@@ -147,7 +160,7 @@ fn put_records(
     file: &mut [u8],
 ) -> Walk
     requires { ⌜ OfKind (now boxes) (now rows) (now arrows) kind × Begins kind (length (now file)) walk count ⌝ }
-    ensures { λ r. ⌜ r ≡ steps (kind .capacity) walk count ⌝ }
+    ensures { λ r. ⌜ r ≡ walkAt (kind .capacity) (walk .row + count) ⌝ }
     ensures { λ _. ⌜ now (file .exit) ≡ sets (now (file .entry)) (blockByte kind walk + 8)
         (joined (λ j. recordBytes (now (boxes .entry)) (now (rows .entry)) (now (arrows .entry)) (kind .number) (walk .row + j))
         count) ⌝ }
@@ -173,7 +186,7 @@ fn put_block(
     file: &mut [u8],
 ) -> Walk
     requires { ⌜ OfKind (now boxes) (now rows) (now arrows) kind × Begins kind (length (now file)) walk count ⌝ }
-    ensures { λ r. ⌜ r ≡ steps (kind .capacity) walk count ⌝ }
+    ensures { λ r. ⌜ r ≡ walkAt (kind .capacity) (walk .row + count) ⌝ }
     ensures { λ _. ⌜ now (file .exit) ≡ sets (now (file .entry)) (blockByte kind walk)
         (blockOf (kind .number) (kind .first + walk .block) count
         (λ j. recordBytes (now (boxes .entry)) (now (rows .entry)) (now (arrows .entry)) (kind .number) (walk .row + j))) ⌝ }
@@ -191,16 +204,6 @@ fn put_block(
     put_zeros(500 - used, at + 8 + used, file);
     put_check(at, file);
     w
-}
-
-// The smaller of two.
-fn least_of(a: usize, b: usize) -> usize
-    ensures { λ r. ⌜ r ≡ least a b ⌝ }
-{
-    if a < b {
-        return a;
-    }
-    b
 }
 
 // Writes the blocks of a kind, of which there are so many.

@@ -6,7 +6,7 @@ ghost use lib.Seq.{sets};
 ghost use Rattle.tables.specs.Rows.{rowCount, arrowCount};
 ghost use Rattle.blocks.specs.Blocks.{joined};
 ghost use Rattle.packer.specs.Packed.{boxBytes, containmentBytes, arrowBytes};
-ghost use Rattle.packer.specs.Walks.{steps, Run};
+ghost use Rattle.packer.specs.Walks.{walkAt, Run};
 use super::Walk;
 use super::put::put_arrow;
 use super::put::put_box;
@@ -18,7 +18,7 @@ use blocks::ContainmentRecord;
 // Writes the records of a block of boxes, and answers the walk behind them.
 pub fn put_boxes(boxes: &[u8], walk: Walk, count: usize, at: usize, file: &mut [u8]) -> Walk
     requires { ⌜ Run 1 500 (length (now boxes)) walk count at (length (now file)) ⌝ }
-    ensures { λ r. ⌜ r ≡ steps 500 walk count ⌝ }
+    ensures { λ r. ⌜ r ≡ walkAt 500 (walk .row + count) ⌝ }
     ensures { λ _. ⌜ now (file .exit) ≡ sets (now (file .entry)) at
         (joined (λ j. boxBytes (now (boxes .entry)) (walk .row + j)) count) ⌝ }
 {
@@ -33,7 +33,7 @@ pub fn put_boxes(boxes: &[u8], walk: Walk, count: usize, at: usize, file: &mut [
 // The same for containments.
 pub fn put_containments(rows: &[u16], walk: Walk, count: usize, at: usize, file: &mut [u8]) -> Walk
     requires { ⌜ Run 4 125 (rowCount (now rows)) walk count at (length (now file)) ⌝ }
-    ensures { λ r. ⌜ r ≡ steps 125 walk count ⌝ }
+    ensures { λ r. ⌜ r ≡ walkAt 125 (walk .row + count) ⌝ }
     ensures { λ _. ⌜ now (file .exit) ≡ sets (now (file .entry)) at
         (joined (λ j. containmentBytes (now (rows .entry)) (walk .row + j)) count) ⌝ }
 {
@@ -48,7 +48,7 @@ pub fn put_containments(rows: &[u16], walk: Walk, count: usize, at: usize, file:
 // The same for arrows.
 pub fn put_arrows(arrows: &[u16], walk: Walk, count: usize, at: usize, file: &mut [u8]) -> Walk
     requires { ⌜ Run 6 83 (arrowCount (now arrows)) walk count at (length (now file)) ⌝ }
-    ensures { λ r. ⌜ r ≡ steps 83 walk count ⌝ }
+    ensures { λ r. ⌜ r ≡ walkAt 83 (walk .row + count) ⌝ }
     ensures { λ _. ⌜ now (file .exit) ≡ sets (now (file .entry)) at
         (joined (λ j. arrowBytes (now (arrows .entry)) (walk .row + j)) count) ⌝ }
 {

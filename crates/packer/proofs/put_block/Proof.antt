@@ -1,5 +1,5 @@
 -- Head, records, filler and check, one behind the other (`block-made`). Assumes nothing.
-use Rattle.packer.proofs.RecordLaws.{used-most}
+use Rattle.packer.proofs.RecordLaws.{used-most, begins-still}
 use Rattle.packer.proofs.Writing.{block-made}
 use native.Mathlib.Omega.{arith}
 use borrow.Author.Needs.{needs}
@@ -9,6 +9,13 @@ use Rattle.packer.proofs.put_block.Tie as tie
 narrow-requires-2 : tie.Need-narrow-requires-2
 narrow-requires-2 c κs =
     let asked = c .before .before .before .before .before .before .before .before .pre in omega (arith, asked .1 .rows-left, asked .0 .few)
+
+put-records-requires : tie.Need-put-records-requires
+put-records-requires c κs =
+    let at-head = c .before .before .before in
+    let at-block = at-head .before .before .before .before .before .before in
+    let asked = at-block .before .before .before .before .before .pre in
+    (asked .0, begins-still (asked .1) (search needs))
 
 mul-used : tie.Need-mul-used
 mul-used c =
@@ -63,7 +70,7 @@ put-block-spec =
     (λ c κs. search needs)
     narrow-requires-2
     (λ c κs. search needs)
-    (λ c κs. search needs)
+    put-records-requires
     mul-used
     sub-put-zeros
     (search needs)

@@ -16,7 +16,7 @@ abbrev μ-loop : tie.MeasureT-loop
 
 loop-holds : tie.Need-loop-holds Inv-loop μ-loop
 loop-holds c =
-    rw (c .start .ensures) (wrote-none _ _ _ _ _ _)
+    wrote-none _ _ _ _ _ _ _ (c .start .ensures)
 
 sub-least-of : tie.Need-sub-least-of Inv-loop μ-loop
 sub-least-of c =

@@ -1,17 +1,29 @@
--- The test is that of the definition. Assumes nothing.
-use borrow.Author.Tests.{eq-eqb, ne-eqb}
-use Rattle.packer.specs.Walks.{step}
+-- The next place, or the first place of the next block. Assumes nothing.
+use Rattle.packer.proofs.Walking.{walk-small, next-place, next-block}
+use native.Mathlib.Omega.{arith}
 use borrow.Author.Needs.{needs}
 use Rattle.packer.proofs.Walk.next.Statement.{statement}
 use Rattle.packer.proofs.Walk.next.Tie as tie
 
+add-place : tie.Need-add-place
+add-place c =
+    let asked = c .before .before .pre in
+    omega (arith, walk-small _ _ (asked .2) .1, asked .1)
+
+add-block : tie.Need-add-t6
+add-block c =
+    let asked = c .before .before .before .before .pre in
+    omega (arith, walk-small _ _ (asked .2) .0, asked .1)
+
 returns : tie.Need-returns
-unfolding step
-returns c = rw (eq-eqb _ _ (c .before .before .if1 .taken))
+returns c =
+    let asked = c .before .before .before .before .pre in
+    next-block _ _ (asked .2) (asked .0) (c .before .if1 .taken)
 
 returns-2 : tie.Need-returns-2
-unfolding step
-returns-2 c = rw (ne-eqb _ _ (c .before .before .if1 .left))
+returns-2 c =
+    let asked = c .before .before .before .pre in
+    next-place _ _ (asked .2) (asked .0) (c .if1 .left)
 
 pub next-spec : {M : Type 1} → statement M
-next-spec = tie.close (tie.spec (search needs) (search needs) (search needs) returns (search needs) (search needs) returns-2)
+next-spec = tie.close (tie.spec (search needs) add-place add-block returns returns-2)

@@ -1,7 +1,7 @@
 -- After j turns j records of the block stand in the file (`Put`). Assumes nothing.
 use Prim.Native.Nat.{_-_}
 use Rattle.packer.specs.Packed.{boxBytes}
-use Rattle.packer.proofs.RecordLaws.{Put, put-none, at-row, next-small, put-more, put-all, box-length}
+use Rattle.packer.proofs.RecordLaws.{Put, put-none, at-row, next-asks, put-more, put-all, box-length}
 use native.Mathlib.Omega.{arith}
 use borrow.Author.Needs.{needs}
 use Rattle.packer.proofs.records.put_boxes.Statement.{statement}
@@ -15,33 +15,33 @@ abbrev μ-loop : tie.MeasureT-loop
 
 loop-holds : tie.Need-loop-holds Inv-loop μ-loop
 loop-holds c =
-    put-none _ _ _ _ _ _ _
+    put-none _ _ _ _ _ _ _ (c .before .before .pre .walked)
 
 add-put-box : tie.Need-add-put-box Inv-loop μ-loop
 add-put-box c =
     let at-loop = c .before .before in
     let run = at-loop .before .before .before .pre in
     let w = at-row _ _ _ _ _ _ _ run _ _ _ (at-loop .loop .inv) (search needs) in
-    omega (arith, w .2, run .most, run .the-byte)
+    omega (arith, w .1, run .most, run .the-byte)
 
 put-box-requires : tie.Need-put-box-requires Inv-loop μ-loop
 put-box-requires c κs =
     let at-loop = c .before .before .before in
     let run = at-loop .before .before .before .pre in
     let w = at-row _ _ _ _ _ _ _ run _ _ _ (at-loop .loop .inv) (search needs) in
-    (omega (arith, w .0, run .rows-left), omega (arith, w .2, run .room, at-loop .loop .inv .same-length))
+    (omega (arith, w .0, run .rows-left), omega (arith, w .1, run .room, at-loop .loop .inv .same-length))
 
 next-requires : tie.Need-next-requires Inv-loop μ-loop
 next-requires c κs =
     let at-loop = c .before .before .before .before .before .before in
-    next-small _ _ _ _ _ _ _ (at-loop .before .before .before .pre) _ _ _ (at-loop .loop .inv) (search needs)
+    next-asks _ _ _ _ _ _ _ (at-loop .before .before .before .pre) _ _ _ (at-loop .loop .inv) (search needs)
 
 loop-again : tie.Need-loop-again Inv-loop μ-loop
 loop-again c =
     let at-loop = c .before .before .before .before .before .before .before in
     let run = at-loop .before .before .before .pre in
     let w = at-row _ _ _ _ _ _ _ run _ _ _ (at-loop .loop .inv) (search needs) in
-    put-more _ _ _ _ _ _ _ run _ _ _ (at-loop .loop .inv) (search needs) (box-length _) _ _ _ (c .before .before .before .put-box .ensures) (omega (arith, w .2)) (c .next .ensures)
+    put-more _ _ _ _ _ _ _ run _ _ _ (at-loop .loop .inv) (search needs) (box-length _) _ _ _ (c .before .before .before .put-box .ensures) (omega (arith, w .1)) (c .next .ensures)
 
 same-length : tie.Need-same-length Inv-loop μ-loop
 same-length c =

@@ -1,0 +1,187 @@
+#!/usr/bin/env python3
+"""Document 02, P5: packing divides by no capacity. Looks for divisions in the source, and in the machine code that a call runs.
+
+usage: divisions.py source               the crate packer and the crates that it is built on
+       divisions.py library ARCHIVE      every function of the archive that rights_pack reaches
+       divisions.py self-test            that both notice divisions written on purpose
+
+In the source, a divisor must be a power of two: as a number, or as a constant of that value. In machine code (x86-64) there must be no
+division, and no product with a number but those of MULTIPLIERS: compilers divide by a constant by multiplying with another one.
+"""
+import pathlib
+import re
+import subprocess
+import sys
+import tempfile
+
+ROOT = pathlib.Path(__file__).resolve().parent.parent
+CRATE = "packer"
+CALL = "rights_pack"
+# the prime of a block's check
+MULTIPLIERS = {16777619}
+
+
+# ---- source
+
+def code_of(text):
+    """The text of a source without contracts, comments and what only contracts use; lines stay where they are."""
+    blank = lambda m: re.sub(r"[^\n]", " ", m.group())
+    text = re.sub(r"⌜.*?⌝", blank, text, flags=re.S)
+    return re.sub(r"//[^\n]*|^ghost use [^\n]*", blank, text, flags=re.M)
+
+
+def power_of_two(n):
+    return n > 0 and n & (n - 1) == 0
+
+
+def divisions_in(text):
+    """(line, what) of each division whose divisor is not a power of two."""
+    code = code_of(text)
+    constants = {name: int(value.replace("_", "")) for name, value in re.findall(r"\bconst (\w+): \w+ = ([\d_]+);", code)}
+    found = []
+    for m in re.finditer(r"[/%]=?\s*([\w:]*)|\.(?:\w*_)?(?:div|rem)(?:_\w*)?(?=\()", code):
+        divisor = m.group(1) or ""
+        value = constants.get(divisor.split("::")[-1], 0)
+        if divisor.replace("_", "").isdigit():
+            value = int(divisor.replace("_", ""))
+        if not power_of_two(value):
+            found.append((code.count("\n", 0, m.start()) + 1, m.group()))
+    return found
+
+
+def sources():
+    lines = [line.split("#")[0] for line in (ROOT / "crates.txt").read_text().split("\n")]
+    below = {name: rest.split() for name, _, rest in (line.partition(":") for line in lines if ":" in line)}
+    return [path for crate in [CRATE] + below[CRATE] for path in sorted((ROOT / "crates" / crate / "src").glob("**/*.rt"))]
+
+
+def look_at_sources():
+    found = [(path, *what) for path in sources() for what in divisions_in(path.read_text())]
+    for path, line, what in found:
+        print(f"{path.relative_to(ROOT)}:{line}: {what}")
+    print(f"{len(sources())} sources of packing, {len(found)} divisions by what is not a power of two")
+    return not found
+
+
+# ---- machine code
+
+def functions_of(path):
+    """Each function of an archive or object: its instructions, and the functions that it may go on to."""
+    text = subprocess.run(["objdump", "-dr", "--no-show-raw-insn", path], check=True, capture_output=True, text=True).stdout
+    if not re.search(r"file format elf64-x86-64", text):
+        sys.exit(f"divisions.py: {path} is not of x86-64")
+    functions = {}
+    for line in text.split("\n"):
+        if head := re.match(r"[0-9a-f]+ <(.+)>:$", line):
+            instructions, reached = functions.setdefault(head.group(1), ([], set()))
+        elif relocation := re.match(r"\s+[0-9a-f]+: R_X86_64_\w+\s+(\S+?)(?:[-+]0x[0-9a-f]+)?$", line):
+            reached.add(relocation.group(1))
+        elif instruction := re.match(r"\s+[0-9a-f]+:\t(.+)", line):
+            instructions.append(instruction.group(1).strip())
+            reached.update(re.findall(r"<([^>+]+)(?:\+0x[0-9a-f]+)?>", instruction.group(1)))
+    return functions
+
+
+def reached_from(functions, call):
+    seen, todo = set(), [call]
+    while todo:
+        name = todo.pop()
+        if name in functions and name not in seen:
+            seen.add(name)
+            todo.extend(functions[name][1])
+    return seen
+
+
+def divides(instruction):
+    """Whether an instruction is a division, or a product with a number that is not known."""
+    name, _, operands = instruction.partition(" ")
+    if "div" in name:
+        return True
+    if "mul" not in name:
+        return False
+    by = re.match(r"\s*\$(0x[0-9a-f]+),", operands)
+    return not (name.startswith("imul") and by and int(by.group(1), 16) in MULTIPLIERS)
+
+
+def look_at(path, call):
+    """(function, instruction) of each division that the call reaches, and how many functions those are."""
+    functions = functions_of(path)
+    if call not in functions:
+        sys.exit(f"divisions.py: {path} has no {call}")
+    reached = sorted(reached_from(functions, call))
+    return [(name, i) for name in reached for i in functions[name][0] if divides(i)], reached
+
+
+def look_at_library(path):
+    found, reached = look_at(path, CALL)
+    for name, instruction in found:
+        print(f"{name}: {instruction}")
+    print(f"{len(reached)} functions that {CALL} reaches, {len(found)} divisions")
+    return not found
+
+
+# ---- what must be noticed, and what must not
+
+REFUSED_SOURCE = [
+    "let block = row / 125;",
+    "let place = row % 83;",
+    "let blocks = (rows + 499) / 500;",
+    "let block = row / capacity;",
+    "let place = row % kind.capacity;",
+    "let half = row / 250;",
+    "row /= 125;",
+    "let block = row / (125);",
+    "let block = row / ContainmentRecord::CAPACITY;",
+    "const CAPACITY: usize = 125;\nlet place = row % CAPACITY;",
+    "let blocks = rows.div_ceil(125);",
+    "let place = row.wrapping_rem(83);",
+]
+ADMITTED_SOURCE = [
+    "let high = x / 256;",
+    "let low = x % 65_536;",
+    "const BLOCK_SIZE: usize = 512;\nlet blocks = length / BLOCK_SIZE;",
+    "let at = 512 * block + 8 + 6 * place;",
+    "// row / 125",
+    "ensures { λ r. ⌜ r ≡ row / 125\n    × (row % 125 ≡ 0) ⌝ }",
+    "ghost use Prim.Native.Nat.{_/_, _%_};",
+]
+REFUSED_CODE = [f"x {op} {by}" for op in "/%" for by in (125, 83, 500, 250)] + ["if y == 0 { 0 } else { x / y }", "inner(x)", "x * y"]
+ADMITTED_CODE = ["x / 4", "x % 16", "x + y", "if x + 1 == y { 0 } else { x + 1 }"]
+
+
+def self_test():
+    wrong = [f"admitted: {text}" for text in REFUSED_SOURCE if not divisions_in(text)]
+    wrong += [f"refused: {text}" for text in ADMITTED_SOURCE if divisions_in(text)]
+    looks = len(REFUSED_SOURCE) + len(ADMITTED_SOURCE)
+    with tempfile.TemporaryDirectory() as folder:
+        for level in "0123sz":
+            for width in ("u16", "u32", "u64"):
+                body = [f"#[inline(never)] fn inner(x: {width}) -> {width} {{ x / 125 + 1 }}"]
+                for k, code in enumerate(REFUSED_CODE + ADMITTED_CODE):
+                    body.append(f'#[no_mangle] pub extern "C" fn call_{k}(x: {width}, y: {width}) -> {width} {{ let _ = y; {code} }}')
+                source, compiled = pathlib.Path(folder, "calls.rs"), pathlib.Path(folder, "calls.o")
+                source.write_text("\n".join(body))
+                subprocess.run(["rustc", "--edition", "2021", "--crate-type", "lib", "--emit", "obj", "-C", f"opt-level={level}",
+                                "-C", "overflow-checks=off", "-o", compiled, source], check=True)
+                for k, code in enumerate(REFUSED_CODE + ADMITTED_CODE):
+                    looks += 1
+                    noticed = bool(look_at(compiled, f"call_{k}")[0])
+                    if noticed != (k < len(REFUSED_CODE)):
+                        wrong.append(f"{'refused' if noticed else 'admitted'}: {code} of {width} at level {level}")
+    for what in wrong:
+        print(what)
+    print(f"{looks} pieces of code, {len(wrong)} judged wrong")
+    return not wrong
+
+
+if __name__ == "__main__":
+    match sys.argv[1:]:
+        case ["source"]:
+            good = look_at_sources()
+        case ["library", archive]:
+            good = look_at_library(archive)
+        case ["self-test"]:
+            good = self_test()
+        case _:
+            sys.exit(__doc__)
+    sys.exit(not good)
