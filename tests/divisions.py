@@ -5,8 +5,9 @@ usage: divisions.py source               the crate packer and the crates that it
        divisions.py library ARCHIVE      every function of the archive that rights_pack reaches
        divisions.py self-test            that both notice divisions written on purpose
 
-In the source, a divisor must be a power of two: as a number, or as a constant of that value. In machine code (x86-64) there must be no
-division, and no product with a number but those of MULTIPLIERS: compilers divide by a constant by multiplying with another one.
+In the source, a divisor must be a power of two: as a number, or as a constant of that value. Machine code (x86-64) must have no division,
+and nothing by which compilers divide by a constant: no product's high half, no product with a number but the check's prime, no number of
+more than 16 bits but the check's two.
 """
 import pathlib
 import re
@@ -17,8 +18,8 @@ import tempfile
 ROOT = pathlib.Path(__file__).resolve().parent.parent
 CRATE = "packer"
 CALL = "rights_pack"
-# the prime of a block's check
-MULTIPLIERS = {16777619}
+# the prime of a block's check, and where the check starts
+PRIME, START = 16777619, 2166136261
 
 
 # ---- source
@@ -66,26 +67,31 @@ def look_at_sources():
 # ---- machine code
 
 def functions_of(path):
-    """Each function of an archive or object: its instructions, and the functions that it may go on to."""
+    """Each function of an archive or object: its instructions, and the functions and sections that they name. And the functions of
+    each section."""
     text = subprocess.run(["objdump", "-dr", "--no-show-raw-insn", path], check=True, capture_output=True, text=True).stdout
-    if not re.search(r"file format elf64-x86-64", text):
+    if "file format elf64-x86-64" not in text:
         sys.exit(f"divisions.py: {path} is not of x86-64")
-    functions = {}
+    functions, sections = {}, {}
     for line in text.split("\n"):
-        if head := re.match(r"[0-9a-f]+ <(.+)>:$", line):
-            instructions, reached = functions.setdefault(head.group(1), ([], set()))
+        if section := re.match(r"Disassembly of section (.+):$", line):
+            inside = sections.setdefault(section.group(1), set())
+        elif head := re.match(r"[0-9a-f]+ <(.+)>:$", line):
+            instructions, named = functions.setdefault(head.group(1), ([], set()))
+            inside.add(head.group(1))
         elif relocation := re.match(r"\s+[0-9a-f]+: R_X86_64_\w+\s+(\S+?)(?:[-+]0x[0-9a-f]+)?$", line):
-            reached.add(relocation.group(1))
+            named.add(relocation.group(1))
         elif instruction := re.match(r"\s+[0-9a-f]+:\t(.+)", line):
             instructions.append(instruction.group(1).strip())
-            reached.update(re.findall(r"<([^>+]+)(?:\+0x[0-9a-f]+)?>", instruction.group(1)))
-    return functions
+            named.update(re.findall(r"<([^>+]+)(?:\+0x[0-9a-f]+)?>", instruction.group(1)))
+    return functions, sections
 
 
-def reached_from(functions, call):
+def reached_from(functions, sections, call):
     seen, todo = set(), [call]
     while todo:
         name = todo.pop()
+        todo.extend(sections.get(name, set()) - seen)
         if name in functions and name not in seen:
             seen.add(name)
             todo.extend(functions[name][1])
@@ -93,22 +99,22 @@ def reached_from(functions, call):
 
 
 def divides(instruction):
-    """Whether an instruction is a division, or a product with a number that is not known."""
+    """Whether an instruction is a division, or one by which compilers divide."""
     name, _, operands = instruction.partition(" ")
-    if "div" in name:
+    numbers = [int(n, 16) for n in re.findall(r"\$(0x[0-9a-f]+)", operands)]
+    if "div" in name or ("mul" in name and not (name.startswith("imul") and "," in operands)):
         return True
-    if "mul" not in name:
-        return False
-    by = re.match(r"\s*\$(0x[0-9a-f]+),", operands)
-    return not (name.startswith("imul") and by and int(by.group(1), 16) in MULTIPLIERS)
+    if name.startswith("imul") and numbers:
+        return numbers != [PRIME]
+    return any(min(n, abs(n - 2**32), abs(n - 2**64)) >= 2**16 and n not in (PRIME, START) for n in numbers)
 
 
 def look_at(path, call):
     """(function, instruction) of each division that the call reaches, and how many functions those are."""
-    functions = functions_of(path)
+    functions, sections = functions_of(path)
     if call not in functions:
         sys.exit(f"divisions.py: {path} has no {call}")
-    reached = sorted(reached_from(functions, call))
+    reached = sorted(reached_from(functions, sections, call))
     return [(name, i) for name in reached for i in functions[name][0] if divides(i)], reached
 
 
@@ -116,7 +122,7 @@ def look_at_library(path):
     found, reached = look_at(path, CALL)
     for name, instruction in found:
         print(f"{name}: {instruction}")
-    print(f"{len(reached)} functions that {CALL} reaches, {len(found)} divisions")
+    print(f"{len(reached)} functions that {CALL} reaches, {len(found)} instructions that divide")
     return not found
 
 
@@ -145,8 +151,10 @@ ADMITTED_SOURCE = [
     "ensures { λ r. ⌜ r ≡ row / 125\n    × (row % 125 ≡ 0) ⌝ }",
     "ghost use Prim.Native.Nat.{_/_, _%_};",
 ]
-REFUSED_CODE = [f"x {op} {by}" for op in "/%" for by in (125, 83, 500, 250)] + ["if y == 0 { 0 } else { x / y }", "inner(x)", "x * y"]
-ADMITTED_CODE = ["x / 4", "x % 16", "x + y", "if x + 1 == y { 0 } else { x + 1 }"]
+REFUSED_CODE = [f"x {op} {by}" for op in "/%" for by in (125, 83, 500, 250)]
+REFUSED_CODE += [f"if x % {by} == 0 {{ 1 }} else {{ 0 }}" for by in (125, 83, 500)]
+REFUSED_CODE += ["if y == 0 { 0 } else { x / y }", "inner(x)"]
+ADMITTED_CODE = ["x / 4", "x % 16", "x * y", "512 * x", "if x + 1 == 125 { 0 } else { x + 1 }"]
 
 
 def self_test():

@@ -2,13 +2,14 @@
 use mathlib.Core.Path.{_≡_, sym, ap, _∙_}
 use Prim.Native.Nat.{ℕ, _+_, _*_, _/_, _%_, _<_, _≤_}
 use native.Mathlib.Omega.{arith}
-use native.Mathlib.Nat.{add-zero, mul-suc, mod-lt, mod-le, mod-eq-of-lt, div-le-self, div-eq-of-lt, div-add-mod, mul-add-div, mul-add-mod-self-left}
+use native.Mathlib.Nat.{add-zero, mul-suc, mod-lt, mod-le, mod-eq-of-lt, div-le-self, div-eq-of-lt, div-add-mod}
+use native.Mathlib.Nat.{mul-add-div, mul-add-mod-self-left}
 use native.Mathlib.Numerals.{add-one}
 use Rattle.packer.specs.Walks.{walkAt}
 use Rattle.packer.specs.declared.Walk.{Walk}
 
 -- at the row of a block and a place
-pub walk-at : (cap block place : ℕ) → place < cap
+walk-at : (cap block place : ℕ) → place < cap
     → walkAt cap (cap * block + place) ≡ record { row = cap * block + place; block = block; place = place }
 walk-at cap block place less =
     let q : (cap * block + place) / cap ≡ block = mul-add-div (omega arith) block place ∙ rw (div-eq-of-lt less) (add-zero block) in
@@ -35,14 +36,16 @@ module _ (cap : ℕ) (w : Walk) (walked : w ≡ walkAt cap (w .row)) where
   the-row = rw (the-block, the-place) (sym (div-add-mod (w .row) cap))
 
   -- the next row: the next place
-  pub next-place : 0 < cap → (w .place + 1 ≡ cap → ⊥) → record { row = w .row + 1; block = w .block; place = w .place + 1 } ≡ walkAt cap (w .row + 1)
+  pub next-place : 0 < cap → (w .place + 1 ≡ cap → ⊥)
+      → record { row = w .row + 1; block = w .block; place = w .place + 1 } ≡ walkAt cap (w .row + 1)
   next-place some not =
       let less : w .place < cap = rw the-place (mod-lt (w .row) some) in
       let e : w .row + 1 ≡ cap * w .block + (w .place + 1) = let r = the-row in omega arith in
       rw e (sym (walk-at cap (w .block) (w .place + 1) (omega arith)))
 
   -- or the first place of the next block
-  pub next-block : 0 < cap → w .place + 1 ≡ cap → record { row = w .row + 1; block = w .block + 1; place = 0 } ≡ walkAt cap (w .row + 1)
+  pub next-block : 0 < cap → w .place + 1 ≡ cap
+      → record { row = w .row + 1; block = w .block + 1; place = 0 } ≡ walkAt cap (w .row + 1)
   next-block some full =
       let m : cap * (w .block + 1) ≡ cap * w .block + cap = rw (add-one (w .block), mul-suc) in
       let e : w .row + 1 ≡ cap * (w .block + 1) + 0 = let r = the-row in omega arith in

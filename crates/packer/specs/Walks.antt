@@ -1,5 +1,5 @@
--- What the inner functions of packing ask of and promise each other: the blocks of a kind, and the walk over its rows, with each row's
--- block, counted from the kind's first one, and its place in the block. No promise of a pub function names it. Assumes nothing.
+-- What the functions inside packing ask of and promise each other: the blocks of a kind, and the walk over its rows. What `pack`
+-- promises does not speak of them. Assumes nothing.
 use mathlib.Core.Path.{_≡_}
 use mathlib.Core.List.{List}
 use Prim.Native.Nat.{ℕ, _+_, _*_, _/_, _%_, _^_, _<_, _≤_}
