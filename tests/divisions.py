@@ -31,21 +31,22 @@ def code_of(text):
     return re.sub(r"//[^\n]*|^ghost use [^\n]*", blank, text, flags=re.M)
 
 
-def power_of_two(n):
-    return n > 0 and n & (n - 1) == 0
+def power_of_two(text):
+    digits = text.replace("_", "")
+    return digits.isdigit() and int(digits).bit_count() == 1
 
 
 def divisions_in(text):
     """(line, what) of each division whose divisor is not a power of two."""
     code = code_of(text)
-    constants = {name: int(value.replace("_", "")) for name, value in re.findall(r"\bconst (\w+): \w+ = ([\d_]+);", code)}
+    constants = {}
+    for name, value in re.findall(r"\bconst (\w+): \w+ = ([\d_]+);", code):
+        constants.setdefault(name, []).append(value)
     found = []
     for m in re.finditer(r"[/%]=?\s*([\w:]*)|\.(?:\w*_)?(?:div|rem)(?:_\w*)?(?=\()", code):
         divisor = m.group(1) or ""
-        value = constants.get(divisor.split("::")[-1], 0)
-        if divisor.replace("_", "").isdigit():
-            value = int(divisor.replace("_", ""))
-        if not power_of_two(value):
+        values = constants.get(divisor.split("::")[-1], [divisor])
+        if not all(power_of_two(v) for v in values):
             found.append((code.count("\n", 0, m.start()) + 1, m.group()))
     return found
 
@@ -139,6 +140,7 @@ REFUSED_SOURCE = [
     "let block = row / (125);",
     "let block = row / ContainmentRecord::CAPACITY;",
     "const CAPACITY: usize = 125;\nlet place = row % CAPACITY;",
+    "const SIZE: usize = 6;\nconst SIZE: usize = 4;\nlet count = used / ArrowRecord::SIZE;",
     "let blocks = rows.div_ceil(125);",
     "let place = row.wrapping_rem(83);",
 ]
