@@ -8,13 +8,13 @@ use native.Mathlib.Omega.{arith}
 use borrow.Author.Count.{below-more}
 use lib.Dec.{T}
 use lib.ListN.{length, getD}
-use Rattle.tables.specs.Search.{lowest}
+use Rattle.base.specs.Search.{lowest}
 use Rattle.tables.specs.Rows.{arrowCount, arrowAt}
 use Rattle.tables.specs.declared.Arrow.{Arrow}
-use Rattle.tables.proofs.Tests.{T-true, true-T, not-false, false-not}
-use Rattle.tables.proofs.SearchLaws.{every-at, every-is}
-use Rattle.tables.proofs.BufferLaws.{select-most}
-use Rattle.tables.proofs.SelectLaws.{select-found, select-has, selected-lowest, selected-nothing}
+use Rattle.base.proofs.Tests.{T-true, true-T, not-false, false-not}
+use Rattle.base.proofs.SearchLaws.{every-at, every-is}
+use Rattle.base.proofs.BufferLaws.{select-most}
+use Rattle.base.proofs.SelectLaws.{select-found, select-has, selected-lowest, selected-nothing}
 use Rattle.answers.specs.Meaning.{positive, negative, overrides, hits, certifies, settle, answer, hasMode, modeArrows}
 use Rattle.answers.specs.Among.{reaching, overridesAll, wins, Numbers, NoneBefore, FirstAt}
 use Rattle.answers.specs.declared.Entry.the-variants.{Granted, Denied, Default, Unclear}

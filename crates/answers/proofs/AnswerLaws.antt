@@ -8,11 +8,11 @@ use mathlib.Core.Option.{Option, none, some}
 use Prim.Native.Nat.{ℕ, _<_, _≤_}
 use native.Mathlib.Omega.{arith}
 use lib.Dec.{T, T-not, eqb, eqb→eq}
-use Rattle.tables.specs.Search.{lowest}
+use Rattle.base.specs.Search.{lowest}
 use Rattle.tables.specs.Rows.{arrowCount, arrowAt}
 use Rattle.tables.specs.declared.Arrow.{Arrow}
-use Rattle.tables.proofs.Tests.{or-T, and-T, T-and, T-eqb, T-true, true-T, not-false, false-not}
-use Rattle.tables.proofs.SearchLaws.{every-at, every-is, lowest-some, lowest-none}
+use Rattle.base.proofs.Tests.{or-T, and-T, T-and, T-eqb, T-true, true-T, not-false, false-not}
+use Rattle.base.proofs.SearchLaws.{every-at, every-is, lowest-some, lowest-none}
 use Rattle.answers.specs.Meaning.{positive, negative, hasMode, reaches, nests, level, overrides, settle, hits, certifies, answer}
 use Rattle.answers.specs.declared.Entry.the-variants.{Default}
 

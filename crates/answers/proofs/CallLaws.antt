@@ -6,8 +6,8 @@ use mathlib.Core.List.{List}
 use mathlib.Core.Option.{Option, none, some}
 use Prim.Native.Nat.{ℕ, _<_, _≤_}
 use lib.ListN.{length}
-use Rattle.tables.specs.Search.{orElse}
-use Rattle.tables.specs.Buffers.{written}
+use Rattle.base.specs.Search.{orElse}
+use Rattle.base.specs.Buffers.{written}
 use Rattle.tables.specs.Rows.{user, file}
 use Rattle.tables.specs.Atoms.{atom, pairCount}
 use Rattle.tables.specs.Faults.{tableFault, modeFault, roomFault}
@@ -15,11 +15,12 @@ use Rattle.tables.specs.Refusals.{notAtomic, verdictOf, unlessRefused, either}
 use Rattle.tables.specs.declared.Refusal.{Refusal}
 use Rattle.tables.specs.declared.Verdict.{Verdict}
 use Rattle.tables.specs.declared.Verdict.the-variants.{Passed, Refused as Stopped}
-use Rattle.tables.proofs.Tests.{and-T}
-use Rattle.tables.proofs.SearchLaws.{given-none}
+use Rattle.base.proofs.Tests.{and-T}
+use Rattle.base.proofs.SearchLaws.{given-none}
 use Rattle.tables.proofs.TableLaws.{both-none, not-not, mode-passed, room-passed}
 use Rattle.tables.proofs.AtomPlaces.{atom-there}
-use Rattle.tables.proofs.Verdicts.{passed, refused, past, stop, either-verdict, orElse-assoc}
+use Rattle.tables.proofs.Verdicts.{passed, refused, either-verdict}
+use Rattle.base.proofs.Options.{past, stop, orElse-assoc}
 use Rattle.containment.specs.Contains.{loopFault}
 use Rattle.containment.specs.Scratch.{filled, scratchFault, scratchAfter}
 use Rattle.answers.specs.Meaning.{answer}

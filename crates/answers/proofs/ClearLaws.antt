@@ -5,12 +5,12 @@ use mathlib.Core.Option.{none}
 use Prim.Native.Nat.{ℕ, _<_, _≤_}
 use native.Mathlib.Omega.{arith}
 use lib.ListN.{length}
-use Rattle.tables.specs.Search.{first, select}
+use Rattle.base.specs.Search.{first, select}
 use Rattle.tables.specs.Rows.{arrowCount, arrowAt}
 use Rattle.tables.specs.Atoms.{pairCount}
-use Rattle.tables.proofs.Tests.{T-eqb}
-use Rattle.tables.proofs.SearchLaws.{first-nothing}
-use Rattle.tables.proofs.SelectLaws.{select-has}
+use Rattle.base.proofs.Tests.{T-eqb}
+use Rattle.base.proofs.SearchLaws.{first-nothing}
+use Rattle.base.proofs.SelectLaws.{select-has}
 use Rattle.answers.specs.Meaning.{hasMode, modeArrows, isUnclear}
 use Rattle.answers.specs.Pairs.{userAt, fileAt, unclearFault, anyUnclear}
 use Rattle.answers.proofs.AnswerLaws.{unreached-default}

@@ -7,7 +7,7 @@ use native.Mathlib.Omega.{arith}
 use borrow.Author.Tests.{lt-ltb}
 use lib.Dec.{ltb}
 use Rattle.tables.specs.Rows.{arrowCount}
-use Rattle.tables.proofs.SearchLaws.{lowest-some}
+use Rattle.base.proofs.SearchLaws.{lowest-some}
 use Rattle.answers.specs.Meaning.{settle, answer, isGranted, grantingOf}
 use Rattle.answers.specs.Pairs.{answerAt}
 

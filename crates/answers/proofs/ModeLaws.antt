@@ -4,7 +4,7 @@ use mathlib.Core.Path.{_≡_, refl}
 use mathlib.Core.Bool.{_&&_}
 use mathlib.Core.List.{List}
 use Prim.Native.Nat.{ℕ}
-use Rattle.tables.specs.Search.{select}
+use Rattle.base.specs.Search.{select}
 use Rattle.tables.specs.Rows.{arrowCount}
 use Rattle.tables.specs.declared.Arrow.{Arrow}
 use Rattle.containment.specs.Contains.{around}

@@ -9,14 +9,14 @@ use native.Mathlib.Nat.{mod-lt, div-lt-iff-lt-mul, eq-zero-or-pos, mul-zero, mul
 use native.Mathlib.Omega.{arith}
 use lib.Dec.{T}
 use lib.ListN.{length, getD}
-use Rattle.tables.specs.Search.{given, first}
+use Rattle.base.specs.Search.{given, first}
 use Rattle.tables.specs.Rows.{user, file}
 use Rattle.tables.specs.Atoms.{atom, atoms, pairCount}
 use Rattle.tables.specs.Refusals.{unclearPair}
 use Rattle.tables.specs.declared.Refusal.{Refusal}
-use Rattle.tables.proofs.SearchLaws.{first-none, first-some, given-some, given-none, given-true, given-false}
+use Rattle.base.proofs.SearchLaws.{first-none, first-some, given-some, given-none, given-true, given-false}
 use Rattle.tables.proofs.AtomPlaces.{pairCount-is, atoms-found, atoms-has, atoms-before, atoms-same, atoms-most}
-use Rattle.containment.proofs.Index.{in-table, at-div, at-mod, place, row-step}
+use Rattle.base.proofs.Index.{in-table, at-div, at-mod, place, row-step}
 use Rattle.answers.specs.Pairs.{Before, userAt, fileAt, firstPair, answerAt, unclearFault}
 use Rattle.answers.specs.Meaning.{isUnclear}
 

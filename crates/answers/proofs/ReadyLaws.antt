@@ -4,14 +4,14 @@ use mathlib.Core.List.{List}
 use Prim.Native.Nat.{ℕ, _≤_}
 use native.Mathlib.Omega.{arith}
 use lib.ListN.{length}
-use Rattle.tables.specs.Buffers.{zeros}
+use Rattle.base.specs.Buffers.{zeros}
 use Rattle.tables.specs.Rows.{user, file, arrowCount}
 use Rattle.tables.specs.Atoms.{atoms}
 use Rattle.tables.specs.Steps.{SoundRows, SoundArrows}
-use Rattle.tables.proofs.BufferLaws.{zeros-length}
+use Rattle.base.proofs.BufferLaws.{zeros-length}
 use Rattle.tables.proofs.AtomPlaces.{atoms-most}
 use Rattle.tables.proofs.GroupLaws.{onSide-there}
-use Rattle.tables.proofs.PartLaws.{Wrote, part-within}
+use Rattle.base.proofs.PartLaws.{Wrote, part-within}
 use Rattle.answers.specs.Among.{Within}
 use Rattle.answers.specs.Meaning.{modeArrows}
 use Rattle.answers.proofs.AmongLaws.{mode-most}

@@ -7,8 +7,8 @@ use mathlib.Core.List.{List}
 use Prim.Native.Nat.{ℕ}
 use Rattle.tables.specs.Atoms.{atoms, pairCount}
 use Rattle.tables.specs.declared.Arrow.{Arrow}
-use Rattle.tables.proofs.SearchLaws.{first-same}
-use Rattle.tables.proofs.BufferLaws.{build-same}
+use Rattle.base.proofs.SearchLaws.{first-same}
+use Rattle.base.proofs.BufferLaws.{build-same}
 use Rattle.tables.proofs.AtomPlaces.{pairCount-is, atoms-by-outer}
 use Rattle.tables.proofs.GroupLaws.{SameBoxes, atoms-by-bytes}
 use Rattle.containment.specs.Contains.{Row, contains}

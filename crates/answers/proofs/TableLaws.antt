@@ -7,16 +7,16 @@ use Prim.Native.Nat.{ℕ, _+_, _-_, _*_, _/_, _%_, _<_, _≤_}
 use native.Mathlib.Omega.{arith}
 use lib.Dec.{T, eqb, ltb, eqb→eq, ltb→lt, lt→ltb}
 use lib.ListN.{length, getD, take}
-use Rattle.tables.specs.Search.{lowest, bit}
-use Rattle.tables.specs.Buffers.{build, written, zeros}
+use Rattle.base.specs.Search.{lowest, bit}
+use Rattle.base.specs.Buffers.{build, written, zeros}
 use Rattle.tables.specs.Rows.{user, file, arrowCount, arrowAt}
 use Rattle.tables.specs.Atoms.{atoms, pairCount}
 use Rattle.tables.specs.Steps.{SoundRows, SoundArrows}
-use Rattle.tables.proofs.Tests.{and-T, T-and, T-eqb, T-true, not-false}
-use Rattle.tables.proofs.SearchLaws.{lowest-some, lowest-none}
-use Rattle.tables.proofs.SelectLaws.{lowest-is, lowest-nothing}
-use Rattle.tables.proofs.BufferLaws.{written-at, written-length, build-at, build-length}
-use Rattle.tables.proofs.PartLaws.{Wrote, part-is, part-length}
+use Rattle.base.proofs.Tests.{and-T, T-and, T-eqb, T-true, not-false}
+use Rattle.base.proofs.SearchLaws.{lowest-some, lowest-none}
+use Rattle.base.proofs.SelectLaws.{lowest-is, lowest-nothing}
+use Rattle.base.proofs.BufferLaws.{written-at, written-length, build-at, build-length}
+use Rattle.base.proofs.PartLaws.{Wrote, part-is, part-length}
 use Rattle.tables.proofs.AtomPlaces.{atoms-found, atom-there, atoms-most}
 use Rattle.tables.proofs.AtomSides.{atoms-apart}
 use Rattle.containment.specs.Contains.{around}

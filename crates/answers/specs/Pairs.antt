@@ -6,8 +6,8 @@ use mathlib.Core.List.{List}
 use mathlib.Core.Option.{Option}
 use Prim.Native.Nat.{ℕ, _/_, _%_, _<_}
 use lib.ListN.{length, getD}
-use Rattle.tables.specs.Search.{first, given}
-use Rattle.tables.specs.Buffers.{build}
+use Rattle.base.specs.Search.{first, given}
+use Rattle.base.specs.Buffers.{build}
 use Rattle.tables.specs.Rows.{user, file}
 use Rattle.tables.specs.Atoms.{atoms, pairCount}
 use Rattle.tables.specs.Refusals.{unclearPair}

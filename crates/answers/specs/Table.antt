@@ -7,7 +7,7 @@ use mathlib.Core.List.{List}
 use Prim.Native.Nat.{ℕ, _+_, _-_, _*_, _/_, _%_, _<_, _≤_}
 use lib.Dec.{eqb, ltb}
 use lib.ListN.{length, getD}
-use Rattle.tables.specs.Buffers.{build, written}
+use Rattle.base.specs.Buffers.{build, written}
 use Rattle.tables.specs.Rows.{user, file, arrowCount, arrowAt}
 use Rattle.tables.specs.Atoms.{atoms}
 use Rattle.containment.specs.Contains.{around}

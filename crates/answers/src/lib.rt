@@ -8,8 +8,8 @@ ghost use Rattle.tables.specs.Rows.{user, file, arrowAt, arrowCount};
 ghost use Rattle.tables.specs.Atoms.{atom, atoms, pairCount};
 ghost use Rattle.tables.specs.Steps.{SoundRows, SoundArrows};
 ghost use Rattle.tables.specs.Refusals.{refusal, verdictOf};
-ghost use Rattle.tables.specs.Buffers.{written, zeros};
-ghost use Rattle.tables.specs.Search.{bit, lowest};
+ghost use Rattle.base.specs.Buffers.{written, zeros};
+ghost use Rattle.base.specs.Search.{bit, lowest};
 ghost use Rattle.containment.specs.Contains.{around};
 ghost use Rattle.containment.specs.Scratch.{scratchAfter, earlyFault};
 ghost use Rattle.containment.specs.Steps.{Says};
@@ -20,6 +20,8 @@ ghost use Rattle.sets.specs.Sets.{has, overAll};
 ghost use Rattle.answers.specs.Among.{reaching, overridesAll, Within, Numbers, FirstAt, wins, NoneBefore};
 ghost use Rattle.answers.specs.Table.{member, setWord, setWords, setCount, Placed, Source, Tabled, Tabulates};
 ghost use Rattle.answers.specs.Table.{gridOf, Laid, tailAround, headAround};
+use base::narrow;
+use base::wide;
 use containment::check_scratch;
 use containment::contain;
 use containment::does_contain;
@@ -37,8 +39,6 @@ use tables::atoms_of;
 use tables::check_mode;
 use tables::check_room;
 use tables::is_atom;
-use tables::narrow;
-use tables::wide;
 
 // The answer to one question (document 01, "Meaning").
 pub enum Entry {

@@ -10,11 +10,11 @@ use borrow.Author.Tests.{eqb-true, ltb-false}
 use lib.Dec.{eqb, ltb}
 use lib.ListN.{length, length-append}
 use lib.Seq.{sets}
-use Rattle.tables.specs.Buffers.{written}
+use Rattle.base.specs.Buffers.{written}
 use Rattle.tables.specs.declared.Refusal.{Refusal}
-use Rattle.tables.proofs.Tests.{not-false}
-use Rattle.tables.proofs.SearchLaws.{first-none, first-nothing, first-more, first-here, given-none}
-use Rattle.tables.proofs.BufferLaws.{written-run}
+use Rattle.base.proofs.Tests.{not-false}
+use Rattle.base.proofs.SearchLaws.{first-none, first-nothing, first-more, first-here, given-none}
+use Rattle.base.proofs.BufferLaws.{written-run}
 use Rattle.tables.proofs.TableLaws.{both-none}
 use Rattle.blocks.specs.Blocks.{headOf, capacity, byKind, boxRow, containmentRow, arrowRow, countOf, joined, boxesSaid, containmentsSaid, arrowsSaid, wrongHead, blockFault}
 use Rattle.blocks.specs.Files.{blockAt, blockCount, kindBefore, blocksFault, boxesIn, containmentsIn, arrowsIn}

@@ -9,11 +9,11 @@ use native.Mathlib.Omega.{arith}
 use borrow.Author.Tests.{ltb-false, eqb-true, eqb-false, not-false}
 use lib.Dec.{eqb, ltb}
 use lib.ListN.{length, getD, take, drop, replicate, length-take, length-drop}
-use Rattle.tables.specs.Buffers.{zeros}
-use Rattle.tables.proofs.Tests.{not-false as not-T-false}
-use Rattle.tables.proofs.SearchLaws.{given-none}
+use Rattle.base.specs.Buffers.{zeros}
+use Rattle.base.proofs.Tests.{not-false as not-T-false}
+use Rattle.base.proofs.SearchLaws.{given-none}
 use Rattle.tables.proofs.TableLaws.{both-none}
-use Rattle.tables.proofs.BufferLaws.{zeros-is}
+use Rattle.base.proofs.BufferLaws.{zeros-is}
 use Rattle.blocks.specs.Fnv.{fnv1a}
 use Rattle.blocks.specs.Blocks.{number16, number32, headOf, capacity, recordSize, recordsEnd}
 use Rattle.blocks.specs.Blocks.{boxRecord, containmentRecord, arrowRecord}

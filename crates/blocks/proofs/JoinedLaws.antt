@@ -3,7 +3,7 @@ use mathlib.Core.Path.{_≡_, refl, sym, ap, _∙_}
 use mathlib.Core.List.{List, [], _++_, append-assoc, append-nil}
 use Prim.Native.Nat.{ℕ, zero, suc, _+_}
 use native.Mathlib.Numerals.{add-one}
-use Rattle.tables.proofs.FoldLaws.{fold, fold-none, fold-more, Chains}
+use Rattle.base.proofs.FoldLaws.{fold, fold-none, fold-more, Chains}
 use Rattle.blocks.specs.Blocks.{joined}
 
 pub joined-none : (f : ℕ → List ℕ) → joined f 0 ≡ []

@@ -9,8 +9,8 @@ use native.Mathlib.Omega.{arith}
 use native.Mathlib.Nat.{eq-or-lt-of-le, le-of-suc-le-suc}
 use lib.ListN.{length, take, drop, length-drop}
 use lib.Seq.{take-add, take-length, take-all, drop-at, drop-append-le, take-append-le}
-use Rattle.tables.proofs.SearchLaws.{first-same}
-use Rattle.tables.proofs.Verdicts.{past}
+use Rattle.base.proofs.SearchLaws.{first-same}
+use Rattle.base.proofs.Options.{past}
 use Rattle.blocks.specs.Blocks.{headOf, joined, boxesSaid, containmentsSaid, arrowsSaid}
 use Rattle.blocks.specs.Files.{blockAt, blockCount, kindBefore, blocksFault, lengthFault, fileFault, boxesIn, containmentsIn, arrowsIn, boxesOf, containmentsOf, arrowsOf}
 use Rattle.blocks.specs.Reads.{countsIn, countsOf, tablesFault, readFault}

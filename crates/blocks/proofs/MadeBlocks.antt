@@ -9,12 +9,12 @@ use native.Mathlib.Omega.{arith}
 use native.Mathlib.Nat.{add-zero}
 use borrow.Author.Tests.{le-ltb, eq-eqb, ne-eqb}
 use lib.ListN.{length, getD, take, drop, replicate}
-use Rattle.tables.specs.Buffers.{zeros}
+use Rattle.base.specs.Buffers.{zeros}
 use Rattle.tables.specs.Rows.{rowCount, arrowCount}
 use Rattle.tables.specs.Faults.{countFault, roomFault}
-use Rattle.tables.proofs.BufferLaws.{zeros-is}
-use Rattle.tables.proofs.SearchLaws.{given-false, first-zero}
-use Rattle.tables.proofs.Verdicts.{past}
+use Rattle.base.proofs.BufferLaws.{zeros-is}
+use Rattle.base.proofs.SearchLaws.{given-false, first-zero}
+use Rattle.base.proofs.Options.{past}
 use Rattle.blocks.specs.Fnv.{fnvStart, fnvStep, fnvFold, fnv1a}
 use Rattle.blocks.specs.Blocks.{number16, number32, headOf, byKind, capacity, recordSize, recordsEnd, boxRecord, containmentRecord, arrowRecord, boxRow, containmentRow, arrowRow, countOf, joined, boxesSaid, containmentsSaid, arrowsSaid, wrongCheck, wrongHead, allZero, wrongFiller, blockFault}
 use Rattle.blocks.specs.Files.{kindBefore, blocksFault, boxesIn, containmentsIn, arrowsIn}

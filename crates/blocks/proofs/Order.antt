@@ -8,12 +8,12 @@ use native.Mathlib.Omega.{arith}
 use borrow.Author.Tests.{le-ltb, eq-eqb, ne-eqb}
 use lib.Dec.{eqb, ltb, eqb→eq, nltb→le, not-T}
 use lib.ListN.{length}
-use Rattle.tables.specs.Buffers.{written}
+use Rattle.base.specs.Buffers.{written}
 use Rattle.tables.specs.declared.Refusal.{Refusal}
-use Rattle.tables.proofs.Tests.{T-or₁, T-or₂}
-use Rattle.tables.proofs.SearchLaws.{given-none, given-false}
+use Rattle.base.proofs.Tests.{T-or₁, T-or₂}
+use Rattle.base.proofs.SearchLaws.{given-none, given-false}
 use Rattle.tables.proofs.TableLaws.{both-none, not-not, room-passed}
-use Rattle.tables.proofs.Verdicts.{past, stop}
+use Rattle.base.proofs.Options.{past, stop}
 use Rattle.blocks.specs.Files.{blockAt, blockCount, lengthFault, blocksFault, fileFault, boxesOf, containmentsOf, arrowsOf}
 use Rattle.blocks.specs.Reads.{countsOf, tablesFault, readFault, answerOf, ReadDone}
 use Rattle.blocks.specs.Steps.{Fitting}

@@ -5,7 +5,7 @@ use mathlib.Core.Option.{none, some}
 use Prim.Native.Nat.{ℕ, _*_, _≤_}
 use lib.ListN.{length, take}
 use Rattle.tables.specs.declared.Refusal.{Refusal}
-use Rattle.tables.proofs.PartLaws.{part-is}
+use Rattle.base.proofs.PartLaws.{part-is}
 use Rattle.tables.proofs.TableLaws.{both-none, room-passed}
 use Rattle.blocks.specs.Files.{blockAt, blockCount, boxesOf, containmentsOf, arrowsOf}
 use Rattle.blocks.specs.Reads.{countsIn, tablesFault, readFault, ReadDone}

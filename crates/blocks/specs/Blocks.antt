@@ -5,7 +5,7 @@ use mathlib.Core.Option.{Option}
 use Prim.Native.Nat.{ℕ, zero, suc, _+_, _*_}
 use lib.Dec.{eqb, ltb}
 use lib.ListN.{getD, take, drop}
-use Rattle.tables.specs.Search.{orElse, given}
+use Rattle.base.specs.Search.{orElse, given}
 use Rattle.tables.specs.Refusals.{badBlock}
 use Rattle.tables.specs.declared.Refusal.{Refusal}
 use Rattle.blocks.specs.Fnv.{fnv1a}

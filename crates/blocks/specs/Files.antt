@@ -5,7 +5,7 @@ use mathlib.Core.Option.{Option}
 use Prim.Native.Nat.{ℕ, zero, suc, _*_, _/_, _%_}
 use lib.Dec.{eqb, ltb}
 use lib.ListN.{length, take, drop}
-use Rattle.tables.specs.Search.{orElse, given, first}
+use Rattle.base.specs.Search.{orElse, given, first}
 use Rattle.tables.specs.Refusals.{badLength}
 use Rattle.tables.specs.declared.Refusal.{Refusal}
 use Rattle.blocks.specs.Blocks.{headOf, joined, boxesSaid, containmentsSaid, arrowsSaid, blockFault}

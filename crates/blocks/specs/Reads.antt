@@ -4,8 +4,8 @@ use mathlib.Core.List.{List}
 use mathlib.Core.Option.{Option, none, some}
 use Prim.Native.Nat.{ℕ, _*_}
 use lib.ListN.{length}
-use Rattle.tables.specs.Search.{orElse}
-use Rattle.tables.specs.Buffers.{written}
+use Rattle.base.specs.Search.{orElse}
+use Rattle.base.specs.Buffers.{written}
 use Rattle.tables.specs.Rows.{rowCount, arrowCount}
 use Rattle.tables.specs.Refusals.{unlessRefused}
 use Rattle.tables.specs.Faults.{countFault, roomFault}

@@ -4,7 +4,7 @@ ghost use mathlib.Core.Option.{none};
 ghost use Prim.Native.Nat.{_+_, _*_, _/_, _%_, _^_, _<_, _≤_};
 ghost use lib.ListN.{length, getD, take};
 ghost use lib.Seq.{sets};
-ghost use Rattle.tables.specs.Buffers.{written};
+ghost use Rattle.base.specs.Buffers.{written};
 ghost use Rattle.tables.specs.Refusals.{verdictOf};
 ghost use Rattle.blocks.specs.Fnv.{fnvStart, fnvStep, fnvFold, fnv1a};
 ghost use Rattle.blocks.specs.Blocks.{number16, number32, headOf, byKind, capacity, recordsEnd, boxRecord, containmentRecord, arrowRecord, boxRow, containmentRow, arrowRow, countOf, joined, boxesSaid, containmentsSaid, arrowsSaid, wrongHead, allZero, wrongFiller, blockFault};
@@ -12,9 +12,9 @@ ghost use Rattle.blocks.specs.Files.{blockAt, blockCount, kindBefore, bl
 ghost use Rattle.blocks.specs.Reader.{seenAt, nextBlock};
 ghost use Rattle.blocks.specs.Reads.{countsOf, tablesFault, answerOf, ReadDone};
 ghost use Rattle.blocks.specs.Steps.{noHead, countsWith, noCounts, BlockFits, Fitting};
+use base::wide;
 use tables::Refusal;
 use tables::Verdict;
-use tables::wide;
 
 // a * b modulo 2^32.
 fn wrapping_mul_u32(a: u32, b: u32) -> u32

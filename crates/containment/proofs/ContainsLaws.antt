@@ -11,11 +11,11 @@ use lib.Dec.{T, eqb, eqb→eq, eqb-refl}
 use lib.ListN.{length, getD}
 use Rattle.tables.specs.Rows.{isGroup, onSide}
 use Rattle.tables.specs.Atoms.{outer, atom}
-use Rattle.tables.specs.Search.{given}
+use Rattle.base.specs.Search.{given}
 use Rattle.tables.specs.Refusals.{inItself}
 use Rattle.containment.specs.Contains.{Row, here, later, direct, Chain, one, more, contains, around, loopFault}
-use Rattle.tables.proofs.Tests.{or-T, T-or₁, T-or₂, and-T, T-and, T-same, not-false}
-use Rattle.tables.proofs.SearchLaws.{first-none, given-none}
+use Rattle.base.proofs.Tests.{or-T, T-or₁, T-or₂, and-T, T-and, T-same, not-false}
+use Rattle.base.proofs.SearchLaws.{first-none, given-none}
 use Rattle.tables.proofs.RowLaws.{outer-none, outer-odd, outer-more}
 use Rattle.tables.proofs.GroupLaws.{atom-iff}
 

@@ -5,13 +5,13 @@ use mathlib.Core.Bool.{Bool, true, false, not, cond}
 use mathlib.Core.List.{List}
 use Prim.Native.Nat.{ℕ, _*_, _/_, _%_}
 use lib.Dec.{T, eqb}
-use Rattle.tables.specs.Search.{bit}
+use Rattle.base.specs.Search.{bit}
 use Rattle.containment.specs.Contains.{Row, Chain, one, direct, contains}
 use Rattle.containment.specs.Scratch.{Drawn, directly, through-others, otherwise, drawn, filled}
 use Rattle.containment.specs.Steps.{over}
-use Rattle.tables.proofs.Bits.{bit-is, bit-test}
-use Rattle.tables.proofs.Tests.{T?, T-true, not-false}
-use Rattle.tables.proofs.BufferLaws.{build-same}
+use Rattle.base.proofs.Bits.{bit-is, bit-test}
+use Rattle.base.proofs.Tests.{T?, T-true, not-false}
+use Rattle.base.proofs.BufferLaws.{build-same}
 use Rattle.containment.proofs.ContainsLaws.{direct-row, row-direct, contains-chain, chain-contains, row-contains, same-contains, same-direct}
 
 module _ (rows : List ℕ) (a b : ℕ) where

@@ -2,7 +2,6 @@
 pub mod ContainsLaws
 pub mod DrawnLaws
 pub mod ScratchLaws
-pub mod Index
 mod Rounds
 mod StepLaws
 pub mod PictureLaws

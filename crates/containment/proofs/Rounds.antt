@@ -8,7 +8,7 @@ use native.Mathlib.Nat.{eq-or-lt-of-le, le-of-suc-le-suc, not-suc-le-zero}
 use lib.Dec.{T}
 use Rattle.containment.specs.Contains.{Row, Chain, one, more, direct, contains}
 use Rattle.containment.specs.Steps.{through, rounds}
-use Rattle.tables.proofs.Tests.{or-T, T-or₁, T-or₂, and-T, T-and, T-same}
+use Rattle.base.proofs.Tests.{or-T, T-or₁, T-or₂, and-T, T-and, T-same}
 use Rattle.containment.proofs.ContainsLaws.{direct-row, row-direct, contains-chain, row-contains, contains-trans}
 
 -- ---- one round

@@ -13,14 +13,15 @@ use Rattle.tables.specs.Refusals.{verdictOf}
 use Rattle.tables.specs.declared.Refusal.{Refusal}
 use Rattle.tables.specs.declared.Verdict.{Verdict}
 use Rattle.tables.specs.declared.Verdict.the-variants.{Refused}
-use Rattle.tables.specs.Buffers.{build}
+use Rattle.base.specs.Buffers.{build}
 use Rattle.containment.specs.Contains.{loopFault}
 use Rattle.containment.specs.Scratch.{Drawn, drawn, filled, scratchFault, scratchAfter, earlyFault, pictureFault}
 use Rattle.containment.specs.Steps.{Says, Bytes, SameFrom}
-use Rattle.tables.proofs.Verdicts.{refused, past, stop}
+use Rattle.tables.proofs.Verdicts.{refused}
+use Rattle.base.proofs.Options.{past, stop}
 use Rattle.tables.proofs.TableLaws.{room-passed}
-use Rattle.tables.proofs.BufferLaws.{written-length, written-at, written-rest, build-length, build-at}
-use Rattle.containment.proofs.Index.{in-table, at-div, at-mod, place}
+use Rattle.base.proofs.BufferLaws.{written-length, written-at, written-rest, build-length, build-at}
+use Rattle.base.proofs.Index.{in-table, at-div, at-mod, place}
 use Rattle.containment.proofs.DrawnLaws.{drawn-iff}
 
 module _ (n : ℕ) (rows s : List ℕ) where

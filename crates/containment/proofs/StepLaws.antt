@@ -14,17 +14,17 @@ use lib.Bits.{bitOr}
 use lib.Dec.{eqb, eqb→eq}
 use lib.ListN.{length, getD, set, drop, length-set}
 use lib.Seq.{getD-set-same, getD-set-other}
-use Rattle.tables.specs.Search.{bit}
-use Rattle.tables.specs.Buffers.{build, written, zeros}
+use Rattle.base.specs.Search.{bit}
+use Rattle.base.specs.Buffers.{build, written, zeros}
 use Rattle.tables.specs.Rows.{rowCount, rowAt}
 use Rattle.containment.specs.Contains.{Row, here, later, direct, contains}
 use Rattle.containment.specs.Scratch.{filled}
 use Rattle.containment.specs.Steps.{Bytes, Cells, over, through, rounds, SameFrom, Joined, NextOuter, rowFrom}
 use Rattle.tables.proofs.RowLaws.{rows-from}
-use Rattle.tables.proofs.Bits.{bit-test, bit-or}
-use Rattle.tables.proofs.Tests.{and-T, not-false}
-use Rattle.tables.proofs.BufferLaws.{written-length, written-at, written-rest, zeros-length, zeros-at, build-length, build-at}
-use Rattle.containment.proofs.Index.{row-step, in-table, same-row, same-col, next-row}
+use Rattle.base.proofs.Bits.{bit-test, bit-or}
+use Rattle.base.proofs.Tests.{and-T, not-false}
+use Rattle.base.proofs.BufferLaws.{written-length, written-at, written-rest, zeros-length, zeros-at, build-length, build-at}
+use Rattle.base.proofs.Index.{row-step, in-table, same-row, same-col, next-row}
 use Rattle.containment.proofs.DrawnLaws.{first-pass, second-pass}
 use Rattle.containment.proofs.ScratchLaws.{is-filled}
 use Rattle.containment.proofs.Rounds.{rounds-all}

@@ -5,7 +5,7 @@ use mathlib.Core.Option.{Option}
 use Prim.Native.Nat.{ℕ}
 use lib.Dec.{eqb}
 use lib.ListN.{length}
-use Rattle.tables.specs.Search.{first, given}
+use Rattle.base.specs.Search.{first, given}
 use Rattle.tables.specs.Refusals.{inItself}
 use Rattle.tables.specs.declared.Refusal.{Refusal}
 

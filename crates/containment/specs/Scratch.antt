@@ -5,8 +5,8 @@ use mathlib.Core.List.{List}
 use mathlib.Core.Option.{Option}
 use Prim.Native.Nat.{ℕ, _+_, _*_, _/_, _%_}
 use lib.ListN.{length}
-use Rattle.tables.specs.Search.{bit, orElse}
-use Rattle.tables.specs.Buffers.{build, written}
+use Rattle.base.specs.Search.{bit, orElse}
+use Rattle.base.specs.Buffers.{build, written}
 use Rattle.tables.specs.Refusals.{unlessRefused}
 use Rattle.tables.specs.Faults.{tableFault, roomFault}
 use Rattle.tables.specs.declared.Refusal.{Refusal}

@@ -6,8 +6,8 @@ use mathlib.Core.List.{List}
 use Prim.Native.Nat.{ℕ, zero, suc, _+_, _*_, _<_, _≤_}
 use lib.Bits.{bitOr}
 use lib.ListN.{length, getD}
-use Rattle.tables.specs.Search.{bit}
-use Rattle.tables.specs.Buffers.{build}
+use Rattle.base.specs.Search.{bit}
+use Rattle.base.specs.Buffers.{build}
 use Rattle.containment.specs.Contains.{direct}
 use Rattle.containment.specs.Scratch.{drawn}
 

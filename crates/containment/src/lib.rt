@@ -3,7 +3,7 @@ ghost use mathlib.Core.Path.{_≡_};
 ghost use mathlib.Core.Bool.{Bool};
 ghost use Prim.Native.Nat.{ℕ, _+_, _*_, _%_, _<_, _≤_};
 ghost use lib.ListN.{length, getD};
-ghost use Rattle.tables.specs.Buffers.{written};
+ghost use Rattle.base.specs.Buffers.{written};
 ghost use Rattle.tables.specs.Refusals.{verdictOf};
 ghost use Rattle.tables.specs.Rows.{rowAt, rowCount};
 ghost use Rattle.tables.specs.Steps.{SoundRows};
@@ -34,8 +34,8 @@ fn mark(rows: &[u16], s: &mut [u8], n: usize, v: u8)
     while 0 < k {
         k -= 1;
         let row = Containment::at(rows, k);
-        let o = tables::wide(row.outer);
-        let i = tables::wide(row.inner);
+        let o = base::wide(row.outer);
+        let i = base::wide(row.inner);
         s[o * n + i] = v;
     }
 }
@@ -121,9 +121,9 @@ fn fill(boxes: &[u8], rows: &[u16], scratch: &mut [u8])
     ensures { λ _. ⌜ now (scratch .exit) ≡ filled (length (now (boxes .entry))) (now (rows .entry)) (now (scratch .entry)) ⌝ }
 {
     let n = boxes.len();
-    tables::clear(scratch, n * n);
+    base::clear(scratch, n * n);
     mark(rows, scratch, n, 1);
-    let mut row = tables::zero_bytes();
+    let mut row = base::zero_bytes();
     close(scratch, n, &mut row);
     mark(rows, scratch, n, 2);
 }

@@ -4,7 +4,7 @@ use mathlib.Core.List.{List, []}
 use mathlib.Core.Option.{Option, none, some}
 use Prim.Native.Nat.{ℕ, _≤_}
 use lib.ListN.{length}
-use Rattle.tables.specs.Buffers.{written}
+use Rattle.base.specs.Buffers.{written}
 use Rattle.tables.specs.Rows.{user, file}
 use Rattle.tables.specs.Atoms.{atoms}
 use Rattle.tables.specs.Faults.{tableFault, roomFault}
@@ -12,7 +12,8 @@ use Rattle.tables.specs.Refusals.{verdictOf, unlessRefused, either}
 use Rattle.tables.specs.declared.Refusal.{Refusal}
 use Rattle.tables.specs.declared.Verdict.the-variants.{Passed, Refused as Stopped}
 use Rattle.tables.proofs.TableLaws.{both-none, room-passed}
-use Rattle.tables.proofs.Verdicts.{passed, refused, past, stop, either-verdict}
+use Rattle.tables.proofs.Verdicts.{passed, refused, either-verdict}
+use Rattle.base.proofs.Options.{past, stop}
 use Rattle.headings.specs.Calls.{headingsOf, headingRooms, headingFault, usersAfter, filesAfter}
 use Rattle.headings.specs.declared.Headings.{Headings}
 use Rattle.headings.specs.declared.Headings.the-variants.{Written, Refused}

@@ -4,14 +4,15 @@ use mathlib.Core.List.{List}
 use mathlib.Core.Option.{Option, none, some}
 use Prim.Native.Nat.{ℕ, _+_, _-_, _*_}
 use lib.ListN.{length, take}
-use Rattle.tables.specs.Buffers.{written, zeros}
+use Rattle.base.specs.Buffers.{written, zeros}
 use Rattle.tables.specs.Refusals.{verdictOf}
 use Rattle.tables.specs.declared.Refusal.{Refusal}
 use Rattle.tables.specs.declared.Verdict.{Verdict}
 use Rattle.tables.specs.declared.Verdict.the-variants.{Passed, Refused}
-use Rattle.tables.proofs.BufferLaws.{zeros-length}
-use Rattle.tables.proofs.PartLaws.{part-is}
-use Rattle.tables.proofs.Verdicts.{passed, refused, past, stop}
+use Rattle.base.proofs.BufferLaws.{zeros-length}
+use Rattle.base.proofs.PartLaws.{part-is}
+use Rattle.tables.proofs.Verdicts.{passed, refused}
+use Rattle.base.proofs.Options.{past, stop}
 use Rattle.containment.specs.Scratch.{pictureFault}
 use Rattle.containment.proofs.PictureLaws.{picture-room}
 use Rattle.blocks.specs.Files.{boxesOf, containmentsOf, arrowsOf}

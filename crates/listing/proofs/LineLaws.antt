@@ -9,14 +9,14 @@ use borrow.Author.Tests.{lt-ltb, le-ltb}
 use lib.ListN.{length, getD, take}
 use lib.Seq.{getD-take}
 use Rattle.tables.specs.Atoms.{pairCount}
-use Rattle.tables.specs.Search.{first, given, select}
+use Rattle.base.specs.Search.{first, given, select}
 use Rattle.tables.specs.Refusals.{unclearPair, verdictOf, either}
 use Rattle.tables.specs.declared.Verdict.{Verdict}
 use Rattle.tables.specs.declared.Verdict.the-variants.{Passed}
-use Rattle.tables.proofs.BufferLaws.{select-most}
-use Rattle.tables.proofs.FoldLaws.{first-suc}
-use Rattle.tables.proofs.SearchLaws.{first-zero}
-use Rattle.tables.proofs.SelectLaws.{select-found}
+use Rattle.base.proofs.BufferLaws.{select-most}
+use Rattle.base.proofs.FoldLaws.{first-suc}
+use Rattle.base.proofs.SearchLaws.{first-zero}
+use Rattle.base.proofs.SelectLaws.{select-found}
 use Rattle.tables.proofs.Verdicts.{either-verdict}
 use Rattle.answers.specs.Meaning.{isUnclear}
 use Rattle.answers.specs.Pairs.{userAt, fileAt, answerAt}

@@ -7,8 +7,8 @@ use native.Mathlib.Numerals.{add-one}
 use lib.ListN.{length, drop, set, getD, length-append}
 use lib.Seq.{sets, length-sets, length-take-le, drop-cons, drop-length}
 use Rattle.io.specs.Counts.{Counts}
-use Rattle.tables.specs.Buffers.{written}
-use Rattle.tables.proofs.BufferLaws.{written-none, written-run}
+use Rattle.base.specs.Buffers.{written}
+use Rattle.base.proofs.BufferLaws.{written-none, written-run}
 use Rattle.blocks.proofs.Placing.{sets-more}
 use Rattle.answers.specs.declared.Entry.{Entry}
 use Rattle.answers.specs.declared.Entry.the-variants.{Granted, Denied, Default, Unclear}

@@ -9,10 +9,10 @@ use native.Mathlib.Nat.{zero-add, add-assoc}
 use borrow.Author.Tests.{ltb-false}
 use lib.ListN.{length, getD}
 use Rattle.tables.specs.Atoms.{pairCount}
-use Rattle.tables.specs.Search.{first, orElse, select}
+use Rattle.base.specs.Search.{first, orElse, select}
 use Rattle.tables.specs.Refusals.{verdictOf}
 use Rattle.tables.specs.declared.Refusal.{Refusal}
-use Rattle.tables.proofs.FoldLaws.{fold, fold-same, fold-add, fold-grid, fold-select, first-fold, orElse-chains}
+use Rattle.base.proofs.FoldLaws.{fold, fold-same, fold-add, fold-grid, fold-select, first-fold, orElse-chains}
 use Rattle.answers.specs.Pairs.{unclearFault, anyUnclear}
 use Rattle.answers.specs.Meaning.{modeArrows}
 use Rattle.answers.proofs.PairLaws.{unclear-is}

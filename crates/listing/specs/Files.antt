@@ -2,8 +2,8 @@
 use mathlib.Core.List.{List}
 use mathlib.Core.Option.{Option, none, some}
 use Prim.Native.Nat.{ℕ}
-use Rattle.tables.specs.Buffers.{zeros}
-use Rattle.tables.specs.Search.{orElse}
+use Rattle.base.specs.Buffers.{zeros}
+use Rattle.base.specs.Search.{orElse}
 use Rattle.tables.specs.declared.Refusal.{Refusal}
 use Rattle.containment.specs.Scratch.{pictureFault}
 use Rattle.blocks.specs.Files.{boxesOf, containmentsOf, arrowsOf}

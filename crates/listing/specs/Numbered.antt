@@ -6,7 +6,7 @@ use mathlib.Core.Option.{Option, none, some}
 use Prim.Native.Nat.{ℕ, zero, suc, _+_, _*_, _-_, _/_, _%_, min}
 use lib.Dec.{ltb}
 use lib.ListN.{length, getD}
-use Rattle.tables.specs.Search.{select, first, given}
+use Rattle.base.specs.Search.{select, first, given}
 use Rattle.tables.specs.Atoms.{pairCount}
 use Rattle.tables.specs.Refusals.{verdictOf, unclearPair}
 use Rattle.tables.specs.declared.Refusal.{Refusal}

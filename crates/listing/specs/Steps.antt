@@ -6,7 +6,7 @@ use Prim.Native.Nat.{ℕ, _+_, _-_, _<_, _≤_}
 use lib.ListN.{length, take}
 use lib.Seq.{sets}
 use Rattle.io.specs.Counts.{Counts}
-use Rattle.tables.specs.Buffers.{written}
+use Rattle.base.specs.Buffers.{written}
 use Rattle.blocks.specs.Files.{boxesOf, containmentsOf, arrowsOf}
 use Rattle.listing.specs.Files.{readRefusal, fileRefusal}
 use Rattle.listing.specs.Numbered.{usedModes, seenBefore, lineCount, lineAt, linesFrom}

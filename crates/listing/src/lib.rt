@@ -8,17 +8,17 @@ ghost use Prim.Native.Nat.{ℕ, _+_, _*_, _<_, _≤_};
 ghost use lib.ListN.{length};
 ghost use Rattle.io.specs.Counts.{Counts};
 ghost use Rattle.tables.specs.Rows.{arrowCount};
-ghost use Rattle.tables.specs.Buffers.{written};
+ghost use Rattle.base.specs.Buffers.{written};
 ghost use Rattle.answers.specs.Table.{Tabled};
 ghost use Rattle.listing.specs.Lines.{lineText};
 ghost use Rattle.listing.specs.Listing.{used};
 ghost use Rattle.listing.specs.Numbered.{usedModes, pairLines, lineCount};
 ghost use Rattle.listing.specs.Steps.{Stands, Tells, Filled};
 use answers::Entry;
+use base::wide;
 use put::put_line;
 use tables::Refusal;
 use tables::Verdict;
-use tables::wide;
 
 // A line of the listing.
 pub enum Line {

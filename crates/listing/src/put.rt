@@ -7,9 +7,9 @@ ghost use Rattle.listing.specs.Lines.{answerFields, threeFields, lineTex
 ghost use Rattle.listing.specs.Steps.{Put};
 use super::Line;
 use answers::Entry;
+use base::wide;
 use tables::Refusal;
 use tables::Verdict;
-use tables::wide;
 
 // ---- The parts of a line.
 

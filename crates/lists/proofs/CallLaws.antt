@@ -5,7 +5,7 @@ use mathlib.Core.Option.{none, some}
 use Prim.Native.Nat.{ℕ, _≤_}
 use native.Mathlib.Omega.{arith}
 use lib.ListN.{length, take, length-replicate}
-use Rattle.tables.specs.Buffers.{written, zeros}
+use Rattle.base.specs.Buffers.{written, zeros}
 use Rattle.tables.specs.Atoms.{pairCount}
 use Rattle.tables.specs.declared.Refusal.{Refusal}
 use Rattle.answers.specs.Meaning.{modeArrows}
@@ -15,9 +15,9 @@ use Rattle.lists.specs.Calls.{blanks, listRoom, listedOf, placesOf, list
 use Rattle.lists.specs.Steps.{Listing, leftIn, workOf, Ordered}
 use Rattle.lists.specs.declared.Listed.{Listed}
 use Rattle.lists.specs.declared.Listed.the-variants.{Written, Refused}
-use Rattle.tables.proofs.PartLaws.{part-is}
-use Rattle.tables.proofs.BufferLaws.{zeros-length}
-use Rattle.tables.proofs.Verdicts.{past, stop}
+use Rattle.base.proofs.PartLaws.{part-is}
+use Rattle.base.proofs.BufferLaws.{zeros-length}
+use Rattle.base.proofs.Options.{past, stop}
 use Rattle.lists.proofs.NextLaws.{greedy-grown}
 use Rattle.lists.proofs.GrowLaws.{written-over, work-length, left-by, own-room}
 

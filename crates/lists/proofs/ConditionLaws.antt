@@ -8,7 +8,7 @@ use Prim.Native.Nat.{ℕ, _<_, _≤_}
 use native.Mathlib.Omega.{arith}
 use lib.Dec.{T}
 use lib.ListN.{length}
-use Rattle.tables.specs.Buffers.{written}
+use Rattle.base.specs.Buffers.{written}
 use Rattle.tables.specs.Atoms.{pairCount}
 use Rattle.tables.specs.Refusals.{noOrder}
 use Rattle.tables.specs.Faults.{tableFault}
@@ -23,10 +23,10 @@ use Rattle.lists.specs.Condition.{FirstUnreached, WrittenList, Condition
 use Rattle.lists.specs.declared.Listed.{Listed}
 use Rattle.lists.specs.declared.Listed.the-variants.{Written, Refused}
 use Rattle.tables.proofs.TableLaws.{both-none}
-use Rattle.tables.proofs.Tests.{and-T}
-use Rattle.tables.proofs.SearchLaws.{some-none}
-use Rattle.tables.proofs.BufferLaws.{written-rest}
-use Rattle.tables.proofs.PartLaws.{part-is, wrote-length}
+use Rattle.base.proofs.Tests.{and-T}
+use Rattle.base.proofs.SearchLaws.{some-none}
+use Rattle.base.proofs.BufferLaws.{written-rest}
+use Rattle.base.proofs.PartLaws.{part-is, wrote-length}
 use Rattle.answers.proofs.PairLaws.{userAt-atom, fileAt-atom, pair-place, pair-before}
 use Rattle.answers.proofs.ModeLaws.{answer-at}
 use Rattle.lists.proofs.GreedyLaws.{honest-own, honest-right, honest-is}

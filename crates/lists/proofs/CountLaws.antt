@@ -8,10 +8,10 @@ use Prim.Native.Nat.{ℕ, _<_, _≤_}
 use native.Mathlib.Omega.{arith}
 use lib.Dec.{T, T-not, not-T, eqb, eqb→eq, eqb-refl}
 use lib.ListN.{length}
-use Rattle.tables.specs.Search.{select}
+use Rattle.base.specs.Search.{select}
 use Rattle.lists.specs.Order.{anyOf, allOf, distinct}
-use Rattle.tables.proofs.Tests.{or-T, and-T, T-and, T-or₁, T-or₂, T-eqb}
-use Rattle.tables.proofs.SelectLaws.{select-fewer}
+use Rattle.base.proofs.Tests.{or-T, and-T, T-and, T-or₁, T-or₂, T-eqb}
+use Rattle.base.proofs.SelectLaws.{select-fewer}
 
 -- ---- one more number
 

@@ -4,7 +4,7 @@ use mathlib.Core.List.{List}
 use mathlib.Core.Option.{Option, none, some}
 use Prim.Native.Nat.{ℕ, _*_, _<_, _≤_}
 use lib.ListN.{length}
-use Rattle.tables.specs.Search.{orElse}
+use Rattle.base.specs.Search.{orElse}
 use Rattle.tables.specs.Atoms.{pairCount}
 use Rattle.tables.specs.Refusals.{verdictOf, either}
 use Rattle.tables.specs.Faults.{tableFault, modeFault, roomFault}
@@ -17,7 +17,7 @@ use Rattle.lists.specs.Steps.{Listing}
 use Rattle.lists.specs.declared.Listed.{Listed}
 use Rattle.lists.specs.declared.Listed.the-variants.{Refused}
 use Rattle.answers.proofs.CallLaws.{chained}
-use Rattle.tables.proofs.Verdicts.{past, stop}
+use Rattle.base.proofs.Options.{past, stop}
 use Rattle.tables.proofs.TableLaws.{both-none, mode-passed, room-passed}
 use Rattle.containment.proofs.ScratchLaws.{scratch-room}
 

@@ -7,8 +7,8 @@ use Prim.Native.Nat.{ℕ, _+_, _<_, _≤_}
 use native.Mathlib.Nat.{add-zero}
 use lib.Dec.{ltb}
 use lib.ListN.{length, set}
-use Rattle.tables.specs.Search.{bit}
-use Rattle.tables.specs.Buffers.{build, written}
+use Rattle.base.specs.Search.{bit}
+use Rattle.base.specs.Buffers.{build, written}
 use Rattle.tables.specs.Rows.{arrowCount}
 use Rattle.tables.specs.Atoms.{pairCount}
 use Rattle.tables.specs.Refusals.{unclearPair, verdictOf}
@@ -19,10 +19,10 @@ use Rattle.answers.specs.Pairs.{userAt, fileAt, answerAt, unclearFault}
 use Rattle.answers.specs.declared.Entry.{Entry}
 use Rattle.lists.specs.Order.{anyOf, reached, granted}
 use Rattle.lists.specs.Steps.{Clear, workOf}
-use Rattle.tables.proofs.Tests.{not-false}
-use Rattle.tables.proofs.SearchLaws.{Searched, search-none, search-more, search-here, first-none, given-none}
-use Rattle.tables.proofs.BufferLaws.{written-build, written-length, build-length}
-use Rattle.tables.proofs.PartLaws.{built-none}
+use Rattle.base.proofs.Tests.{not-false}
+use Rattle.base.proofs.SearchLaws.{Searched, search-none, search-more, search-here, first-none, given-none}
+use Rattle.base.proofs.BufferLaws.{written-build, written-length, build-length}
+use Rattle.base.proofs.PartLaws.{built-none}
 use Rattle.answers.proofs.PairLaws.{unclear-is}
 use Rattle.answers.proofs.GrantLaws.{grants-by}
 

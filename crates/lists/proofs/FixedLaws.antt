@@ -24,9 +24,9 @@ use Rattle.lists.specs.Calls.{listBefore, listAnswer, listAfter}
 use Rattle.lists.specs.Fixed.{CanFollow, Lowest, FixedOrder}
 use Rattle.lists.specs.declared.Listed.{Listed}
 use Rattle.lists.specs.declared.Listed.the-variants.{Written}
-use Rattle.tables.proofs.Tests.{or-T}
-use Rattle.tables.proofs.SearchLaws.{below-suc}
-use Rattle.tables.proofs.PartLaws.{part-is}
+use Rattle.base.proofs.Tests.{or-T}
+use Rattle.base.proofs.SearchLaws.{below-suc}
+use Rattle.base.proofs.PartLaws.{part-is}
 use Rattle.answers.proofs.PairLaws.{pair-place}
 use Rattle.lists.proofs.CountLaws.{anyOf-snoc}
 use Rattle.lists.proofs.MatchLaws.{honest-fits}

@@ -8,15 +8,15 @@ use Prim.Native.Nat.{ℕ, _+_, _<_, _≤_}
 use native.Mathlib.Omega.{arith}
 use lib.Dec.{T, T-not, not-T, ltb, ltb→lt}
 use lib.ListN.{length}
-use Rattle.tables.specs.Search.{every, lowest, select}
+use Rattle.base.specs.Search.{every, lowest, select}
 use Rattle.tables.specs.Rows.{arrowCount}
 use Rattle.tables.specs.Atoms.{pairCount}
 use Rattle.answers.specs.Meaning.{hasMode}
 use Rattle.lists.specs.Order.{anyOf, allOf, passes, distinct, firstOf, ofMode, meets, reached, right, honest}
 use Rattle.lists.specs.Greedy.{new, fits, addable}
-use Rattle.tables.proofs.Tests.{T?, and-T, T-and}
-use Rattle.tables.proofs.SearchLaws.{lowest-some, lowest-none, every-at, every-is, some-none}
-use Rattle.tables.proofs.BufferLaws.{select-most}
+use Rattle.base.proofs.Tests.{T?, and-T, T-and}
+use Rattle.base.proofs.SearchLaws.{lowest-some, lowest-none, every-at, every-is, some-none}
+use Rattle.base.proofs.BufferLaws.{select-most}
 use Rattle.lists.proofs.CountLaws.{allOf-snoc, distinct-snoc, anyOf-has, room}
 use Rattle.lists.proofs.MatchLaws.{Honest, Fits, Full, honest-none, honest-snoc}
 

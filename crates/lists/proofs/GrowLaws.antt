@@ -10,8 +10,8 @@ use borrow.Author.Tests.{eq-eqb, ne-eqb}
 use lib.Dec.{T, eqb, ltb, lt→ltb}
 use lib.ListN.{length, getD}
 use lib.Seq.{ext-getD}
-use Rattle.tables.specs.Search.{select, bit}
-use Rattle.tables.specs.Buffers.{build, written, zeros}
+use Rattle.base.specs.Search.{select, bit}
+use Rattle.base.specs.Buffers.{build, written, zeros}
 use Rattle.tables.specs.Rows.{arrowCount, arrowAt}
 use Rattle.tables.specs.Atoms.{pairCount}
 use Rattle.answers.specs.Meaning.{positive, negative, hasMode, isGranted, isUnclear, modeArrows}
@@ -20,11 +20,11 @@ use Rattle.answers.specs.declared.Entry.{Entry}
 use Rattle.lists.specs.Order.{anyOf, gives, ofMode, meets, reached, granted, right}
 use Rattle.lists.specs.Greedy.{new, fits, addable, next, leftBy}
 use Rattle.lists.specs.Steps.{stops, follows, followsAt, marked, Behind, leftIn, Clear, workOf}
-use Rattle.tables.proofs.Tests.{T-and, T-true}
-use Rattle.tables.proofs.Bits.{bit-is}
-use Rattle.tables.proofs.SearchLaws.{first-same, every-same}
-use Rattle.tables.proofs.BufferLaws.{written-length, written-at, written-rest, build-length, build-at, build-same, zeros-length, zeros-at}
-use Rattle.tables.proofs.SelectLaws.{select-found, select-within, selected-lowest, selected-nothing}
+use Rattle.base.proofs.Tests.{T-and, T-true}
+use Rattle.base.proofs.Bits.{bit-is}
+use Rattle.base.proofs.SearchLaws.{first-same, every-same}
+use Rattle.base.proofs.BufferLaws.{written-length, written-at, written-rest, build-length, build-at, build-same, zeros-length, zeros-at}
+use Rattle.base.proofs.SelectLaws.{select-found, select-within, selected-lowest, selected-nothing}
 use Rattle.answers.proofs.ModeLaws.{mode-select}
 use Rattle.lists.proofs.CountLaws.{anyOf-snoc}
 use Rattle.lists.proofs.GreedyLaws.{Grown, grown-room, addable-own, ofMode-there, ofMode-has}

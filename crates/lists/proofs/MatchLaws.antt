@@ -8,8 +8,8 @@ use mathlib.Core.Option.{some}
 use Prim.Native.Nat.{ℕ, _<_}
 use lib.Dec.{T}
 use Rattle.lists.specs.Order.{anyOf, allOf, firstOf}
-use Rattle.tables.proofs.Tests.{T?, or-T, and-T, T-or₁, T-or₂, T-true, not-false}
-use Rattle.tables.proofs.SearchLaws.{some-none}
+use Rattle.base.proofs.Tests.{T?, or-T, and-T, T-or₁, T-or₂, T-true, not-false}
+use Rattle.base.proofs.SearchLaws.{some-none}
 
 -- ---- the first of a list with one more in front, and of one with one more at the end
 

@@ -15,8 +15,8 @@ use Rattle.tables.specs.Rows.{arrowCount}
 use Rattle.tables.specs.Atoms.{pairCount}
 use Rattle.lists.specs.Order.{ofMode, meets, right}
 use Rattle.lists.specs.Greedy.{followed, addable, next, listTo, greedy}
-use Rattle.tables.proofs.SearchLaws.{lowest-some, lowest-none, some-none}
-use Rattle.tables.proofs.SelectLaws.{lowest-is, lowest-nothing}
+use Rattle.base.proofs.SearchLaws.{lowest-some, lowest-none, some-none}
+use Rattle.base.proofs.SelectLaws.{lowest-is, lowest-nothing}
 use Rattle.lists.proofs.MatchLaws.{Full}
 use Rattle.lists.proofs.GreedyLaws.{ofMode-there, addable-own, full, Grown, grown-none, grown-more, grown-most}
 

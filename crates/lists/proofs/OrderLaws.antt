@@ -15,9 +15,9 @@ use Rattle.answers.specs.Pairs.{userAt, fileAt}
 use Rattle.lists.specs.Order.{distinct, ofMode, meets, reached, granted, right, honest, coversAll, qualifies, FirstMissed}
 use Rattle.lists.specs.Greedy.{greedy, leftBy, orderFault}
 use Rattle.tables.proofs.TableLaws.{not-not}
-use Rattle.tables.proofs.Tests.{and-T, T-and, T-true, not-false}
-use Rattle.tables.proofs.SearchLaws.{first-none, first-some, first-is, first-nothing, every-at, every-is}
-use Rattle.tables.proofs.SearchLaws.{given-none, given-some, given-true, given-false}
+use Rattle.base.proofs.Tests.{and-T, T-and, T-true, not-false}
+use Rattle.base.proofs.SearchLaws.{first-none, first-some, first-is, first-nothing, every-at, every-is}
+use Rattle.base.proofs.SearchLaws.{given-none, given-some, given-true, given-false}
 use Rattle.lists.proofs.MatchLaws.{maximal}
 use Rattle.lists.proofs.GreedyLaws.{implies, implied, honest-own, honest-right}
 use Rattle.lists.proofs.NextLaws.{greedy-grown, greedy-full}

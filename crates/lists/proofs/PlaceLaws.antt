@@ -8,7 +8,7 @@ use native.Mathlib.Omega.{arith}
 use lib.Dec.{T}
 use lib.ListN.{length}
 use Rattle.tables.specs.Rows.{arrowAt}
-use Rattle.containment.proofs.Index.{at-div, at-mod, row-step}
+use Rattle.base.proofs.Index.{at-div, at-mod, row-step}
 use Rattle.answers.specs.Pairs.{userAt, fileAt}
 use Rattle.answers.specs.Table.{Tabled, gridOf, Laid, tailAround, headAround}
 use Rattle.answers.specs.declared.Grid.{Grid}

@@ -12,13 +12,13 @@ use borrow.Author.Tests.{le-ltb, lt-ltb, eq-eqb, ne-eqb}
 use lib.Dec.{T, T-not, not-T, eqb, ltb, ltb→lt}
 use lib.ListN.{length, getD, set, take, replicate, length-set, length-replicate, replicate-append-replicate}
 use lib.Seq.{getD-set-same, getD-set-other, length-take-le, take-suc, ext-getD}
-use Rattle.tables.specs.Search.{every}
-use Rattle.tables.specs.Buffers.{build, written}
+use Rattle.base.specs.Search.{every}
+use Rattle.base.specs.Buffers.{build, written}
 use Rattle.answers.specs.Among.{FirstAt}
 use Rattle.lists.specs.Steps.{stops, NoStop, StopIn, follows, marked, markedTo, Behind}
-use Rattle.tables.proofs.Tests.{and-T, T-true, not-false}
-use Rattle.tables.proofs.SearchLaws.{every-at, every-is}
-use Rattle.tables.proofs.BufferLaws.{written-more, written-rest, build-length, written-build, written-length, written-at, build-at}
+use Rattle.base.proofs.Tests.{and-T, T-true, not-false}
+use Rattle.base.proofs.SearchLaws.{every-at, every-is}
+use Rattle.base.proofs.BufferLaws.{written-more, written-rest, build-length, written-build, written-length, written-at, build-at}
 use Rattle.lists.proofs.GreedyLaws.{not-nowhere}
 
 module _ (touch : ℕ → Bool) (work : List ℕ) (skip p : ℕ) where

@@ -7,14 +7,14 @@ use native.Mathlib.Numerals.{add-one}
 use native.Mathlib.Omega.{arith}
 use lib.Dec.{T}
 use lib.ListN.{length, getD, set, length-append}
-use Rattle.tables.specs.Buffers.{build, written, zeros}
+use Rattle.base.specs.Buffers.{build, written, zeros}
 use Rattle.tables.specs.Rows.{arrowCount}
 use Rattle.tables.specs.Atoms.{pairCount}
 use Rattle.answers.specs.Meaning.{modeArrows}
 use Rattle.lists.specs.Order.{meets}
 use Rattle.lists.specs.Greedy.{listTo}
 use Rattle.lists.specs.Steps.{followsAt, marked, Behind, ownSign, nothing, Clear, workOf, Ordered}
-use Rattle.tables.proofs.BufferLaws.{written-none, written-more, written-length}
+use Rattle.base.proofs.BufferLaws.{written-none, written-more, written-length}
 use Rattle.lists.proofs.NextLaws.{to-next, to-grown, greedy-is}
 use Rattle.lists.proofs.GrowLaws.{work-length, own-room, own-there, follows-next, follows-none, mark-shown, mark-grew, behind-grew, behind-none}
 

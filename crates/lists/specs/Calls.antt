@@ -3,8 +3,8 @@ use mathlib.Core.List.{List}
 use mathlib.Core.Option.{Option, none, some}
 use Prim.Native.Nat.{ℕ}
 use lib.ListN.{length, replicate}
-use Rattle.tables.specs.Search.{orElse}
-use Rattle.tables.specs.Buffers.{written, zeros}
+use Rattle.base.specs.Search.{orElse}
+use Rattle.base.specs.Buffers.{written, zeros}
 use Rattle.tables.specs.Atoms.{pairCount}
 use Rattle.tables.specs.Refusals.{unlessRefused}
 use Rattle.tables.specs.Faults.{tableFault, modeFault, roomFault}

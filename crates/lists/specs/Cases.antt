@@ -7,8 +7,8 @@ use mathlib.Core.List.{List, [], _∷_, map}
 use mathlib.Core.Option.{Option, none, some}
 use Prim.Native.Nat.{ℕ, _*_}
 use lib.ListN.{length, replicate}
-use Rattle.tables.specs.Search.{orElse, given, first, lowest, every, select}
-use Rattle.tables.specs.Buffers.{build, written}
+use Rattle.base.specs.Search.{orElse, given, first, lowest, every, select}
+use Rattle.base.specs.Buffers.{build, written}
 use Rattle.tables.specs.Rows.{sideOf, isGroup, onSide}
 use Rattle.tables.specs.Atoms.{outer, atom, atoms, pairCount}
 use Rattle.tables.specs.Refusals.{inItself, notAtomic, unclearPair, noOrder}

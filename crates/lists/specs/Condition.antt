@@ -9,7 +9,7 @@ use mathlib.Core.Option.{some}
 use Prim.Native.Nat.{ℕ, _≤_}
 use lib.Dec.{T}
 use lib.ListN.{length, getD, take}
-use Rattle.tables.specs.Buffers.{written, zeros}
+use Rattle.base.specs.Buffers.{written, zeros}
 use Rattle.tables.specs.Rows.{user, file, arrowAt}
 use Rattle.tables.specs.Atoms.{atom, pairCount}
 use Rattle.tables.specs.Refusals.{noOrder}

@@ -7,7 +7,7 @@ use mathlib.Core.List.{List, [], _∷_}
 use mathlib.Core.Option.{Option, none, some}
 use Prim.Native.Nat.{ℕ, _<_}
 use lib.Dec.{T, eqb, ltb}
-use Rattle.tables.specs.Search.{every}
+use Rattle.base.specs.Search.{every}
 use Rattle.tables.specs.Rows.{arrowCount, arrowAt}
 use Rattle.tables.specs.Atoms.{pairCount}
 use Rattle.answers.specs.Meaning.{positive, negative, hasMode, reaches, isGranted, isUnclear}

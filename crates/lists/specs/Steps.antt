@@ -6,8 +6,8 @@ use mathlib.Core.Option.{Option}
 use Prim.Native.Nat.{ℕ, _+_, _/_, _%_, _<_, _≤_}
 use lib.Dec.{T, eqb, ltb}
 use lib.ListN.{length, getD}
-use Rattle.tables.specs.Search.{first, given, every, bit}
-use Rattle.tables.specs.Buffers.{build, written}
+use Rattle.base.specs.Search.{first, given, every, bit}
+use Rattle.base.specs.Buffers.{build, written}
 use Rattle.tables.specs.Rows.{arrowCount, arrowAt}
 use Rattle.tables.specs.Atoms.{pairCount}
 use Rattle.tables.specs.Refusals.{noOrder}

@@ -6,8 +6,8 @@ ghost use mathlib.Core.Option.{none, some};
 ghost use Prim.Native.Nat.{ℕ, _+_, _*_, _/_, _%_, _<_, _≤_};
 ghost use lib.Dec.{ltb};
 ghost use lib.ListN.{length, take};
-ghost use Rattle.tables.specs.Buffers.{written, zeros};
-ghost use Rattle.tables.specs.Search.{bit};
+ghost use Rattle.base.specs.Buffers.{written, zeros};
+ghost use Rattle.base.specs.Search.{bit};
 ghost use Rattle.tables.specs.Rows.{arrowCount};
 ghost use Rattle.tables.specs.Atoms.{pairCount};
 ghost use Rattle.tables.specs.Steps.{SoundRows, SoundArrows};
@@ -35,6 +35,7 @@ use answers::reaches_file;
 use answers::reaches_user;
 use answers::refuse_pair;
 use answers::tabulate;
+use base::wide;
 use containment::check_scratch;
 use containment::contain;
 use tables::Arrow;
@@ -42,7 +43,6 @@ use tables::Refusal;
 use tables::Verdict;
 use tables::check_mode;
 use tables::check_room;
-use tables::wide;
 
 // What the call for a list answers.
 pub enum Listed {
@@ -356,7 +356,7 @@ fn list_pairs(
     copy(&bytes, work, g.pairs);
     let count = order(boxes, rows, arrows, table, g, mode, own, out, work);
     let left = check_left(boxes, rows, users, files, mode, work);
-    tables::clear(work, g.pairs);
+    base::clear(work, g.pairs);
     if let Verdict::Refused(r) = left {
         blank(out, own.len());
         return Listed::Refused(r);

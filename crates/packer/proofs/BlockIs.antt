@@ -5,7 +5,7 @@ use Prim.Native.Nat.{ℕ, suc, _+_, _*_, _-_, _/_, _%_, _<_, _≤_}
 use native.Mathlib.Omega.{arith}
 use lib.ListN.{length, getD, take, drop, take-append-drop}
 use lib.Seq.{take-take, take-add, drop-drop, drop-cons, drop-length}
-use Rattle.tables.specs.Buffers.{zeros}
+use Rattle.base.specs.Buffers.{zeros}
 use Rattle.tables.specs.Rows.{rowAt, arrowAt}
 use Rattle.blocks.specs.Fnv.{fnv1a}
 use Rattle.blocks.specs.Blocks.{number16, number32, headOf, recordSize, joined}

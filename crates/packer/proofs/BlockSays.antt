@@ -6,7 +6,7 @@ use Prim.Native.Nat.{ℕ, _+_, _*_, _-_, _/_, _%_, _<_, _≤_}
 use native.Mathlib.Omega.{arith}
 use lib.ListN.{length, getD, take, drop}
 use lib.Seq.{take-at, drop-at, drop-append-add, getD-append-add}
-use Rattle.tables.specs.Buffers.{zeros}
+use Rattle.base.specs.Buffers.{zeros}
 use Rattle.tables.specs.Rows.{rowAt, arrowAt}
 use Rattle.blocks.specs.Fnv.{fnv1a}
 use Rattle.blocks.specs.Blocks.{number16, number32, headOf, capacity, recordSize, joined, boxesSaid, containmentsSaid, arrowsSaid, blockFault}

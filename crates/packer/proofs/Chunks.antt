@@ -12,7 +12,7 @@ use lib.Dec.{ltb}
 use lib.ListN.{length, getD, take, drop, List·getD-append}
 use lib.Seq.{take-add, take-length, drop-cons, getD-append-add}
 use Rattle.tables.specs.Rows.{rowCount, rowAt, arrowCount, arrowAt}
-use Rattle.tables.proofs.FoldLaws.{fold-add}
+use Rattle.base.proofs.FoldLaws.{fold-add}
 use Rattle.blocks.specs.Blocks.{joined}
 use Rattle.blocks.proofs.JoinedLaws.{joined-none, joined-more, joined-fold, append-chains}
 use Rattle.blocks.proofs.Made.{joined-same}

@@ -6,16 +6,17 @@ use Prim.Native.Nat.{ℕ, _+_, _*_, _≤_}
 use native.Mathlib.Omega.{arith}
 use lib.ListN.{length, take, length-append}
 use lib.Seq.{sets}
-use Rattle.tables.specs.Buffers.{written}
+use Rattle.base.specs.Buffers.{written}
 use Rattle.tables.specs.Rows.{rowCount, arrowCount}
 use Rattle.tables.specs.Faults.{tableFault, roomFault}
 use Rattle.tables.specs.Refusals.{verdictOf}
 use Rattle.tables.specs.declared.Refusal.{Refusal}
 use Rattle.tables.specs.declared.Verdict.the-variants.{Passed, Refused as Stopped}
-use Rattle.tables.proofs.BufferLaws.{written-none, written-run}
-use Rattle.tables.proofs.PartLaws.{part-is}
+use Rattle.base.proofs.BufferLaws.{written-none, written-run}
+use Rattle.base.proofs.PartLaws.{part-is}
 use Rattle.tables.proofs.TableLaws.{room-passed, sound-rows, sound-arrows}
-use Rattle.tables.proofs.Verdicts.{passed, refused, past, stop}
+use Rattle.tables.proofs.Verdicts.{passed, refused}
+use Rattle.base.proofs.Options.{past, stop}
 use Rattle.blocks.proofs.MadeBlocks.{capacities, record-sizes}
 use Rattle.packer.specs.Packed.{blocksFor, blocksOf, kindBytes, packed}
 use Rattle.packer.specs.Packs.{packingOf, packFault, packAnswer, fileAfter}

@@ -8,7 +8,7 @@ use native.Mathlib.Omega.{arith}
 use borrow.Author.Tests.{ltb-true, ltb-false}
 use lib.Dec.{ltb}
 use lib.ListN.{length, length-append}
-use Rattle.tables.proofs.BufferLaws.{zeros-length}
+use Rattle.base.proofs.BufferLaws.{zeros-length}
 use Rattle.blocks.specs.Blocks.{capacity, recordSize}
 use Rattle.blocks.proofs.MadeBlocks.{capacities, record-sizes}
 use Rattle.blocks.proofs.Placing.{joined-length}

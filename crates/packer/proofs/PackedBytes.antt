@@ -8,7 +8,7 @@ use lib.ListN.{length, getD, replicate}
 use Rattle.tables.specs.Rows.{rowCount, rowAt, arrowCount, arrowAt}
 use Rattle.tables.specs.Faults.{tableFault}
 use Rattle.tables.specs.Steps.{SoundRows, SoundArrows}
-use Rattle.tables.proofs.BufferLaws.{zeros-is}
+use Rattle.base.proofs.BufferLaws.{zeros-is}
 use Rattle.tables.proofs.GroupLaws.{onSide-there}
 use Rattle.tables.proofs.TableLaws.{sound-rows, sound-arrows}
 use Rattle.blocks.specs.Blocks.{capacity, recordSize, joined}

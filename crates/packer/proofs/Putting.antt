@@ -6,8 +6,8 @@ use native.Mathlib.Omega.{arith}
 use native.Mathlib.Numerals.{add-one}
 use lib.ListN.{length, take, drop, set, replicate, length-take}
 use lib.Seq.{sets, sets-eq, drop-at, take-at}
-use Rattle.tables.specs.Buffers.{zeros}
-use Rattle.tables.proofs.BufferLaws.{zeros-is, zeros-length}
+use Rattle.base.specs.Buffers.{zeros}
+use Rattle.base.proofs.BufferLaws.{zeros-is, zeros-length}
 use Rattle.blocks.proofs.Placing.{sets-more}
 
 -- a store behind what is stored

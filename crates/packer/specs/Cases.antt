@@ -4,7 +4,7 @@ use mathlib.Core.Path.{_≡_, refl}
 use mathlib.Core.List.{List, [], _∷_, _++_}
 use Prim.Native.Nat.{ℕ}
 use lib.ListN.{length}
-use Rattle.tables.specs.Buffers.{zeros}
+use Rattle.base.specs.Buffers.{zeros}
 use Rattle.blocks.specs.Fnv.{fnvStart, fnvStep, fnvFold, fnv1a}
 use Rattle.blocks.specs.Blocks.{byKind, capacity, recordSize, joined}
 use Rattle.packer.specs.Packed.{bytes16, bytes32, boxBytes, containmentBytes, arrowBytes}

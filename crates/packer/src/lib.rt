@@ -11,6 +11,7 @@ ghost use Rattle.packer.specs.Packed.{blockOf, least, blocksFor, recordB
 ghost use Rattle.packer.specs.Packs.{packAnswer, fileAfter};
 ghost use Rattle.packer.specs.Walks.{boxKind, containmentKind, arrowKind, OfKind, walkAt};
 ghost use Rattle.packer.specs.Walks.{blockByte, Begins, BlocksFit};
+use base::narrow;
 use blocks::ArrowRecord;
 use blocks::BoxRecord;
 use blocks::ContainmentRecord;
@@ -23,7 +24,6 @@ use records::put_containments;
 use tables::Refusal;
 use tables::Verdict;
 use tables::check_room;
-use tables::narrow;
 
 const BLOCK_SIZE: usize = 512;
 

@@ -4,7 +4,7 @@ ghost use mathlib.Core.List.{[], _∷_};
 ghost use Prim.Native.Nat.{_+_, _/_, _%_, _<_, _≤_};
 ghost use lib.ListN.{length, take, drop};
 ghost use lib.Seq.{sets};
-ghost use Rattle.tables.specs.Buffers.{zeros};
+ghost use Rattle.base.specs.Buffers.{zeros};
 ghost use Rattle.tables.specs.Rows.{rowCount, arrowCount};
 ghost use Rattle.blocks.specs.Fnv.{fnv1a};
 ghost use Rattle.packer.specs.Packed.{bytes16, bytes32, boxBytes, containmentBytes, arrowBytes, headBytes};

@@ -8,8 +8,8 @@ use lib.Arith.{digits-div, digits-mod}
 use lib.Bits.{bitAnd}
 use lib.Dec.{T}
 use lib.ListN.{getD}
-use Rattle.tables.proofs.SearchLaws.{every-at, every-is}
-use Rattle.tables.proofs.Tests.{T-true, not-false, and-T, T-and}
+use Rattle.base.proofs.SearchLaws.{every-at, every-is}
+use Rattle.base.proofs.Tests.{T-true, not-false, and-T, T-and}
 use Rattle.sets.specs.Sets.{bitAt, wordIn, has, inside, overAll}
 use Rattle.sets.proofs.SetLaws.{and-inside, inside-and}
 

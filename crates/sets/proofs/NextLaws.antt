@@ -12,10 +12,10 @@ use lib.Arith.{lt-one}
 use lib.Count.{trailingZeros, under}
 use lib.Dec.{T, eqb}
 use lib.Pow.{shr-shr}
-use Rattle.tables.specs.Search.{lowest}
-use Rattle.tables.proofs.SearchLaws.{lowest-some}
-use Rattle.tables.proofs.SelectLaws.{lowest-is}
-use Rattle.tables.proofs.Tests.{T-and, and-T, true-T, false-not, T-eqb}
+use Rattle.base.specs.Search.{lowest}
+use Rattle.base.proofs.SearchLaws.{lowest-some}
+use Rattle.base.proofs.SelectLaws.{lowest-is}
+use Rattle.base.proofs.Tests.{T-and, and-T, true-T, false-not, T-eqb}
 use Rattle.sets.specs.Sets.{bitAt, wordIn, has, inside, overAll, NextAt}
 use Rattle.sets.proofs.SetLaws.{zero-bit, half-lt}
 use Rattle.sets.proofs.InsideLaws.{has-at}

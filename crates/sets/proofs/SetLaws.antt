@@ -12,11 +12,11 @@ use lib.Bits.{bitAnd, and-step, and-shr, and-le-l}
 use lib.Dec.{T, eqb, eqb→eq, lit<}
 use lib.ListN.{length, getD}
 use lib.Pow.{shr-lt, pow-mono}
-use Rattle.tables.specs.Search.{lowest, bit}
-use Rattle.tables.proofs.Bits.{bit-is, bit-lt, bit-one}
-use Rattle.tables.proofs.SelectLaws.{lowest-is, lowest-nothing}
-use Rattle.tables.proofs.BufferLaws.{build-at, build-length}
-use Rattle.tables.proofs.Tests.{T-same, T-and, and-T, true-T}
+use Rattle.base.specs.Search.{lowest, bit}
+use Rattle.base.proofs.Bits.{bit-is, bit-lt, bit-one}
+use Rattle.base.proofs.SelectLaws.{lowest-is, lowest-nothing}
+use Rattle.base.proofs.BufferLaws.{build-at, build-length}
+use Rattle.base.proofs.Tests.{T-same, T-and, and-T, true-T}
 use Rattle.sets.specs.Sets.{bitAt, wordOf, wordIn, has, shared, NextAt}
 
 -- ---- a digit more below a number

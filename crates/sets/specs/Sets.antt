@@ -5,8 +5,8 @@ use Prim.Native.Nat.{ℕ, zero, suc, _+_, _*_, _/_, _%_, _^_, _<_, _≤_}
 use lib.Bits.{bitAnd}
 use lib.Dec.{T, eqb}
 use lib.ListN.{getD}
-use Rattle.tables.specs.Search.{every, bit}
-use Rattle.tables.specs.Buffers.{build}
+use Rattle.base.specs.Search.{every, bit}
+use Rattle.base.specs.Buffers.{build}
 
 -- bit b of a word, the lowest first
 unfoldable pub bitAt : ℕ → ℕ → Bool

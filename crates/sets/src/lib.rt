@@ -4,7 +4,7 @@ ghost use mathlib.Core.Option.{some};
 ghost use Prim.Native.Nat.{_+_, _*_, _^_, _<_, _≤_};
 ghost use lib.Bits.{bitAnd};
 ghost use lib.ListN.{length};
-ghost use Rattle.tables.specs.Search.{bit, lowest};
+ghost use Rattle.base.specs.Search.{bit, lowest};
 ghost use Rattle.sets.specs.Sets.{bitAt, wordIn, has, shared, inside, overAll, NextAt};
 
 // Word q of set r.

@@ -5,12 +5,12 @@ use mathlib.Core.List.{List}
 use Prim.Native.Nat.{ℕ, _*_, _<_, _≤_}
 use lib.Dec.{T}
 use lib.ListN.{length, getD}
-use Rattle.tables.specs.Search.{select}
+use Rattle.base.specs.Search.{select}
 use Rattle.tables.specs.Rows.{user, file}
 use Rattle.tables.specs.Atoms.{outer, atom, atoms, pairCount}
 use Rattle.tables.proofs.GroupLaws.{onSide-there, atom-iff}
-use Rattle.tables.proofs.BufferLaws.{select-most}
-use Rattle.tables.proofs.SelectLaws.{select-found, select-has, select-before, select-same}
+use Rattle.base.proofs.BufferLaws.{select-most}
+use Rattle.base.proofs.SelectLaws.{select-found, select-has, select-before, select-same}
 
 module _ (boxes rows : List ℕ) where
   pub atom-there : (s b : ℕ) → T (atom boxes rows s b) → b < length boxes

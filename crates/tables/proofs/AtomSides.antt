@@ -7,11 +7,11 @@ use native.Mathlib.Nat.{mul-le-mul-left, le-trans}
 use native.Mathlib.Omega.{arith}
 use lib.Dec.{T, leb, leb→le}
 use lib.ListN.{length, getD, length-append}
-use Rattle.tables.specs.Search.{every, select}
+use Rattle.base.specs.Search.{every, select}
 use Rattle.tables.specs.Rows.{user, file, sideOf}
 use Rattle.tables.specs.Atoms.{atom, atoms, pairCount}
-use Rattle.tables.proofs.Tests.{true-T}
-use Rattle.tables.proofs.SearchLaws.{every-at}
+use Rattle.base.proofs.Tests.{true-T}
+use Rattle.base.proofs.SearchLaws.{every-at}
 use Rattle.tables.proofs.GroupLaws.{onSide-side, atom-iff}
 
 -- tests that never hold together select no more numbers than there are

@@ -7,11 +7,11 @@ use Prim.Native.Nat.{ℕ, zero, suc, _<_, _≤_}
 use native.Mathlib.Omega.{arith}
 use lib.Dec.{T, T-not, not-T, eqb, ltb, eqb→eq, ltb→lt}
 use lib.ListN.{length, getD}
-use Rattle.tables.specs.Search.{select}
+use Rattle.base.specs.Search.{select}
 use Rattle.tables.specs.Rows.{user, file, userGroup, folder, sideOf, isGroup, onSide}
 use Rattle.tables.specs.Atoms.{outer, atom, atoms}
 use Rattle.tables.specs.Faults.{byteFault, namesNoBox, acrossSides, wrongEnds, tableFault}
-use Rattle.tables.proofs.Tests.{and-T, T-and, T?, T-true, not-false}
+use Rattle.base.proofs.Tests.{and-T, T-and, T?, T-true, not-false}
 
 -- 0 and 2 are on the user side, 1 and 3 on the file side
 pub sides : (sideOf user ≡ user) × (sideOf userGroup ≡ user) × (sideOf file ≡ file) × (sideOf folder ≡ file)

@@ -8,16 +8,16 @@ use native.Mathlib.Omega.{arith}
 use borrow.Author.Tests.{le-ltb}
 use lib.Dec.{T, eqb, ltb, leb, not-T, eqb→eq, nltb→le, nleb→lt}
 use lib.ListN.{length, getD}
-use Rattle.tables.specs.Search.{orElse, given}
+use Rattle.base.specs.Search.{orElse, given}
 use Rattle.tables.specs.Rows.{user, file, sideOf, onSide, rowCount, rowAt, arrowCount, arrowAt}
 use Rattle.tables.specs.Refusals.{ragged, tooMany, badByte, badRow, tooShort}
 use Rattle.tables.specs.Faults.{raggedFault, countFault, byteFault, namesNoBox, acrossSides, wrongEnds, wrongMode, rowFault, tableFault, roomFault, modeFault}
 use Rattle.tables.specs.Steps.{SoundRows, SoundArrows}
 use Rattle.tables.specs.declared.Refusal.{Refusal}
 use Rattle.tables.specs.declared.Containment.{Containment}
-use Rattle.tables.proofs.Tests.{and-T, T-or₁, T-or₂, not-false, false-not}
-use Rattle.tables.proofs.SearchLaws.{first-none, given-none, given-false, some-none}
-use Rattle.tables.proofs.Verdicts.{past}
+use Rattle.base.proofs.Tests.{and-T, T-or₁, T-or₂, not-false, false-not}
+use Rattle.base.proofs.SearchLaws.{first-none, given-none, given-false, some-none}
+use Rattle.base.proofs.Options.{past}
 
 -- neither of two checks found a fault
 pub both-none : {A : Type 0} (a b : Option A) → orElse a b ≡ none → (a ≡ none) × (b ≡ none)

@@ -3,7 +3,8 @@ use mathlib.Core.Path.{_≡_, refl, sym, ap}
 use mathlib.Core.Option.{Option, none, some}
 use Prim.Native.Nat.{ℕ}
 use native.Mathlib.Omega.{arith}
-use Rattle.tables.specs.Search.{orElse}
+use Rattle.base.specs.Search.{orElse}
+use Rattle.base.proofs.Options.{past, stop, orElse-assoc}
 use Rattle.tables.specs.Refusals.{verdictOf, either}
 use Rattle.tables.specs.declared.Refusal.{Refusal}
 use Rattle.tables.specs.declared.Verdict.the-variants.{Passed, Refused}
@@ -21,20 +22,6 @@ passed (some r) e = let z : _≡_ {A = ℕ} 0 1 = cc in absurd (omega arith)
 pub refused : (a : Option Refusal) (r : Refusal) → verdictOf a ≡ Refused r → a ≡ some r
 refused none r e = let z : _≡_ {A = ℕ} 0 1 = cc in absurd (omega arith)
 refused (some s) r e = let i : s ≡ r = cc in rw i
-
--- a check that finds nothing, and one that finds a fault, before others
-pub past : {A : Type 0} (a b : Option A) → a ≡ none → orElse a b ≡ b
-unfolding orElse
-past a b e = rw e
-
-pub stop : {A : Type 0} (a b : Option A) {r : A} → a ≡ some r → orElse a b ≡ some r
-unfolding orElse
-stop a b e = rw e
-
-pub orElse-assoc : {A : Type 0} (a b c : Option A) → orElse (orElse a b) c ≡ orElse a (orElse b c)
-unfolding orElse
-orElse-assoc none b c = refl
-orElse-assoc (some x) b c = refl
 
 -- three checks one after the other
 pub either-three : (a b c : Option Refusal) → either (either (verdictOf a) (verdictOf b)) (verdictOf c) ≡ verdictOf (orElse a (orElse b c))

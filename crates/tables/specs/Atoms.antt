@@ -4,7 +4,7 @@ use mathlib.Core.List.{List, [], _∷_}
 use Prim.Native.Nat.{ℕ, _*_}
 use lib.Dec.{eqb}
 use lib.ListN.{length, getD}
-use Rattle.tables.specs.Search.{select}
+use Rattle.base.specs.Search.{select}
 use Rattle.tables.specs.Rows.{user, file, isGroup, onSide}
 
 -- box b is the outer one of a row

@@ -4,7 +4,7 @@ use mathlib.Core.Path.{_≡_, refl}
 use mathlib.Core.List.{List, [], _∷_, map}
 use mathlib.Core.Option.{Option, none, some}
 use Prim.Native.Nat.{ℕ}
-use Rattle.tables.specs.Search.{orElse, given, first, select}
+use Rattle.base.specs.Search.{orElse, given, first, select}
 use Rattle.tables.specs.Rows.{user, file, sideOf, isGroup, onSide}
 use Rattle.tables.specs.Atoms.{outer, atom, atoms}
 use Rattle.tables.specs.Refusals.{badByte, badRow}

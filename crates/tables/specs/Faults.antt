@@ -5,7 +5,7 @@ use mathlib.Core.Option.{Option}
 use Prim.Native.Nat.{ℕ, _%_}
 use lib.Dec.{eqb, ltb, leb}
 use lib.ListN.{length, getD}
-use Rattle.tables.specs.Search.{orElse, given, first}
+use Rattle.base.specs.Search.{orElse, given, first}
 use Rattle.tables.specs.Rows.{user, file, sideOf, onSide, rowCount, rowAt, arrowCount, arrowAt}
 use Rattle.tables.specs.Refusals.{ragged, tooMany, badByte, badRow, noMode, tooShort}
 use Rattle.tables.specs.declared.Refusal.{Refusal}

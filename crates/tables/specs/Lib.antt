@@ -1,5 +1,3 @@
-pub mod Search
-pub mod Buffers
 pub mod Rows
 pub mod Refusals
 pub mod Faults

@@ -5,7 +5,7 @@ use mathlib.Core.List.{List}
 use Prim.Native.Nat.{ℕ, _%_, _<_, _≤_}
 use lib.Dec.{T, eqb, ltb}
 use lib.ListN.{length, getD}
-use Rattle.tables.specs.Search.{bit}
+use Rattle.base.specs.Search.{bit}
 use Rattle.tables.specs.Rows.{user, file, sideOf, onSide, rowCount, rowAt, arrowCount, arrowAt}
 use Rattle.tables.specs.Faults.{namesNoBox, acrossSides, wrongEnds, wrongMode}
 

@@ -4,13 +4,16 @@ ghost use mathlib.Core.Bool.{not, _&&_};
 ghost use mathlib.Core.List.{[]};
 ghost use Prim.Native.Nat.{ℕ, _+_, _*_, _/_, _%_, _<_, _≤_};
 ghost use lib.ListN.{length, getD};
-ghost use Rattle.tables.specs.Search.{given};
-ghost use Rattle.tables.specs.Buffers.{written, zeros};
+ghost use Rattle.base.specs.Search.{given};
+ghost use Rattle.base.specs.Buffers.{written};
 ghost use Rattle.tables.specs.Atoms.{outer, atom, atoms};
 ghost use Rattle.tables.specs.Steps.{Marks, fails, rowsFor, SoundRows};
 ghost use Rattle.tables.specs.Rows.{sideOf, isGroup, onSide, rowAt, rowCount, arrowAt, arrowCount};
 ghost use Rattle.tables.specs.Refusals.{refusal, verdictOf, either};
 ghost use Rattle.tables.specs.Faults.{raggedFault, countFault, byteFault, namesNoBox, acrossSides, wrongEnds, wrongMode, rowFault, tableFault, modeFault, roomFault};
+use base::narrow;
+use base::wide;
+use base::zero_bytes;
 
 // A row of the boxes: its byte.
 pub struct BoxRow {
@@ -129,20 +132,6 @@ impl Verdict {
             Verdict::Refused(r) => Verdict::Refused(r),
         }
     }
-}
-
-pub fn wide(x: u16) -> usize
-    ensures { λ r. ⌜ r ≡ x ⌝ }
-{
-    x as usize
-}
-
-// A number that 16 bits hold.
-pub fn narrow(x: usize) -> u16
-    requires { ⌜ x < 65536 ⌝ }
-    ensures { λ r. ⌜ r ≡ x ⌝ }
-{
-    (x % 65536) as u16
 }
 
 // The side that a box's byte puts it on.
@@ -330,23 +319,6 @@ pub fn is_atom(boxes: &[u8], rows: &[u16], side: u8, b: usize) -> bool
     ensures { λ r. ⌜ r ≡ atom (now (boxes .entry)) (now (rows .entry)) side b ⌝ }
 {
     is_single(boxes, side, b) && !is_outer(rows, b)
-}
-
-// A byte for each box that a picture can have.
-pub fn zero_bytes() -> [u8; 256]
-    ensures { λ r. ⌜ r ≡ zeros 256 ⌝ }
-{
-    [0u8; 256]
-}
-
-// Sets the first `count` bytes to 0.
-pub fn clear(s: &mut [u8], count: usize)
-    requires { ⌜ count ≤ length (now s) ⌝ }
-    ensures { λ _. ⌜ now (s .exit) ≡ written (zeros count) (now (s .entry)) ⌝ }
-{
-    for p in 0..count {
-        s[p] = 0;
-    }
 }
 
 // Marks the outer box of each row by a 1.

@@ -183,7 +183,7 @@ fn place(bytes: &[u8], numbers: &[u16], i: usize) -> usize {
         return wide(bytes[i]);
     }
     if i < numbers.len() {
-        return tables::wide(numbers[i]);
+        return base::wide(numbers[i]);
     }
     65536
 }
@@ -247,19 +247,19 @@ fn show_entry(e: Entry) {
     match e {
         Entry::Granted(k) => {
             io::write_all(STDOUT_FILENO, b"granted");
-            print(tables::wide(k));
+            print(base::wide(k));
         }
         Entry::Denied(k) => {
             io::write_all(STDOUT_FILENO, b"denied");
-            print(tables::wide(k));
+            print(base::wide(k));
         }
         Entry::Default => {
             io::write_all(STDOUT_FILENO, b"default");
         }
         Entry::Unclear(p, n) => {
             io::write_all(STDOUT_FILENO, b"unclear");
-            print(tables::wide(p));
-            print(tables::wide(n));
+            print(base::wide(p));
+            print(base::wide(n));
         }
     }
 }
@@ -333,8 +333,8 @@ fn show_seen(seen: Seen) {
             io::write_all(STDOUT_FILENO, b"block");
             print(wide(head.kind));
             print(wide(head.byte1));
-            print(tables::wide(head.number));
-            print(tables::wide(head.count));
+            print(base::wide(head.number));
+            print(base::wide(head.count));
             print(wide(head.byte6));
             print(wide(head.byte7));
         }

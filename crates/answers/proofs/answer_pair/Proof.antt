@@ -4,7 +4,7 @@ use Prim.Native.Nat.{ℕ, _≤_}
 use native.Mathlib.Omega.{arith}
 use borrow.Author.Needs.{needs}
 use lib.ListN.{length}
-use Rattle.tables.proofs.PartLaws.{part-is, part-length, part-within}
+use Rattle.base.proofs.PartLaws.{part-is, part-length, part-within}
 use Rattle.answers.specs.Among.{reaching}
 use Rattle.answers.specs.Meaning.{positive, negative}
 use Rattle.answers.proofs.AmongLaws.{reaching-most, reaching-numbers}

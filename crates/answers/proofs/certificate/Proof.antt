@@ -5,7 +5,7 @@ use native.Mathlib.Omega.{arith}
 use borrow.Author.Count.{below-more}
 use borrow.Author.Needs.{needs}
 use lib.ListN.{length, getD}
-use Rattle.tables.proofs.Tests.{true-T, false-not}
+use Rattle.base.proofs.Tests.{true-T, false-not}
 use Rattle.answers.specs.Among.{NoneBefore, wins}
 use Rattle.answers.proofs.certificate.Statement.{statement}
 use Rattle.answers.proofs.certificate.Tie as tie

@@ -5,8 +5,8 @@ use native.Mathlib.Omega.{arith}
 use borrow.Author.Needs.{needs}
 use lib.ListN.{length}
 use Rattle.tables.specs.Atoms.{pairCount}
-use Rattle.tables.specs.Buffers.{build, written}
-use Rattle.tables.proofs.PartLaws.{built-none, built-length, built-more}
+use Rattle.base.specs.Buffers.{build, written}
+use Rattle.base.proofs.PartLaws.{built-none, built-length, built-more}
 use Rattle.answers.specs.Pairs.{byteAt, numberAt, matrixBytes, matrixNumbers}
 use Rattle.answers.proofs.TableLaws.{tabled-pairs}
 use Rattle.answers.proofs.fill_pairs.Statement.{statement}

@@ -4,8 +4,8 @@ use Prim.Native.Nat.{_*_, _-_, _≤_}
 use native.Mathlib.Omega.{arith}
 use borrow.Author.Needs.{needs}
 use lib.ListN.{length}
-use Rattle.tables.specs.Buffers.{build, written}
-use Rattle.tables.proofs.PartLaws.{built-none, built-length, built-more}
+use Rattle.base.specs.Buffers.{build, written}
+use Rattle.base.proofs.PartLaws.{built-none, built-length, built-more}
 use Rattle.answers.specs.Table.{setWord, setWords, setCount}
 use Rattle.answers.proofs.fill_table.Statement.{statement}
 use Rattle.answers.proofs.fill_table.Tie as tie

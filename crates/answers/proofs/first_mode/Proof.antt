@@ -5,9 +5,9 @@ use Prim.Native.Nat.{_-_, _≤_}
 use native.Mathlib.Omega.{arith}
 use borrow.Author.Needs.{needs}
 use Rattle.tables.specs.Refusals.{verdictOf}
-use Rattle.tables.specs.Search.{first}
+use Rattle.base.specs.Search.{first}
 use Rattle.tables.proofs.Verdicts.{passed, refused}
-use Rattle.tables.proofs.SearchLaws.{first-zero, first-more, first-here}
+use Rattle.base.proofs.SearchLaws.{first-zero, first-more, first-here}
 use Rattle.answers.specs.Pairs.{unclearFault, anyUnclear}
 use Rattle.answers.proofs.first_mode.Statement.{statement}
 use Rattle.answers.proofs.first_mode.Tie as tie

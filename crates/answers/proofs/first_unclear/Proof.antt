@@ -5,9 +5,9 @@ use Prim.Native.Nat.{_*_, _-_, _≤_}
 use native.Mathlib.Omega.{arith}
 use borrow.Author.Needs.{needs}
 use lib.ListN.{length}
-use Rattle.tables.specs.Search.{first}
+use Rattle.base.specs.Search.{first}
 use Rattle.tables.specs.Atoms.{pairCount}
-use Rattle.tables.proofs.SearchLaws.{first-zero, first-more, first-here}
+use Rattle.base.proofs.SearchLaws.{first-zero, first-more, first-here}
 use Rattle.answers.specs.Pairs.{answerAt}
 use Rattle.answers.specs.Meaning.{isUnclear}
 use Rattle.answers.proofs.PairLaws.{unclearAt, unclear-none, unclear-some, unclear-is}

@@ -7,7 +7,7 @@ use native.Mathlib.Omega.{arith}
 use borrow.Author.Needs.{needs}
 use lib.ListN.{length}
 use Rattle.tables.specs.Rows.{arrowCount}
-use Rattle.tables.proofs.BufferLaws.{Selected, selected-none, selected-length, selected-most, selected-yes, selected-no}
+use Rattle.base.proofs.BufferLaws.{Selected, selected-none, selected-length, selected-most, selected-yes, selected-no}
 use Rattle.answers.specs.Meaning.{hasMode, hits}
 use Rattle.answers.specs.Among.{reaching}
 use Rattle.answers.proofs.gather.Statement.{statement}

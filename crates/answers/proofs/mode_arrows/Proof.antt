@@ -8,7 +8,7 @@ use borrow.Author.Needs.{needs}
 use lib.ListN.{length}
 use lib.Dec.{eqb}
 use Rattle.tables.specs.Rows.{arrowCount}
-use Rattle.tables.proofs.BufferLaws.{Selected, selected-none, selected-length, selected-most, selected-yes, selected-no}
+use Rattle.base.proofs.BufferLaws.{Selected, selected-none, selected-length, selected-most, selected-yes, selected-no}
 use Rattle.answers.specs.Meaning.{hasMode, modeArrows}
 use Rattle.answers.proofs.mode_arrows.Statement.{statement}
 use Rattle.answers.proofs.mode_arrows.Tie as tie

@@ -1,5 +1,5 @@
 -- `answers::no_boxes` meets its contract: 256 zeros. Assumes nothing.
-use Rattle.tables.proofs.BufferLaws.{zeros-is}
+use Rattle.base.proofs.BufferLaws.{zeros-is}
 use Rattle.answers.proofs.no_boxes.Statement.{statement}
 use Rattle.answers.proofs.no_boxes.Tie as tie
 

@@ -1,5 +1,5 @@
 -- `answers::no_numbers` meets its contract: 512 zeros. Assumes nothing.
-use Rattle.tables.proofs.BufferLaws.{zeros-is}
+use Rattle.base.proofs.BufferLaws.{zeros-is}
 use Rattle.answers.proofs.no_numbers.Statement.{statement}
 use Rattle.answers.proofs.no_numbers.Tie as tie
 

@@ -1,5 +1,5 @@
 -- `answers::no_words` meets its contract: 6,272 zeros. Assumes nothing.
-use Rattle.tables.proofs.BufferLaws.{zeros-is}
+use Rattle.base.proofs.BufferLaws.{zeros-is}
 use Rattle.answers.proofs.no_words.Statement.{statement}
 use Rattle.answers.proofs.no_words.Tie as tie
 

@@ -8,7 +8,7 @@ use borrow.Author.Needs.{needs}
 use lib.ListN.{length, getD}
 use lib.Dec.{T}
 use Rattle.tables.specs.Rows.{arrowAt}
-use Rattle.tables.proofs.Tests.{true-T}
+use Rattle.base.proofs.Tests.{true-T}
 use Rattle.answers.specs.Meaning.{overrides}
 use Rattle.answers.proofs.AmongLaws.{all-yes, all-no}
 use Rattle.answers.proofs.overrides_all.Statement.{statement}

@@ -3,7 +3,7 @@ use native.Mathlib.Omega.{arith}
 use borrow.Author.Needs.{needs}
 use Rattle.tables.specs.Rows.{user, file}
 use Rattle.tables.proofs.AtomPlaces.{atoms-most}
-use Rattle.tables.proofs.PartLaws.{part-is, part-length}
+use Rattle.base.proofs.PartLaws.{part-is, part-length}
 use Rattle.answers.proofs.ReadyLaws.{boxes-within}
 use Rattle.answers.proofs.TableLaws.{source, sets-fit}
 use Rattle.answers.proofs.tabulate.Statement.{statement}

@@ -4,7 +4,7 @@ use mathlib.Core.Path.{_≡_, refl, sym, _∙_}
 use Prim.Native.Nat.{_≤_, _-_}
 use native.Mathlib.Omega.{arith}
 use borrow.Author.Needs.{needs}
-use Rattle.tables.proofs.SearchLaws.{first-zero}
+use Rattle.base.proofs.SearchLaws.{first-zero}
 use Rattle.tables.proofs.Verdicts.{passed, refused}
 use Rattle.blocks.specs.Files.{boxesIn, containmentsIn, arrowsIn, blockAt, blockCount, blocksFault}
 use Rattle.blocks.specs.Blocks.{joined}

@@ -3,7 +3,8 @@ use mathlib.Core.Path.{sym, _∙_}
 use native.Mathlib.Omega.{arith}
 use borrow.Author.Needs.{needs}
 use Rattle.tables.proofs.TableLaws.{counts-passed}
-use Rattle.tables.proofs.Verdicts.{passed, refused, past, stop, either-three}
+use Rattle.tables.proofs.Verdicts.{passed, refused, either-three}
+use Rattle.base.proofs.Options.{past, stop}
 use Rattle.blocks.specs.Reads.{tablesFault}
 use Rattle.blocks.proofs.check_tables.Statement.{statement}
 use Rattle.blocks.proofs.check_tables.Tie as tie

@@ -4,8 +4,8 @@ use Prim.Native.Nat.{_<_, _≤_, _-_}
 use native.Mathlib.Omega.{arith}
 use lib.ListN.{length}
 use borrow.Author.Needs.{needs}
-use Rattle.tables.specs.Buffers.{written}
-use Rattle.tables.proofs.BufferLaws.{written-none}
+use Rattle.base.specs.Buffers.{written}
+use Rattle.base.proofs.BufferLaws.{written-none}
 use Rattle.blocks.specs.Blocks.{boxesSaid, containmentsSaid, arrowsSaid, joined}
 use Rattle.blocks.specs.Reads.{countsIn}
 use Rattle.blocks.specs.Files.{blockAt, blockCount, boxesIn, containmentsIn, arrowsIn}

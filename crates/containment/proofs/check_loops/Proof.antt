@@ -8,7 +8,7 @@ use borrow.Author.Needs.{needs}
 use lib.ListN.{length}
 use Rattle.containment.specs.Contains.{contains, loopFault}
 use Rattle.tables.specs.Refusals.{inItself, verdictOf}
-use Rattle.tables.proofs.SearchLaws.{Searched, search-none, search-more, search-here}
+use Rattle.base.proofs.SearchLaws.{Searched, search-none, search-more, search-here}
 use Rattle.containment.proofs.check_loops.Statement.{statement}
 use Rattle.containment.proofs.check_loops.Tie as tie
 

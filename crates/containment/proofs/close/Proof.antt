@@ -7,7 +7,7 @@ use native.Mathlib.Omega.{arith}
 use borrow.Author.Needs.{needs}
 use lib.ListN.{length}
 use Rattle.containment.specs.Steps.{Cells, SameFrom, rounds}
-use Rattle.containment.proofs.Index.{row-step}
+use Rattle.base.proofs.Index.{row-step}
 use Rattle.containment.proofs.StepLaws.{same-trans, copied}
 use Rattle.containment.proofs.close.Statement.{statement}
 use Rattle.containment.proofs.close.Tie as tie

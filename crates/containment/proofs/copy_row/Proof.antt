@@ -6,8 +6,8 @@ use native.Mathlib.Omega.{arith}
 use borrow.Author.Needs.{needs}
 use lib.ListN.{length, getD}
 use Rattle.containment.specs.Steps.{rowFrom}
-use Rattle.tables.specs.Buffers.{build, written}
-use Rattle.tables.proofs.PartLaws.{built-none, built-more}
+use Rattle.base.specs.Buffers.{build, written}
+use Rattle.base.proofs.PartLaws.{built-none, built-more}
 use Rattle.containment.proofs.copy_row.Statement.{statement}
 use Rattle.containment.proofs.copy_row.Tie as tie
 

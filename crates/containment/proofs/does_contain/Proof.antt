@@ -2,7 +2,7 @@
 use Prim.Native.Nat.{_+_, _*_, _<_}
 use native.Mathlib.Omega.{arith}
 use lib.ListN.{length}
-use Rattle.containment.proofs.Index.{in-table}
+use Rattle.base.proofs.Index.{in-table}
 use Rattle.containment.proofs.DrawnLaws.{drawn-test}
 use Rattle.containment.proofs.does_contain.Statement.{statement}
 use Rattle.containment.proofs.does_contain.Tie as tie

@@ -7,7 +7,7 @@ use borrow.Author.Needs.{needs}
 use lib.ListN.{length}
 use Rattle.tables.specs.Rows.{rowCount, rowAt}
 use Rattle.tables.specs.Steps.{SoundRows}
-use Rattle.tables.proofs.BufferLaws.{zeros-length}
+use Rattle.base.proofs.BufferLaws.{zeros-length}
 use Rattle.containment.proofs.StepLaws.{fill-passes}
 use Rattle.containment.proofs.fill.Statement.{statement}
 use Rattle.containment.proofs.fill.Tie as tie

@@ -9,7 +9,7 @@ use Rattle.tables.specs.Rows.{rowCount, rowAt}
 use Rattle.containment.specs.Contains.{direct}
 use Rattle.containment.specs.Steps.{over}
 use Rattle.tables.proofs.RowLaws.{rows-end}
-use Rattle.containment.proofs.Index.{in-table}
+use Rattle.base.proofs.Index.{in-table}
 use Rattle.containment.proofs.StepLaws.{Marked, mark-turn}
 use Rattle.containment.proofs.mark.Statement.{statement}
 use Rattle.containment.proofs.mark.Tie as tie

@@ -5,7 +5,7 @@ use native.Mathlib.Omega.{arith}
 use borrow.Author.Count.{below-more}
 use borrow.Author.Needs.{needs}
 use lib.ListN.{length, getD}
-use Rattle.containment.proofs.Index.{in-table}
+use Rattle.base.proofs.Index.{in-table}
 use Rattle.containment.proofs.next_outer.Statement.{statement}
 use Rattle.containment.proofs.next_outer.Tie as tie
 

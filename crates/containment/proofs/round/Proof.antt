@@ -4,7 +4,7 @@ use Prim.Native.Nat.{_+_, _*_, _-_, _<_, _≤_}
 use native.Mathlib.Omega.{arith}
 use borrow.Author.Needs.{needs}
 use lib.ListN.{length, getD}
-use Rattle.containment.proofs.Index.{row-step}
+use Rattle.base.proofs.Index.{row-step}
 use Rattle.containment.proofs.StepLaws.{Turned, turned-none, round-yes, round-skip}
 use Rattle.containment.proofs.round.Statement.{statement}
 use Rattle.containment.proofs.round.Tie as tie

@@ -10,7 +10,7 @@ use Rattle.tables.specs.Refusals.{verdictOf}
 use Rattle.tables.specs.Steps.{SoundRows}
 use Rattle.tables.specs.declared.Verdict.the-variants.{Passed}
 use Rattle.tables.proofs.AtomPlaces.{atoms-most}
-use Rattle.tables.proofs.PartLaws.{part-is, part-length, part-within}
+use Rattle.base.proofs.PartLaws.{part-is, part-length, part-within}
 use Rattle.tables.proofs.TableLaws.{sound-rows}
 use Rattle.tables.proofs.Verdicts.{passed}
 use Rattle.headings.specs.Calls.{headingRooms}

@@ -6,9 +6,9 @@ use native.Mathlib.Omega.{arith}
 use borrow.Author.Needs.{needs}
 use lib.ListN.{length, getD, length-set}
 use lib.Seq.{ext-getD}
-use Rattle.tables.specs.Buffers.{build, written}
-use Rattle.tables.proofs.BufferLaws.{build-length, build-at}
-use Rattle.tables.proofs.PartLaws.{built-none, built-more}
+use Rattle.base.specs.Buffers.{build, written}
+use Rattle.base.proofs.BufferLaws.{build-length, build-at}
+use Rattle.base.proofs.PartLaws.{built-none, built-more}
 use Rattle.headings.proofs.copy.Statement.{statement}
 use Rattle.headings.proofs.copy.Tie as tie
 

@@ -1,5 +1,5 @@
 -- `headings::no_boxes` meets its contract: 256 zeros. Assumes nothing.
-use Rattle.tables.proofs.BufferLaws.{zeros-is}
+use Rattle.base.proofs.BufferLaws.{zeros-is}
 use Rattle.headings.proofs.no_boxes.Statement.{statement}
 use Rattle.headings.proofs.no_boxes.Tie as tie
 

@@ -1,7 +1,7 @@
 -- `listing::start` meets its contract: no line is before the first. Assumes nothing.
 use mathlib.Core.Path.{refl, sym}
 use native.Mathlib.Omega.{arith}
-use Rattle.tables.proofs.PartLaws.{part-is}
+use Rattle.base.proofs.PartLaws.{part-is}
 use Rattle.listing.specs.Numbered.{usedModes}
 use Rattle.listing.proofs.LineLaws.{seen-none}
 use borrow.Author.Needs.{needs}

@@ -3,7 +3,7 @@ use mathlib.Core.Path.{_≡_, refl, _∙_, sym}
 use mathlib.Core.Logic.{⊎-elim}
 use Prim.Native.Nat.{_-_, _≤_, _<_}
 use lib.ListN.{length}
-use Rattle.tables.proofs.BufferLaws.{Selected, selected-none, selected-length, selected-most, selected-yes, selected-no}
+use Rattle.base.proofs.BufferLaws.{Selected, selected-none, selected-length, selected-most, selected-yes, selected-no}
 use Rattle.listing.specs.Listing.{used}
 use Rattle.listing.specs.Numbered.{usedModes}
 use native.Mathlib.Omega.{arith}

@@ -2,7 +2,7 @@
 use mathlib.Core.Path.{_≡_}
 use Prim.Native.Nat.{_+_, _-_, _*_, _/_, _%_, _<_, _≤_}
 use native.Mathlib.Omega.{arith}
-use Rattle.containment.proofs.Index.{place, next-row}
+use Rattle.base.proofs.Index.{place, next-row}
 use Rattle.lists.specs.Steps.{touches, NoStop}
 use Rattle.lists.proofs.StepLaws.{no-stop-row}
 use Rattle.lists.proofs.PlaceLaws.{cell-of, row-small}

@@ -6,9 +6,9 @@ use native.Mathlib.Omega.{arith}
 use borrow.Author.Needs.{needs}
 use lib.ListN.{length, set, length-set}
 use Rattle.lists.specs.Calls.{blanks}
-use Rattle.tables.specs.Buffers.{written}
+use Rattle.base.specs.Buffers.{written}
 use Rattle.lists.proofs.StepLaws.{written-same}
-use Rattle.tables.proofs.BufferLaws.{written-none}
+use Rattle.base.proofs.BufferLaws.{written-none}
 use Rattle.lists.proofs.blank.Statement.{statement}
 use Rattle.lists.proofs.blank.Tie as tie
 

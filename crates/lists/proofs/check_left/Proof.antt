@@ -7,7 +7,7 @@ use lib.Dec.{eqb}
 use lib.ListN.{length, getD}
 use Rattle.tables.specs.Atoms.{pairCount}
 use Rattle.tables.specs.Refusals.{noOrder, verdictOf}
-use Rattle.tables.proofs.SearchLaws.{Searched, search-none, search-more, search-here}
+use Rattle.base.proofs.SearchLaws.{Searched, search-none, search-more, search-here}
 use Rattle.answers.specs.Pairs.{userAt, fileAt}
 use Rattle.answers.proofs.PairLaws.{pairs-are, pairs-fit}
 use Rattle.lists.specs.Steps.{leftIn}

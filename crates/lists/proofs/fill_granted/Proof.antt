@@ -8,7 +8,7 @@ use lib.ListN.{length}
 use Rattle.tables.specs.Atoms.{pairCount}
 use Rattle.tables.specs.Refusals.{verdictOf}
 use Rattle.tables.proofs.Verdicts.{passed}
-use Rattle.tables.proofs.SearchLaws.{some-none}
+use Rattle.base.proofs.SearchLaws.{some-none}
 use Rattle.answers.proofs.TableLaws.{tabled-pairs}
 use Rattle.lists.proofs.FillLaws.{Filling, filling-none, filling-length, filling-next, filling-unclear, filling-done}
 use Rattle.lists.proofs.fill_granted.Statement.{statement}

@@ -1,6 +1,6 @@
 -- `lists::granted_byte` meets its contract: the number is below 65,535 or it is 65,535. Assumes nothing.
 use borrow.Author.Tests.{lt-ltb, le-ltb}
-use Rattle.tables.proofs.Bits.{bit-is}
+use Rattle.base.proofs.Bits.{bit-is}
 use Rattle.lists.proofs.granted_byte.Statement.{statement}
 use Rattle.lists.proofs.granted_byte.Tie as tie
 

@@ -7,10 +7,10 @@ use native.Mathlib.Omega.{arith}
 use borrow.Author.Needs.{needs}
 use lib.ListN.{length}
 use Rattle.tables.specs.Atoms.{pairCount}
-use Rattle.tables.specs.Buffers.{written, zeros}
+use Rattle.base.specs.Buffers.{written, zeros}
 use Rattle.tables.proofs.Verdicts.{passed, refused}
 use Rattle.tables.proofs.AtomSides.{pairs-most}
-use Rattle.tables.proofs.BufferLaws.{zeros-length}
+use Rattle.base.proofs.BufferLaws.{zeros-length}
 use Rattle.answers.specs.Pairs.{unclearFault}
 use Rattle.answers.proofs.TableLaws.{tabled-pairs, few-users, few-files, laid}
 use Rattle.lists.specs.Steps.{leftIn, workOf}

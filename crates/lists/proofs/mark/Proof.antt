@@ -4,7 +4,7 @@ use Prim.Native.Nat.{_-_, _*_, _≤_}
 use native.Mathlib.Nat.{zero-mul}
 use native.Mathlib.Omega.{arith}
 use lib.ListN.{length}
-use Rattle.tables.proofs.PartLaws.{built-none}
+use Rattle.base.proofs.PartLaws.{built-none}
 use Rattle.lists.specs.Steps.{touches, markedTo}
 use Rattle.lists.proofs.StepLaws.{marked-length}
 use Rattle.lists.proofs.PlaceLaws.{rows-fit}

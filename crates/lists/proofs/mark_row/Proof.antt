@@ -7,8 +7,8 @@ use native.Mathlib.Omega.{arith}
 use borrow.Author.Tests.{not-true, not-false}
 use lib.ListN.{length, length-set}
 use borrow.Author.Needs.{needs}
-use Rattle.tables.proofs.Tests.{true-T}
-use Rattle.containment.proofs.Index.{next-row}
+use Rattle.base.proofs.Tests.{true-T}
+use Rattle.base.proofs.Index.{next-row}
 use Rattle.lists.specs.Steps.{touches, markedTo}
 use Rattle.lists.proofs.StepLaws.{stops-open, mark-turn, mark-passed}
 use Rattle.lists.proofs.PlaceLaws.{row-end, row-small, untouched}

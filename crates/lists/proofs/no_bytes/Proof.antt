@@ -1,5 +1,5 @@
 -- `lists::no_bytes` meets its contract: 16,384 zeros. Assumes nothing.
-use Rattle.tables.proofs.BufferLaws.{zeros-is}
+use Rattle.base.proofs.BufferLaws.{zeros-is}
 use Rattle.lists.proofs.no_bytes.Statement.{statement}
 use Rattle.lists.proofs.no_bytes.Tie as tie
 

@@ -1,5 +1,5 @@
 -- `lists::no_places` meets its contract: 512 zeros. Assumes nothing.
-use Rattle.tables.proofs.BufferLaws.{zeros-is}
+use Rattle.base.proofs.BufferLaws.{zeros-is}
 use Rattle.lists.proofs.no_places.Statement.{statement}
 use Rattle.lists.proofs.no_places.Tie as tie
 

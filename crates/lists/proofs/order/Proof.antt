@@ -5,8 +5,8 @@ use native.Mathlib.Omega.{arith}
 use borrow.Author.Needs.{needs}
 use lib.ListN.{length, getD}
 use Rattle.tables.specs.Atoms.{pairCount}
-use Rattle.tables.specs.Buffers.{build, written}
-use Rattle.tables.proofs.BufferLaws.{zeros-length}
+use Rattle.base.specs.Buffers.{build, written}
+use Rattle.base.proofs.BufferLaws.{zeros-length}
 use Rattle.answers.specs.Among.{FirstAt}
 use Rattle.lists.specs.Steps.{touches, followsAt, marked}
 use Rattle.lists.proofs.TurnLaws.{Growing, Given, growing-none, growing-out, growing-work, growing-room, growing-next, growing-done}

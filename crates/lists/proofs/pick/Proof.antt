@@ -6,7 +6,7 @@ use borrow.Author.Count.{below-none, below-more}
 use borrow.Author.Needs.{needs}
 use lib.Dec.{T}
 use lib.ListN.{length}
-use Rattle.tables.proofs.Tests.{true-T, false-not}
+use Rattle.base.proofs.Tests.{true-T, false-not}
 use Rattle.lists.specs.Steps.{touches, followsAt, Behind, ownSign, nothing}
 use Rattle.lists.proofs.pick.Statement.{statement}
 use Rattle.lists.proofs.pick.Tie as tie

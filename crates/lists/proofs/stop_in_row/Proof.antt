@@ -4,7 +4,7 @@ use Prim.Native.Nat.{_-_, _*_, _≤_}
 use native.Mathlib.Omega.{arith}
 use borrow.Author.Tests.{not-true, not-false}
 use borrow.Author.Needs.{needs}
-use Rattle.tables.proofs.Tests.{true-T, false-not}
+use Rattle.base.proofs.Tests.{true-T, false-not}
 use Rattle.lists.specs.Steps.{touches, StopIn}
 use Rattle.lists.proofs.StepLaws.{stop-start, stop-next, stop-found, stop-none}
 use Rattle.lists.proofs.PlaceLaws.{untouched}

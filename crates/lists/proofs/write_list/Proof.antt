@@ -1,6 +1,6 @@
 -- `lists::write_list` meets its contract: the local arrays hold the atomic boxes, the table and the mode's arrows. Assumes nothing.
 use borrow.Author.Needs.{needs}
-use Rattle.tables.proofs.PartLaws.{part-is, part-length}
+use Rattle.base.proofs.PartLaws.{part-is, part-length}
 use Rattle.answers.proofs.ReadyLaws.{mode-within}
 use Rattle.answers.proofs.TableLaws.{users-within, files-within, users-length, files-length, made}
 use Rattle.lists.proofs.ReadyLaws.{drawn-is}

@@ -2,7 +2,7 @@
 use Prim.Native.Nat.{_-_, _≤_}
 use native.Mathlib.Omega.{arith}
 use borrow.Author.Needs.{needs}
-use Rattle.tables.proofs.SearchLaws.{lowest-some}
+use Rattle.base.proofs.SearchLaws.{lowest-some}
 use Rattle.sets.specs.Sets.{has}
 use Rattle.sets.proofs.NextLaws.{Free, free-none, free-end, rest-found, rest-none}
 use Rattle.sets.proofs.next_in.Statement.{statement}

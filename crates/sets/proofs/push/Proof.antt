@@ -1,7 +1,7 @@
 -- `sets::push` meets its contract: the bits go up by one place, and the new one is the lowest. Assumes nothing.
 use native.Mathlib.Nat.{add-zero}
 use borrow.Author.Needs.{needs}
-use Rattle.tables.proofs.Bits.{bit-is}
+use Rattle.base.proofs.Bits.{bit-is}
 use Rattle.sets.proofs.push.Statement.{statement}
 use Rattle.sets.proofs.push.Tie as tie
 

@@ -1,6 +1,6 @@
 -- `sets::share` meets its contract: by its eight words. Assumes nothing.
 use borrow.Author.Needs.{needs}
-use Rattle.tables.proofs.BufferLaws.{build-eight}
+use Rattle.base.proofs.BufferLaws.{build-eight}
 use Rattle.sets.specs.Sets.{shared}
 use Rattle.sets.proofs.share.Statement.{statement}
 use Rattle.sets.proofs.share.Tie as tie

@@ -3,9 +3,9 @@ use mathlib.Core.Path.{_≡_, ap, _∙_}
 use native.Mathlib.Omega.{arith}
 use borrow.Author.Needs.{needs}
 use lib.ListN.{length}
-use Rattle.tables.specs.Search.{bit}
+use Rattle.base.specs.Search.{bit}
 use Rattle.tables.specs.Atoms.{outer}
-use Rattle.tables.proofs.BufferLaws.{zeros-length, zeros-at}
+use Rattle.base.proofs.BufferLaws.{zeros-length, zeros-at}
 use Rattle.tables.proofs.atoms_of.Statement.{statement}
 use Rattle.tables.proofs.atoms_of.Tie as tie
 

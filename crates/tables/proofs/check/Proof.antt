@@ -9,9 +9,10 @@ use Rattle.tables.specs.Faults.{raggedFault, countFault, byteFault, rowF
 use Rattle.tables.specs.Steps.{fails}
 use Rattle.tables.specs.Refusals.{verdictOf}
 use Rattle.tables.specs.Rows.{rowCount, arrowCount}
-use Rattle.tables.specs.Search.{orElse}
+use Rattle.base.specs.Search.{orElse}
 use Rattle.tables.specs.declared.Refusal.{Refusal}
-use Rattle.tables.proofs.Verdicts.{either-verdict, orElse-assoc, refuses, passes}
+use Rattle.tables.proofs.Verdicts.{either-verdict, refuses, passes}
+use Rattle.base.proofs.Options.{orElse-assoc}
 use Rattle.tables.proofs.check.Statement.{statement}
 use Rattle.tables.proofs.check.Tie as tie
 

@@ -10,7 +10,7 @@ use lib.Dec.{ltb}
 use lib.ListN.{length, getD}
 use Rattle.tables.specs.Faults.{byteFault}
 use Rattle.tables.specs.Refusals.{badByte, verdictOf}
-use Rattle.tables.proofs.SearchLaws.{Searched, search-none, search-more, search-here}
+use Rattle.base.proofs.SearchLaws.{Searched, search-none, search-more, search-here}
 use Rattle.tables.proofs.check_bytes.Statement.{statement}
 use Rattle.tables.proofs.check_bytes.Tie as tie
 

@@ -7,7 +7,7 @@ use borrow.Author.Needs.{needs}
 use Rattle.tables.specs.Faults.{rowFault}
 use Rattle.tables.specs.Steps.{fails}
 use Rattle.tables.specs.Refusals.{badRow, verdictOf}
-use Rattle.tables.proofs.SearchLaws.{Searched, search-none, search-more, search-here}
+use Rattle.base.proofs.SearchLaws.{Searched, search-none, search-more, search-here}
 use Rattle.tables.proofs.check_rows.Statement.{statement}
 use Rattle.tables.proofs.check_rows.Tie as tie
 

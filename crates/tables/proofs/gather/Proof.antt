@@ -6,7 +6,7 @@ use native.Mathlib.Omega.{arith}
 use borrow.Author.Needs.{needs}
 use lib.ListN.{length}
 use Rattle.tables.specs.Atoms.{atom, atoms}
-use Rattle.tables.proofs.BufferLaws.{Selected, selected-none, selected-length, selected-most, selected-yes, selected-no}
+use Rattle.base.proofs.BufferLaws.{Selected, selected-none, selected-length, selected-most, selected-yes, selected-no}
 use Rattle.tables.proofs.gather.Statement.{statement}
 use Rattle.tables.proofs.gather.Tie as tie
 

@@ -1,7 +1,7 @@
 -- `tables::is_single` meets its contract: a box that is on the side is there, so that its byte can be read. Assumes nothing.
 use mathlib.Core.Path.{sym, _∙_}
 use borrow.Author.Needs.{needs}
-use Rattle.tables.proofs.Tests.{true-T}
+use Rattle.base.proofs.Tests.{true-T}
 use Rattle.tables.proofs.GroupLaws.{onSide-there}
 use Rattle.tables.proofs.is_single.Statement.{statement}
 use Rattle.tables.proofs.is_single.Tie as tie

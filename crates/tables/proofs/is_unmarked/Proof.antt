@@ -1,7 +1,7 @@
 -- `tables::is_unmarked` meets its contract: the mark of b says whether it is an outer box. Assumes nothing.
 use borrow.Author.Needs.{needs}
 use Rattle.tables.specs.Atoms.{atom}
-use Rattle.tables.proofs.Bits.{bit-none}
+use Rattle.base.proofs.Bits.{bit-none}
 use Rattle.tables.proofs.is_unmarked.Statement.{statement}
 use Rattle.tables.proofs.is_unmarked.Tie as tie
 

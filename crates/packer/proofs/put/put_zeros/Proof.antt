@@ -4,8 +4,8 @@ use Prim.Native.Nat.{_≤_, _-_}
 use native.Mathlib.Omega.{arith}
 use lib.ListN.{length, length-set}
 use lib.Seq.{sets}
-use Rattle.tables.specs.Buffers.{zeros}
-use Rattle.tables.proofs.BufferLaws.{zeros-is}
+use Rattle.base.specs.Buffers.{zeros}
+use Rattle.base.proofs.BufferLaws.{zeros-is}
 use Rattle.packer.proofs.Putting.{zeros-more}
 use borrow.Author.Needs.{needs}
 use Rattle.packer.proofs.put.put_zeros.Statement.{statement}

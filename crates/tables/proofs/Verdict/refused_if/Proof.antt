@@ -1,6 +1,6 @@
 -- `tables::Verdict::refused_if` meets its contract: by the fault given. Assumes nothing.
 use borrow.Author.Needs.{needs}
-use Rattle.tables.specs.Search.{given}
+use Rattle.base.specs.Search.{given}
 use Rattle.tables.proofs.Verdict.refused_if.Statement.{statement}
 use Rattle.tables.proofs.Verdict.refused_if.Tie as tie
 

@@ -1,14 +1,14 @@
--- `tables::clear` meets its contract: the bytes before p are 0. Assumes nothing.
+-- `base::clear` meets its contract: the bytes before p are 0. Assumes nothing.
 use mathlib.Core.List.{List}
 use mathlib.Core.Path.{_≡_, refl, sym, ap, _∙_}
 use Prim.Native.Nat.{ℕ, _-_, _≤_}
 use native.Mathlib.Omega.{arith}
 use borrow.Author.Needs.{needs}
 use lib.ListN.{length, set, length-set}
-use Rattle.tables.specs.Buffers.{written, zeros}
-use Rattle.tables.proofs.BufferLaws.{written-none, written-zeros}
-use Rattle.tables.proofs.clear.Statement.{statement}
-use Rattle.tables.proofs.clear.Tie as tie
+use Rattle.base.specs.Buffers.{written, zeros}
+use Rattle.base.proofs.BufferLaws.{written-none, written-zeros}
+use Rattle.base.proofs.clear.Statement.{statement}
+use Rattle.base.proofs.clear.Tie as tie
 
 abbrev Inv-loop : tie.InvT-loop
 Inv-loop s₀ count p₀ s p = (p ≤ count) × (s ≡ written (zeros p) s₀) × (length s ≡ length s₀)

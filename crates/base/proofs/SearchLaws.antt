@@ -8,8 +8,8 @@ use native.Mathlib.Omega.{arith}
 use native.Mathlib.Numerals.{add-one}
 use native.Mathlib.Nat.{eq-or-lt-of-le, le-of-suc-le-suc}
 use lib.Dec.{T}
-use Rattle.tables.specs.Search.{orElse, given, first, lowest, every}
-use Rattle.tables.proofs.Tests.{and-T, T-and}
+use Rattle.base.specs.Search.{orElse, given, first, lowest, every}
+use Rattle.base.proofs.Tests.{and-T, T-and}
 
 -- below n + 1: n or below n
 pub below-suc : {k n : ℕ} → k < suc n → (k ≡ n) ⊎ (k < n)

@@ -9,8 +9,8 @@ use native.Mathlib.Omega.{arith}
 use native.Mathlib.Nat.{eq-or-lt-of-le, le-of-suc-le-suc}
 use lib.ListN.{length, getD, set, drop, replicate, length-append, length-drop, length-replicate, getD-replicate, replicate-append-replicate, List·getD-append}
 use lib.Seq.{drop-cons, drop-drop, drop-append-add, take-append-seam, set-append-seam, sets, sets-eq, getD-append-add, getD-append-seam, getD-drop}
-use Rattle.tables.specs.Search.{select}
-use Rattle.tables.specs.Buffers.{build, written, zeros}
+use Rattle.base.specs.Search.{select}
+use Rattle.base.specs.Buffers.{build, written, zeros}
 
 length-snoc : (l : List ℕ) (x : ℕ) → length (l ++ (x ∷ [])) ≡ length l + 1
 length-snoc l x = length-append l (x ∷ [])

@@ -9,8 +9,8 @@ use native.Mathlib.Nat.{add-zero, add-suc, zero-mul, suc-mul, mul-add-div-right,
 use native.Mathlib.Numerals.{add-one}
 use lib.ListN.{length, getD, length-append, List·getD-append}
 use lib.Seq.{getD-append-seam}
-use Rattle.tables.specs.Search.{orElse, first, select}
-use Rattle.tables.proofs.Verdicts.{orElse-assoc}
+use Rattle.base.specs.Search.{orElse, first, select}
+use Rattle.base.proofs.Options.{orElse-assoc}
 
 module _ {A : Type 0} (e : A) (op : A → A → A) where
   unfoldable pub fold : (ℕ → A) → ℕ → A

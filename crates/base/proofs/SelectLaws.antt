@@ -11,9 +11,9 @@ use native.Mathlib.Numerals.{add-one}
 use lib.Dec.{T}
 use lib.ListN.{length, getD, length-append, List·getD-append}
 use lib.Seq.{getD-append-seam}
-use Rattle.tables.specs.Search.{given, lowest, select}
-use Rattle.tables.proofs.Tests.{true-T, false-not, not-false, T-true}
-use Rattle.tables.proofs.SearchLaws.{below-suc, first-is, first-nothing, given-true, given-false}
+use Rattle.base.specs.Search.{given, lowest, select}
+use Rattle.base.proofs.Tests.{true-T, false-not, not-false, T-true}
+use Rattle.base.proofs.SearchLaws.{below-suc, first-is, first-nothing, given-true, given-false}
 
 -- one element at the end of a list
 snoc-length : (xs : List ℕ) (y : ℕ) → length (xs ++ (y ∷ [])) ≡ suc (length xs)

@@ -1,0 +1,37 @@
+// What every crate needs and knows nothing of pictures: numbers of 16 bits, and lent places that are cleared.
+ghost use mathlib.Core.Path.{_≡_};
+ghost use Prim.Native.Nat.{_<_, _≤_};
+ghost use lib.ListN.{length};
+ghost use Rattle.base.specs.Buffers.{written, zeros};
+
+// A number of 16 bits as an index.
+pub fn wide(x: u16) -> usize
+    ensures { λ r. ⌜ r ≡ x ⌝ }
+{
+    x as usize
+}
+
+// A number that 16 bits hold.
+pub fn narrow(x: usize) -> u16
+    requires { ⌜ x < 65536 ⌝ }
+    ensures { λ r. ⌜ r ≡ x ⌝ }
+{
+    (x % 65536) as u16
+}
+
+// A byte for each box that a picture can have.
+pub fn zero_bytes() -> [u8; 256]
+    ensures { λ r. ⌜ r ≡ zeros 256 ⌝ }
+{
+    [0u8; 256]
+}
+
+// Sets the first `count` bytes to 0.
+pub fn clear(s: &mut [u8], count: usize)
+    requires { ⌜ count ≤ length (now s) ⌝ }
+    ensures { λ _. ⌜ now (s .exit) ≡ written (zeros count) (now (s .entry)) ⌝ }
+{
+    for p in 0..count {
+        s[p] = 0;
+    }
+}
