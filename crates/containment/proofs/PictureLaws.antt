@@ -5,6 +5,7 @@ use mathlib.Core.Option.{Option, none}
 use Rattle.tables.specs.declared.Refusal.{Refusal}
 use Prim.Native.Nat.{ℕ}
 use lib.ListN.{length}
+use Rattle.tables.specs.Rows.{picture}
 use Rattle.tables.specs.Faults.{tableFault}
 use Rattle.tables.specs.Steps.{SoundRows, SoundArrows}
 use Rattle.tables.proofs.TableLaws.{both-none, sound-rows, sound-arrows}
@@ -18,7 +19,7 @@ pub record Prepared (boxes rows arrows s : List ℕ) : Type 0 where
   pub arrows-sound : SoundArrows boxes arrows
   pub says : Says (length boxes) rows (filled (length boxes) rows s)
 
-pub prepared : (boxes rows arrows s : List ℕ) → tableFault boxes rows arrows ≡ none → scratchFault (length boxes) s ≡ none → Prepared boxes rows arrows s
+pub prepared : (boxes rows arrows s : List ℕ) → tableFault (picture boxes rows arrows) ≡ none → scratchFault (length boxes) s ≡ none → Prepared boxes rows arrows s
 prepared boxes rows arrows s t r = record {
   rows-sound = sound-rows boxes rows arrows t;
   arrows-sound = sound-arrows boxes rows arrows t;
@@ -29,15 +30,15 @@ prepared boxes rows arrows s t r = record {
 pub scratch-filled : (boxes rows s : List ℕ) {fault : Option Refusal} → fault ≡ none → scratchAfter fault boxes rows s ≡ filled (length boxes) rows s
 scratch-filled boxes rows s e = rw e
 
-pub picture-prepared : (boxes rows arrows s : List ℕ) → pictureFault boxes rows arrows s ≡ none → Prepared boxes rows arrows s × (earlyFault boxes rows arrows s ≡ none)
+pub picture-prepared : (boxes rows arrows s : List ℕ) → pictureFault (picture boxes rows arrows) s ≡ none → Prepared boxes rows arrows s × (earlyFault (picture boxes rows arrows) s ≡ none)
 unfolding pictureFault earlyFault
 picture-prepared boxes rows arrows s e =
-    let early = both-none (earlyFault boxes rows arrows s) (loopFault boxes rows) e .0 in
-    let two = both-none (tableFault boxes rows arrows) (scratchFault (length boxes) s) early in
+    let early = both-none (earlyFault (picture boxes rows arrows) s) (loopFault boxes rows) e .0 in
+    let two = both-none (tableFault (picture boxes rows arrows)) (scratchFault (length boxes) s) early in
     (prepared boxes rows arrows s (two .0) (two .1), early)
 
 -- of the scratch, the checks read its length only
 pub picture-room : (boxes rows arrows s t : List ℕ) → length s ≡ length t
-    → pictureFault boxes rows arrows s ≡ pictureFault boxes rows arrows t
+    → pictureFault (picture boxes rows arrows) s ≡ pictureFault (picture boxes rows arrows) t
 unfolding pictureFault earlyFault scratchFault
 picture-room boxes rows arrows s t e = rw e

@@ -8,6 +8,7 @@ use native.Mathlib.Decide.{decLt}
 use native.Mathlib.Omega.{arith}
 use lib.ListN.{length, getD}
 use lib.Seq.{ext-getD}
+use Rattle.tables.specs.Rows.{picture}
 use Rattle.tables.specs.Faults.{tableFault}
 use Rattle.tables.specs.Refusals.{verdictOf}
 use Rattle.tables.specs.declared.Refusal.{Refusal}
@@ -70,21 +71,21 @@ module _ (n : ℕ) (rows s : List ℕ) where
 
 module _ (boxes rows arrows s : List ℕ) where
   abbrev pub Ends : Verdict → List ℕ → Type 0
-  Ends v t = (v ≡ verdictOf (pictureFault boxes rows arrows s)) × (t ≡ scratchAfter (earlyFault boxes rows arrows s) boxes rows s)
+  Ends v t = (v ≡ verdictOf (pictureFault (picture boxes rows arrows) s)) × (t ≡ scratchAfter (earlyFault (picture boxes rows arrows) s) boxes rows s)
 
-  pub ends-tables : (r : Refusal) → verdictOf (tableFault boxes rows arrows) ≡ Refused r → Ends (Refused r) s
+  pub ends-tables : (r : Refusal) → verdictOf (tableFault (picture boxes rows arrows)) ≡ Refused r → Ends (Refused r) s
   unfolding pictureFault earlyFault
   ends-tables r e =
-      let early = stop _ (scratchFault (length boxes) s) (refused (tableFault boxes rows arrows) r e) in
+      let early = stop _ (scratchFault (length boxes) s) (refused (tableFault (picture boxes rows arrows)) r e) in
       (rw (stop _ (loopFault boxes rows) early), rw early)
 
-  pub ends-room : (r : Refusal) → tableFault boxes rows arrows ≡ none → verdictOf (scratchFault (length boxes) s) ≡ Refused r → Ends (Refused r) s
+  pub ends-room : (r : Refusal) → tableFault (picture boxes rows arrows) ≡ none → verdictOf (scratchFault (length boxes) s) ≡ Refused r → Ends (Refused r) s
   unfolding pictureFault earlyFault
   ends-room r f e =
       let early = past _ (scratchFault (length boxes) s) f ∙ refused (scratchFault (length boxes) s) r e in
       (rw (stop _ (loopFault boxes rows) early), rw early)
 
-  pub ends-filled : tableFault boxes rows arrows ≡ none → scratchFault (length boxes) s ≡ none → Ends (verdictOf (loopFault boxes rows)) (filled (length boxes) rows s)
+  pub ends-filled : tableFault (picture boxes rows arrows) ≡ none → scratchFault (length boxes) s ≡ none → Ends (verdictOf (loopFault boxes rows)) (filled (length boxes) rows s)
   unfolding pictureFault earlyFault
   ends-filled f g =
       let early = past _ (scratchFault (length boxes) s) f ∙ g in

@@ -5,7 +5,7 @@ ghost use Prim.Native.Nat.{ℕ, _+_, _*_, _%_, _<_, _≤_};
 ghost use lib.ListN.{length, getD};
 ghost use Rattle.base.specs.Buffers.{written};
 ghost use Rattle.tables.specs.Refusals.{verdictOf};
-ghost use Rattle.tables.specs.Rows.{rowAt, rowCount};
+ghost use Rattle.tables.specs.Rows.{picture, rowAt, rowCount};
 ghost use Rattle.tables.specs.Steps.{SoundRows};
 ghost use Rattle.containment.specs.Contains.{contains, loopFault};
 ghost use Rattle.containment.specs.Scratch.{filled, scratchFault, scratchAfter, earlyFault, pictureFault};
@@ -163,8 +163,8 @@ pub fn check_scratch(boxes: &[u8], scratch: &[u8]) -> Verdict
 
 // Checks 1 to 7, 9 for the scratch, and 10, for a call that asks nothing else before 10.
 pub fn prepare(boxes: &[u8], rows: &[u16], arrows: &[u16], scratch: &mut [u8]) -> Verdict
-    ensures { λ r. ⌜ r ≡ verdictOf (pictureFault (now (boxes .entry)) (now (rows .entry)) (now (arrows .entry)) (now (scratch .entry))) ⌝ }
-    ensures { λ _. ⌜ now (scratch .exit) ≡ scratchAfter (earlyFault (now (boxes .entry)) (now (rows .entry)) (now (arrows .entry)) (now (scratch .entry))) (now (boxes .entry)) (now (rows .entry)) (now (scratch .entry)) ⌝ }
+    ensures { λ r. ⌜ r ≡ verdictOf (pictureFault (picture (now (boxes .entry)) (now (rows .entry)) (now (arrows .entry))) (now (scratch .entry))) ⌝ }
+    ensures { λ _. ⌜ now (scratch .exit) ≡ scratchAfter (earlyFault (picture (now (boxes .entry)) (now (rows .entry)) (now (arrows .entry))) (now (scratch .entry))) (now (boxes .entry)) (now (rows .entry)) (now (scratch .entry)) ⌝ }
 {
     let tables = tables::check(boxes, rows, arrows);
     if let Verdict::Refused(r) = tables {

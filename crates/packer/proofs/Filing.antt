@@ -7,7 +7,7 @@ use native.Mathlib.Omega.{arith}
 use lib.ListN.{length, take, length-append}
 use lib.Seq.{sets}
 use Rattle.base.specs.Buffers.{written}
-use Rattle.tables.specs.Rows.{rowCount, arrowCount}
+use Rattle.tables.specs.Rows.{picture, rowCount, arrowCount}
 use Rattle.tables.specs.Faults.{tableFault, roomFault}
 use Rattle.tables.specs.Refusals.{verdictOf}
 use Rattle.tables.specs.declared.Refusal.{Refusal}
@@ -27,7 +27,7 @@ use Rattle.packer.proofs.Regular.{rows-by-kind, blocks-by-kind, first-b
 
 module _ (boxes rows arrows : List ℕ) where
   -- the blocks of a picture that checks 1 to 7 pass: one of boxes, at most 9 and 7 of the others
-  module _ (sound : verdictOf (tableFault boxes rows arrows) ≡ Passed) (second third : ℕ)
+  module _ (sound : verdictOf (tableFault (picture boxes rows arrows)) ≡ Passed) (second third : ℕ)
       (is₂ : second ≡ blocksFor 125 (rowCount rows)) (is₃ : third ≡ blocksFor 83 (arrowCount arrows)) where
     box-blocks : blocksOf boxes rows arrows 1 ≡ 1
     box-blocks =
@@ -126,12 +126,12 @@ module _ (boxes rows arrows : List ℕ) where
     refused-by r e = (rw e, rw e)
 
     -- refused by checks 1 to 7
-    pub by-tables : (r : Refusal) → verdictOf (tableFault boxes rows arrows) ≡ Stopped r
+    pub by-tables : (r : Refusal) → verdictOf (tableFault (picture boxes rows arrows)) ≡ Stopped r
         → (Refused r ≡ packAnswer boxes rows arrows file) × (file ≡ fileAfter boxes rows arrows file)
     unfolding packFault
     by-tables r e = refused-by r (stop _ _ (refused _ r e))
 
-    module _ (sound : verdictOf (tableFault boxes rows arrows) ≡ Passed) (need : ℕ) (is : need ≡ length (packed boxes rows arrows)) where
+    module _ (sound : verdictOf (tableFault (picture boxes rows arrows)) ≡ Passed) (need : ℕ) (is : need ≡ length (packed boxes rows arrows)) where
       by-nine : packFault boxes rows arrows file ≡ roomFault 8 (length file) need
       unfolding packFault
       by-nine = past _ _ (passed _ sound) ∙ rw (← is)

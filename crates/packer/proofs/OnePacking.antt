@@ -11,6 +11,7 @@ use native.Mathlib.Nat.{zero-add, add-assoc, mul-suc}
 use borrow.Author.Tests.{eqb-true, eqb-false}
 use lib.Dec.{eqb}
 use lib.ListN.{length, getD}
+use Rattle.tables.specs.Rows.{picture}
 use Rattle.tables.specs.Faults.{tableFault}
 use Rattle.blocks.specs.Blocks.{joined}
 use Rattle.blocks.specs.Files.{blockAt, blockCount, fileFault, boxesOf, containmentsOf, arrowsOf}
@@ -196,7 +197,7 @@ pub only-packing : (boxes rows arrows file : List ℕ) → ((i : ℕ) → getD f
 only-packing boxes rows arrows file small good regular b r a = sym (one-packing file small good regular) ∙ rw (b, r, a)
 
 -- P1, both ways: the regular packing of a picture that checks 1 to 7 pass is its packed file, and nothing else
-pub regular-packing : (boxes rows arrows : List ℕ) → tableFault boxes rows arrows ≡ none
+pub regular-packing : (boxes rows arrows : List ℕ) → tableFault (picture boxes rows arrows) ≡ none
     → (file : List ℕ) → RegularPacking boxes rows arrows file ↔ (file ≡ packed boxes rows arrows)
 regular-packing boxes rows arrows sound file = (
   λ p. only-packing boxes rows arrows file (p .bytes) (p .good) (p .regular) (p .says-boxes) (p .says-containments) (p .says-arrows),

@@ -5,7 +5,7 @@ use mathlib.Core.Option.{none}
 use Prim.Native.Nat.{ℕ, zero, suc, _+_, _*_, _-_, _/_, _%_, _<_, _≤_}
 use native.Mathlib.Omega.{arith}
 use lib.ListN.{length, getD, replicate}
-use Rattle.tables.specs.Rows.{rowCount, rowAt, arrowCount, arrowAt}
+use Rattle.tables.specs.Rows.{picture, rowCount, rowAt, arrowCount, arrowAt}
 use Rattle.tables.specs.Faults.{tableFault}
 use Rattle.tables.specs.Steps.{SoundRows, SoundArrows}
 use Rattle.base.proofs.BufferLaws.{zeros-is}
@@ -69,7 +69,7 @@ of-block kind number count records k n c r =
     (both-bytes _ _ (joined-bytes records count r) (rw (← zeros-is) (zero-bytes (500 - recordSize kind * count)))))
     (of-32 _ (check-small _))
 
-module _ (boxes rows arrows : List ℕ) (sound : tableFault boxes rows arrows ≡ none) where
+module _ (boxes rows arrows : List ℕ) (sound : tableFault (picture boxes rows arrows) ≡ none) where
   the-rows : SoundRows boxes rows
   the-rows = sound-rows boxes rows arrows sound
 

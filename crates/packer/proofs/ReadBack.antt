@@ -7,7 +7,7 @@ use Prim.Native.Nat.{ℕ, _<_, _≤_}
 use native.Mathlib.Omega.{arith}
 use lib.ListN.{length}
 use Rattle.base.specs.Buffers.{written}
-use Rattle.tables.specs.Rows.{rowCount, arrowCount}
+use Rattle.tables.specs.Rows.{picture, rowCount, arrowCount}
 use Rattle.tables.specs.Faults.{tableFault}
 use Rattle.tables.proofs.TableLaws.{room-enough, counts-few, sound-rows, sound-arrows}
 use Rattle.blocks.specs.Files.{fileFault, containmentsIn, arrowsIn, boxesOf, containmentsOf, arrowsOf}
@@ -20,7 +20,7 @@ use Rattle.blocks.proofs.MadeBlocks.{counts-in, tables-passed}
 use Rattle.packer.specs.Packed.{packed}
 use Rattle.packer.proofs.PackedBlocks.{blocks, blocksAll, packed-is, blocks-whole, blocks-good, blocks-few, boxes-packed, containments-packed, arrows-packed}
 
-module _ (boxes rows arrows : List ℕ) (sound : tableFault boxes rows arrows ≡ none) where
+module _ (boxes rows arrows : List ℕ) (sound : tableFault (picture boxes rows arrows) ≡ none) where
   few : (0 < blocksAll boxes rows arrows) × (blocksAll boxes rows arrows ≤ 17)
   few =
       let r = sound-rows boxes rows arrows sound in
@@ -83,7 +83,7 @@ module _ (boxes rows arrows : List ℕ) (sound : tableFault boxes rows arrows �
       )
 
 -- P1: two pictures have the same packed bytes only if their tables are equal
-pub same-bytes : (boxes rows arrows boxes' rows' arrows' : List ℕ) → tableFault boxes rows arrows ≡ none → tableFault boxes' rows' arrows' ≡ none
+pub same-bytes : (boxes rows arrows boxes' rows' arrows' : List ℕ) → tableFault (picture boxes rows arrows) ≡ none → tableFault (picture boxes' rows' arrows') ≡ none
     → packed boxes rows arrows ≡ packed boxes' rows' arrows' → (boxes ≡ boxes') × (rows ≡ rows') × (arrows ≡ arrows')
 same-bytes boxes rows arrows boxes' rows' arrows' s s' e = (
   sym (packed-boxes boxes rows arrows s) ∙ ap boxesOf e ∙ packed-boxes boxes' rows' arrows' s',

@@ -8,7 +8,7 @@ ghost use Rattle.base.specs.Search.{given};
 ghost use Rattle.base.specs.Buffers.{written};
 ghost use Rattle.tables.specs.Atoms.{outer, atom, atoms};
 ghost use Rattle.tables.specs.Steps.{Marks, fails, rowsFor, SoundRows};
-ghost use Rattle.tables.specs.Rows.{sideOf, isGroup, onSide, rowAt, rowCount, arrowAt, arrowCount};
+ghost use Rattle.tables.specs.Rows.{picture, sideOf, isGroup, onSide, rowAt, rowCount, arrowAt, arrowCount};
 ghost use Rattle.tables.specs.Refusals.{refusal, verdictOf, either};
 ghost use Rattle.tables.specs.Faults.{raggedFault, countFault, byteFault, namesNoBox, acrossSides, wrongEnds, wrongMode, rowFault, tableFault, modeFault, roomFault};
 use base::narrow;
@@ -256,7 +256,7 @@ fn check_rows(check: u8, boxes: &[u8], table: &[u16], count: usize) -> Verdict
 
 // Checks 1 to 7. Tables of the wrong shape are refused by their lengths alone.
 pub fn check(boxes: &[u8], rows: &[u16], arrows: &[u16]) -> Verdict
-    ensures { λ r. ⌜ r ≡ verdictOf (tableFault (now (boxes .entry)) (now (rows .entry)) (now (arrows .entry))) ⌝ }
+    ensures { λ r. ⌜ r ≡ verdictOf (tableFault (picture (now (boxes .entry)) (now (rows .entry)) (now (arrows .entry)))) ⌝ }
 {
     let shape = check_ragged(rows.len(), arrows.len()).or_else(check_counts(
         boxes.len(),

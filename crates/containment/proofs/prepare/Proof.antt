@@ -4,6 +4,7 @@ use mathlib.Core.Option.{none}
 use borrow.Author.Needs.{needs}
 use lib.ListN.{length}
 use Rattle.containment.specs.Scratch.{scratchFault}
+use Rattle.tables.specs.Rows.{picture}
 use Rattle.tables.specs.Faults.{tableFault}
 use Rattle.tables.specs.Steps.{SoundRows}
 use Rattle.tables.proofs.Verdicts.{passed}
@@ -22,7 +23,7 @@ module _ (c : tie.After-enum-told) where
   abbrev start : tie.Start
   start = c .before .before .before .before .before .before .before
 
-  tabled : tableFault (start .args .boxes .now) (start .args .rows .now) (start .args .arrows .now) ≡ none
+  tabled : tableFault (picture (start .args .boxes .now) (start .args .rows .now) (start .args .arrows .now)) ≡ none
   tabled = passed _ (sym (c .before .before .check .ensures) ∙ c .enum-told .given .1)
 
   sound : SoundRows (start .args .boxes .now) (start .args .rows .now)

@@ -3,6 +3,7 @@ use mathlib.Core.Path.{_≡_, sym, _∙_}
 use Prim.Native.Nat.{_+_, _*_, _≤_}
 use lib.ListN.{length}
 use lib.Seq.{length-sets}
+use Rattle.tables.specs.Rows.{picture}
 use Rattle.tables.specs.Faults.{tableFault, roomFault}
 use Rattle.tables.specs.Refusals.{verdictOf}
 use Rattle.tables.specs.declared.Verdict.the-variants.{Passed}
@@ -17,7 +18,7 @@ use Rattle.packer.proofs.pack.Statement.{statement}
 use Rattle.packer.proofs.pack.Tie as tie
 
 -- what each stage found
-tabled : (c : tie.After-enum-told) → let a = c .before .before .before .before .before .before .before .args in verdictOf (tableFault (a .boxes .now) (a .rows .now) (a .arrows .now)) ≡ Passed
+tabled : (c : tie.After-enum-told) → let a = c .before .before .before .before .before .before .before .args in verdictOf (tableFault (picture (a .boxes .now) (a .rows .now) (a .arrows .now))) ≡ Passed
 tabled c = sym (c .before .before .check .ensures) ∙ c .enum-told .given .1
 
 few : (c : tie.After-blocks-for2) → (c .before .blocks-for .result ≤ 9) × (c .blocks-for2 .result ≤ 7)

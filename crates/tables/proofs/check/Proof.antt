@@ -8,7 +8,7 @@ use lib.ListN.{length}
 use Rattle.tables.specs.Faults.{raggedFault, countFault, byteFault, rowFault, tableFault}
 use Rattle.tables.specs.Steps.{fails}
 use Rattle.tables.specs.Refusals.{verdictOf}
-use Rattle.tables.specs.Rows.{rowCount, arrowCount}
+use Rattle.tables.specs.Rows.{picture, rowCount, arrowCount}
 use Rattle.base.specs.Search.{orElse}
 use Rattle.tables.specs.declared.Refusal.{Refusal}
 use Rattle.tables.proofs.Verdicts.{either-verdict, refuses, passes}
@@ -27,7 +27,7 @@ rowsFault boxes rows arrows =
     (orElse (rowFault 5 (fails 5 boxes rows) (rowCount rows))
     (orElse (rowFault 6 (fails 6 boxes arrows) (arrowCount arrows)) (rowFault 7 (fails 7 boxes arrows) (arrowCount arrows)))))
 
-stages : (boxes rows arrows : List ℕ) → orElse (shapeFault boxes rows arrows) (rowsFault boxes rows arrows) ≡ tableFault boxes rows arrows
+stages : (boxes rows arrows : List ℕ) → orElse (shapeFault boxes rows arrows) (rowsFault boxes rows arrows) ≡ tableFault (picture boxes rows arrows)
 unfolding shapeFault rowsFault tableFault
 stages boxes rows arrows = orElse-assoc (raggedFault (length rows) (length arrows)) _ _
 
