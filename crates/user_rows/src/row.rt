@@ -1,0 +1,251 @@
+// A row: one user and some files.
+ghost use mathlib.Core.Path.{_≡_};
+ghost use mathlib.Core.Bool.{Bool, _&&_, _||_};
+ghost use mathlib.Core.Option.{some};
+ghost use Prim.Native.Nat.{ℕ, _+_, _<_, _≤_};
+ghost use lib.Dec.{T, eqb};
+ghost use lib.ListN.{length, getD};
+ghost use Rattle.base.specs.Search.{lowest};
+ghost use Rattle.tables.specs.Rows.{Picture, arrowAt, arrowCount};
+ghost use Rattle.meaning.specs.Meaning.{hasMode, hits, answer, numberOf};
+ghost use Rattle.boxsets.specs.Sets.{isIn, has};
+ghost use Rattle.user_rows.specs.Row.{shows};
+ghost use Rattle.user_rows.specs.Steps.{Small, Numbers, Sized, Drawn, ModeSets, Moded, AroundBy, Walked};
+ghost use Rattle.user_rows.specs.Steps.{Sorts, NextNear, Numbered, blankRow};
+use base::narrow;
+use base::wide;
+use boxsets::Set;
+use boxsets::has;
+use boxsets::is_empty;
+use boxsets::is_in;
+use boxsets::joined;
+use boxsets::lowest;
+use boxsets::dropped;
+use boxsets::minus;
+use boxsets::nothing;
+use boxsets::shared;
+use certificate::Near;
+use certificate::certified;
+use certificate::near;
+use meaning::Entry;
+use tables::Arrow;
+
+// What is found for a user: of the asked files those that are granted, and those that are unclear.
+pub struct Row {
+    pub granted: Set,
+    pub unclear: Set,
+}
+
+// The mode's arrows around a user, by sign.
+struct Around {
+    user: usize,
+    negative: Near,
+    positive: Near,
+}
+
+fn around(closure: &[u64], heads: &[u64], user: usize, asked: Set) -> Around
+    requires { ⌜ (length (now closure) ≡ 2048) × (length (now heads) ≡ 2056) × (user < 256) ⌝ }
+    ensures { λ r. ⌜ (r .user ≡ user) × (r .negative .sign ≡ 0) × (r .positive .sign ≡ 1) ⌝ }
+    ensures { λ r. ⌜ ((pic : Picture) (m : ℕ) → Drawn pic (now (closure .entry)) → ModeSets (pic .arrows) m (now (heads .entry))
+        → user < length (pic .boxes) → AroundBy pic m user (isIn asked) r) ⌝ }
+{
+    Around {
+        user,
+        negative: near(closure, heads, 0, user, asked),
+        positive: near(closure, heads, 1, user, asked),
+    }
+}
+
+// The first place from `from` on whose arrow is around the user, or one past the last.
+fn next_near(closure: &[u64], arrows: &[u16], own: &[u16], user: usize, from: usize) -> usize
+    requires { ⌜ (length (now closure) ≡ 2048) × Small (now arrows) × Numbers (now arrows) (now own) × (user < 256)
+        × (from ≤ length (now own)) ⌝ }
+    ensures { λ r. ⌜ NextNear (now (closure .entry)) (now (arrows .entry)) (now (own .entry)) user from r ⌝ }
+{
+    for i in from..own.len() {
+        let a = Arrow::at(arrows, wide(own[i]));
+        if has(closure, 256 + user, wide(a.tail)) {
+            return i;
+        }
+    }
+    own.len()
+}
+
+// Of the files left, those at which an arrow around the user is a certificate.
+fn shown(closure: &[u64], heads: &[u64], x: Around, a: Arrow, left: Set) -> Set
+    requires { ⌜ (length (now closure) ≡ 2048) × (length (now heads) ≡ 2056) × (a .tail < 256) × (a .head < 256)
+        × (x .negative .sign ≡ 0) × (x .positive .sign ≡ 1) ⌝ }
+    ensures { λ r. ⌜ ((pic : Picture) (m u k : ℕ) (asked : ℕ → Bool) → Drawn pic (now (closure .entry))
+        → ModeSets (pic .arrows) m (now (heads .entry)) → AroundBy pic m u asked x → u < length (pic .boxes)
+        → k < arrowCount (pic .arrows) → a ≡ arrowAt (pic .arrows) k → T (hasMode (pic .arrows) m k)
+        → T (has (now (closure .entry)) (256 + u) (a .tail)) → ((f : ℕ) → T (isIn left f) → T (asked f))
+        → (f : ℕ) → isIn r f ≡ (isIn left f && shows pic m u f k)) ⌝ }
+{
+    if a.sign == 1 {
+        return certified(closure, heads, x.negative, a, left);
+    }
+    certified(closure, heads, x.positive, a, left)
+}
+
+// The granted files, with those of a certificate of this sign.
+fn with_granted(granted: Set, hit: Set, sign: u16) -> Set
+    ensures { λ r. ⌜ ((f : ℕ) → isIn r f ≡ (isIn granted f || (isIn hit f && eqb sign 1))) ⌝ }
+{
+    if sign == 1 {
+        return joined(granted, hit);
+    }
+    granted
+}
+
+// Writes an arrow's number for each file of a set.
+fn put_number(hit: Set, number: u16, numbers: &mut [u16])
+    requires { ⌜ 256 ≤ length (now numbers) ⌝ }
+    ensures { λ _. ⌜ Numbered hit number (now (numbers .entry)) (now (numbers .exit)) ⌝ }
+{
+    let mut rest = hit;
+    while !is_empty(rest) {
+        let f = lowest(rest);
+        rest = dropped(rest);
+        numbers[f] = number;
+    }
+}
+
+// Walks the mode's arrows around the user in rising order, and takes from the files those at which the arrow is a certificate: it is their
+// lowest one. Their number is written, and those of a positive one are granted; what is left at the end has none.
+fn walk(
+    closure: &[u64],
+    heads: &[u64],
+    arrows: &[u16],
+    own: &[u16],
+    x: Around,
+    files: Set,
+    numbers: &mut [u16],
+) -> Row
+    requires { ⌜ Sized (now closure) (now heads) (now arrows) (now own) × (x .user < 256) × (256 ≤ length (now numbers))
+        × (x .negative .sign ≡ 0) × (x .positive .sign ≡ 1) ⌝ }
+    ensures { λ _. ⌜ length (now (numbers .exit)) ≡ length (now (numbers .entry)) ⌝ }
+    ensures { λ r. ⌜ ((pic : Picture) (m : ℕ) (asked : ℕ → Bool) → Drawn pic (now (closure .entry))
+        → Moded pic m (now (heads .entry)) (now (arrows .entry)) (now (own .entry)) → AroundBy pic m (x .user) asked x
+        → x .user < length (pic .boxes) → ((f : ℕ) → T (isIn files f) → T (asked f))
+        → Walked pic m (x .user) (isIn files) (isIn (r .unclear)) (isIn (r .granted)) (λ f. getD (now (numbers .entry)) f 0)
+        (λ f. getD (now (numbers .exit)) f 0) (length (now (own .entry)))) ⌝ }
+{
+    let mut granted = nothing();
+    let mut left = files;
+    let mut i = next_near(closure, arrows, own, x.user, 0);
+    while i < own.len() && !is_empty(left) {
+        let k = own[i];
+        let a = Arrow::at(arrows, wide(k));
+        let hit = shown(closure, heads, x, a, left);
+        left = minus(left, hit);
+        granted = with_granted(granted, hit, a.sign);
+        put_number(hit, k, numbers);
+        i = next_near(closure, arrows, own, x.user, i + 1);
+    }
+    Row {
+        granted,
+        unclear: left,
+    }
+}
+
+// Room for the numbers of a row, by box number: 65,535 throughout.
+pub fn no_row() -> [u16; 256]
+    ensures { λ r. ⌜ r ≡ blankRow ⌝ }
+{
+    [Arrow::NONE; 256]
+}
+
+// The row of a user for the asked files. A file that arrows of one sign only reach is settled without a look at them one by one.
+pub fn sort_row(
+    closure: &[u64],
+    heads: &[u64],
+    arrows: &[u16],
+    own: &[u16],
+    user: usize,
+    asked: Set,
+) -> Row
+    requires { ⌜ Sized (now closure) (now heads) (now arrows) (now own) × (user < 256) ⌝ }
+    ensures { λ r. ⌜ ((pic : Picture) (m : ℕ) → Drawn pic (now (closure .entry))
+        → Moded pic m (now (heads .entry)) (now (arrows .entry)) (now (own .entry)) → user < length (pic .boxes)
+        → Sorts pic m user (isIn asked) r) ⌝ }
+{
+    let x = around(closure, heads, user, asked);
+    let clash = shared(x.negative.files, x.positive.files);
+    let clear = minus(x.positive.files, clash);
+    let mut numbers = no_row();
+    let found = walk(closure, heads, arrows, own, x, clash, &mut numbers);
+    Row {
+        granted: joined(clear, found.granted),
+        unclear: found.unclear,
+    }
+}
+
+// The same, and the number of the arrow of each asked file, by box number.
+pub fn answer_row(
+    closure: &[u64],
+    heads: &[u64],
+    arrows: &[u16],
+    own: &[u16],
+    user: usize,
+    asked: Set,
+    numbers: &mut [u16],
+) -> Row
+    requires { ⌜ Sized (now closure) (now heads) (now arrows) (now own) × (user < 256) × (now numbers ≡ blankRow) ⌝ }
+    ensures { λ r. ⌜ ((pic : Picture) (m : ℕ) → Drawn pic (now (closure .entry))
+        → Moded pic m (now (heads .entry)) (now (arrows .entry)) (now (own .entry)) → user < length (pic .boxes)
+        → Sorts pic m user (isIn asked) r
+        × ((f : ℕ) → T (isIn asked f) → getD (now (numbers .exit)) f 0 ≡ numberOf (answer pic m user f))) ⌝ }
+{
+    let x = around(closure, heads, user, asked);
+    let reached = joined(x.negative.files, x.positive.files);
+    walk(closure, heads, arrows, own, x, reached, numbers)
+}
+
+// The lowest arrow of a mode and a sign that reaches the pair, or 65,535.
+fn first_hit(closure: &[u64], arrows: &[u16], mode: u16, sign: u16, u: usize, f: usize) -> u16
+    requires { ⌜ (length (now closure) ≡ 2048) × Small (now arrows) × (u < 256) × (f < 256) ⌝ }
+    ensures { λ r. ⌜ ((pic : Picture) → Drawn pic (now (closure .entry)) → now (arrows .entry) ≡ pic .arrows
+        → u < length (pic .boxes) → f < length (pic .boxes)
+        → (k : ℕ) → lowest (hits pic mode sign u f) (arrowCount (pic .arrows)) ≡ some k → r ≡ k) ⌝ }
+{
+    for k in 0..arrows.len() / 4 {
+        let a = Arrow::at(arrows, k);
+        if a.mode == mode && a.sign == sign {
+            if has(closure, 256 + u, wide(a.tail)) && has(closure, 256 + f, wide(a.head)) {
+                return narrow(k);
+            }
+        }
+    }
+    Arrow::NONE
+}
+
+// The answer of a pair, by its row and its number in it.
+pub fn entry_of(
+    closure: &[u64],
+    arrows: &[u16],
+    mode: u16,
+    row: Row,
+    u: usize,
+    f: usize,
+    number: u16,
+) -> Entry
+    requires { ⌜ (length (now closure) ≡ 2048) × Small (now arrows) × (u < 256) × (f < 256) ⌝ }
+    ensures { λ r. ⌜ ((pic : Picture) (asked : ℕ → Bool) → Drawn pic (now (closure .entry)) → now (arrows .entry) ≡ pic .arrows
+        → u < length (pic .boxes) → f < length (pic .boxes) → T (asked f)
+        → Sorts pic mode u asked row → number ≡ numberOf (answer pic mode u f)
+        → r ≡ answer pic mode u f) ⌝ }
+{
+    if is_in(row.granted, f) {
+        return Entry::Granted(number);
+    }
+    if is_in(row.unclear, f) {
+        return Entry::Unclear(
+            first_hit(closure, arrows, mode, 1, u, f),
+            first_hit(closure, arrows, mode, 0, u, f),
+        );
+    }
+    if number < Arrow::NONE {
+        return Entry::Denied(number);
+    }
+    Entry::Default
+}
