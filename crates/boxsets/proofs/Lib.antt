@@ -3,6 +3,7 @@ pub mod WordLaws
 pub mod LowBitLaws
 pub mod MemberLaws
 pub mod LowLaws
+pub mod WalkLaws
 pub mod AmongLaws
 pub mod TableLaws
 pub mod JoinLaws

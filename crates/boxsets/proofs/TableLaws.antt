@@ -9,14 +9,16 @@ use native.Mathlib.Nat.{add-zero}
 use native.Mathlib.Decide.{ℕ-discrete, decLt}
 use lib.Bits.{bitOr}
 use lib.Dec.{T, eqb, eqb→eq}
-use lib.ListN.{length, getD, set, length-set}
+use lib.ListN.{length, getD, set, length-set, List·getD-eq-default}
 use lib.Seq.{getD-set-same, getD-set-other}
+use Rattle.base.specs.Buffers.{zeros}
+use Rattle.base.proofs.BufferLaws.{zeros-at, zeros-length}
 use Rattle.base.proofs.Tests.{not-false, and-T, T-and, T-same, T-eqb}
 use Rattle.boxsets.specs.Words.{bitAt}
 use Rattle.boxsets.specs.Sets.{wordAt, isIn, setAt, has, Put}
 use Rattle.boxsets.specs.declared.Set.{Set}
 use Rattle.boxsets.proofs.WordLaws.{or-bit, pow-bit}
-use Rattle.boxsets.proofs.MemberLaws.{in-beyond}
+use Rattle.boxsets.proofs.MemberLaws.{in-beyond, empty-in}
 
 row-word : (t : List ℕ) (r q : ℕ) → q < 4 → wordAt (setAt t r) q ≡ getD t (4 * r + q) 0
 unfolding wordAt
@@ -121,3 +123,30 @@ add-has t r k room l a b = go (decLt b 256)
         let e : (eqb a r && eqb b k) ≡ false
         = not-false (eqb a r && eqb b k) (λ z. let e = eqb→eq b k (and-T (eqb a r) (eqb b k) z .1) in absurd (omega arith)) in
         has-beyond u a b (omega arith) ∙ ap₂ _||_ (sym (has-beyond t a b (omega arith))) (sym e)
+
+-- ---- for upper layers
+
+pub has-in : (t : List ℕ) (r k : ℕ) → has t r k ≡ isIn (setAt t r) k
+unfolding has
+has-in t r k = refl
+
+-- a set that was put, and the others
+pub put-hit : (t : List ℕ) (r : ℕ) (x : Set) (u : List ℕ) → Put t r x u → (k : ℕ) → has u r k ≡ isIn x k
+unfolding has
+put-hit t r x u p k = ap (λ (y : Set). isIn y k) (p .hit)
+
+pub put-miss : (t : List ℕ) (r : ℕ) (x : Set) (u : List ℕ) → Put t r x u → (a k : ℕ) → (a ≡ r → ⊥) → has u a k ≡ has t a k
+unfolding has
+put-miss t r x u p a k n = ap (λ (y : Set). isIn y k) (p .miss a n)
+
+-- the sets of a table of zeros
+pub zeros-has : (n r k : ℕ) → has (zeros n) r k ≡ false
+unfolding has
+zeros-has n r k = empty-in (setAt (zeros n) r) (at (4 * r)) (at (4 * r + 1)) (at (4 * r + 2)) (at (4 * r + 3)) k
+  where
+    at : (i : ℕ) → getD (zeros n) i 0 ≡ 0
+    at i = go (decLt i n)
+      where
+        go : Dec (i < n) → getD (zeros n) i 0 ≡ 0
+        go (yes l) = zeros-at n i l
+        go (no l) = List·getD-eq-default (zeros n) 0 (rw zeros-length (omega arith))
