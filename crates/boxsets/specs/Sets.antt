@@ -2,7 +2,7 @@
 use mathlib.Core.Path.{_≡_}
 use mathlib.Core.Bool.{Bool, cond, _&&_, _||_}
 use mathlib.Core.List.{List}
-use Prim.Native.Nat.{ℕ, zero, suc, _+_, _*_, _/_, _%_}
+use Prim.Native.Nat.{ℕ, zero, suc, _+_, _*_, _/_, _%_, _<_}
 use lib.Dec.{eqb}
 use lib.ListN.{length, getD}
 use Rattle.base.specs.Search.{anyBelow}
@@ -20,6 +20,10 @@ wordAt x (suc (suc (suc (suc q)))) = 0
 -- k is in the set; no k from 256 on is
 unfoldable pub isIn : Set → ℕ → Bool
 isIn x k = bitAt (wordAt x (k / 64)) (k % 64)
+
+-- k is one of the numbers of word q of a set
+unfoldable pub inWord : ℕ → ℕ → ℕ → Bool
+inWord q w k = eqb (k / 64) q && bitAt w (k % 64)
 
 -- the lowest number below n at which the test holds, or n
 unfoldable pub least : (ℕ → Bool) → ℕ → ℕ
