@@ -6,9 +6,10 @@ use mathlib.Core.List.{List}
 use Prim.Native.Nat.{ℕ, zero, suc, _+_, _*_, _<_, _≤_}
 use lib.Bits.{bitOr}
 use lib.ListN.{length, getD}
+use Rattle.boxsets.specs.Sets.{has}
 use Rattle.base.specs.Search.{bit}
 use Rattle.base.specs.Buffers.{build}
-use Rattle.containment.specs.Contains.{direct}
+use Rattle.containment.specs.Contains.{direct, around}
 use Rattle.containment.specs.Scratch.{drawn}
 
 -- s is a scratch that was filled from the rows (`filled-says`); `containment::does_contain` reads it
@@ -58,3 +59,13 @@ pub record NextOuter (n k : ℕ) (s : List ℕ) (i r : ℕ) : Type 0 where
 -- n bytes from a place on
 unfoldable pub rowFrom : List ℕ → ℕ → ℕ → List ℕ
 rowFrom s at n = build (λ j. getD s (at + j) 0) n
+
+-- the table says f for n boxes: set a has b exactly if f a b, and set 256 + b has a exactly if f a b
+pub record Both (n : ℕ) (f : ℕ → ℕ → Bool) (t : List ℕ) : Type 0 where
+  pub len : length t ≡ 2048
+  pub down : (a b : ℕ) → a < n → has t a b ≡ f a b
+  pub up : (a b : ℕ) → b < n → has t (256 + b) a ≡ f a b
+
+-- the closure of the rows of n boxes: what each box is or contains, and what is it or contains it
+abbrev pub Closure : ℕ → List ℕ → List ℕ → Type 0
+Closure n rows t = Both n (around rows) t

@@ -9,6 +9,7 @@ ghost use Rattle.tables.specs.Rows.{Picture};
 ghost use Rattle.boxsets.specs.Sets.{isIn, has};
 ghost use Rattle.user_rows.specs.Row.{inOne, blocks, certified};
 ghost use Rattle.user_rows.specs.Steps.{Drawn, ModeSets, NearBy};
+use super::Near;
 use base::wide;
 use boxsets::Set;
 use boxsets::dropped;
@@ -68,15 +69,8 @@ fn outside_all(closure: &[u64], files: Set, boxes: Set) -> Set
     left
 }
 
-// The mode's arrows of a sign around a user: their tails, their heads, and the asked files that they reach.
-pub struct Near {
-    pub sign: usize,
-    pub tails: Set,
-    pub heads: Set,
-    pub files: Set,
-}
-
-pub fn near(closure: &[u64], heads: &[u64], sign: usize, user: usize, asked: Set) -> Near
+// The arrows of a sign around a user.
+pub fn arrows_near(closure: &[u64], heads: &[u64], sign: usize, user: usize, asked: Set) -> Near
     requires { ⌜ (length (now closure) ≡ 2048) × (length (now heads) ≡ 2056) × (sign ≤ 1) × (user < 256) ⌝ }
     ensures { λ r. ⌜ ((pic : Picture) (m : ℕ) → Drawn pic (now (closure .entry)) → ModeSets (pic .arrows) m (now (heads .entry))
         → user < length (pic .boxes) → NearBy pic m sign user (isIn asked) r) ⌝ }
@@ -104,16 +98,18 @@ fn unblocked(closure: &[u64], heads: &[u64], near: Near, a: Arrow, files: Set) -
 {
     let tail = wide(a.tail);
     let head = wide(a.head);
-    let by_head = outside_all(closure, files, shared(near.heads, nested_in(closure, head)));
+    let near_heads = near.heads;
+    let by_head = outside_all(closure, files, shared(near_heads, nested_in(closure, head)));
     if is_empty(by_head) {
         return by_head;
     }
-    let inner = shared(near.tails, nested_in(closure, tail));
+    let tails = near.tails;
+    let inner = shared(tails, nested_in(closure, tail));
     let by_tail = outside_all(closure, by_head, heads_of(heads, near.sign, inner));
     if is_empty(by_tail) {
         return by_tail;
     }
-    let level = heads_of(heads, near.sign, minus(near.tails, nesting(closure, tail)));
+    let level = heads_of(heads, near.sign, minus(tails, nesting(closure, tail)));
     outside_all(closure, by_tail, minus(level, nesting(closure, head)))
 }
 
@@ -128,7 +124,8 @@ pub fn certified(closure: &[u64], heads: &[u64], near: Near, a: Arrow, left: Set
         → (f : ℕ) → isIn r f ≡ (isIn left f && certified pic m (near .sign) u a f)) ⌝ }
 {
     let hit = shared(set_at(closure, wide(a.head)), left);
-    let met = shared(hit, near.files);
+    let reached = near.files;
+    let met = shared(hit, reached);
     if is_empty(met) {
         return hit;
     }

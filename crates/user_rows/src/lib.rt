@@ -5,14 +5,34 @@
 // that are b or contain it. `heads` and `own` are what `take_mode` makes of the arrows of a mode.
 mod certificate;
 mod mode;
-mod row;
+mod walk;
 
-pub use certificate::Near;
+use boxsets::Set;
 pub use mode::no_heads;
 pub use mode::no_numbers;
 pub use mode::take_mode;
-pub use row::Row;
-pub use row::answer_row;
-pub use row::entry_of;
-pub use row::no_row;
-pub use row::sort_row;
+pub use walk::answer_row;
+pub use walk::entry_of;
+pub use walk::no_row;
+pub use walk::sort_row;
+
+// The mode's arrows of a sign around a user: their tails, their heads, and the asked files that they reach.
+pub struct Near {
+    pub sign: usize,
+    pub tails: Set,
+    pub heads: Set,
+    pub files: Set,
+}
+
+// Those of both signs.
+pub struct Around {
+    pub user: usize,
+    pub negative: Near,
+    pub positive: Near,
+}
+
+// What is found for a user: of the asked files those that are granted, and those that are unclear.
+pub struct Row {
+    pub granted: Set,
+    pub unclear: Set,
+}

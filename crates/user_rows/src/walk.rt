@@ -12,47 +12,37 @@ ghost use Rattle.boxsets.specs.Sets.{isIn, has};
 ghost use Rattle.user_rows.specs.Row.{shows};
 ghost use Rattle.user_rows.specs.Steps.{Small, Numbers, Sized, Drawn, ModeSets, Moded, AroundBy, Walked};
 ghost use Rattle.user_rows.specs.Steps.{Sorts, NextNear, Numbered, blankRow};
+use super::Around;
+use super::Row;
+use super::certificate::arrows_near;
+use super::certificate::certified;
 use base::narrow;
 use base::wide;
 use boxsets::Set;
+use boxsets::dropped;
 use boxsets::has;
 use boxsets::is_empty;
 use boxsets::is_in;
 use boxsets::joined;
 use boxsets::lowest;
-use boxsets::dropped;
 use boxsets::minus;
 use boxsets::nothing;
 use boxsets::shared;
-use certificate::Near;
-use certificate::certified;
-use certificate::near;
 use meaning::Entry;
 use tables::Arrow;
 
-// What is found for a user: of the asked files those that are granted, and those that are unclear.
-pub struct Row {
-    pub granted: Set,
-    pub unclear: Set,
-}
-
-// The mode's arrows around a user, by sign.
-struct Around {
-    user: usize,
-    negative: Near,
-    positive: Near,
-}
-
-fn around(closure: &[u64], heads: &[u64], user: usize, asked: Set) -> Around
+fn around_user(closure: &[u64], heads: &[u64], user: usize, asked: Set) -> Around
     requires { ⌜ (length (now closure) ≡ 2048) × (length (now heads) ≡ 2056) × (user < 256) ⌝ }
     ensures { λ r. ⌜ (r .user ≡ user) × (r .negative .sign ≡ 0) × (r .positive .sign ≡ 1) ⌝ }
     ensures { λ r. ⌜ ((pic : Picture) (m : ℕ) → Drawn pic (now (closure .entry)) → ModeSets (pic .arrows) m (now (heads .entry))
         → user < length (pic .boxes) → AroundBy pic m user (isIn asked) r) ⌝ }
 {
+    let negative = arrows_near(closure, heads, 0, user, asked);
+    let positive = arrows_near(closure, heads, 1, user, asked);
     Around {
         user,
-        negative: near(closure, heads, 0, user, asked),
-        positive: near(closure, heads, 1, user, asked),
+        negative,
+        positive,
     }
 }
 
@@ -82,9 +72,11 @@ fn shown(closure: &[u64], heads: &[u64], x: Around, a: Arrow, left: Set) -> Set
         → (f : ℕ) → isIn r f ≡ (isIn left f && shows pic m u f k)) ⌝ }
 {
     if a.sign == 1 {
-        return certified(closure, heads, x.negative, a, left);
+        let negative = x.negative;
+        return certified(closure, heads, negative, a, left);
     }
-    certified(closure, heads, x.positive, a, left)
+    let positive = x.positive;
+    certified(closure, heads, positive, a, left)
 }
 
 // The granted files, with those of a certificate of this sign.
@@ -142,10 +134,8 @@ fn walk(
         put_number(hit, k, numbers);
         i = next_near(closure, arrows, own, x.user, i + 1);
     }
-    Row {
-        granted,
-        unclear: left,
-    }
+    let unclear = left;
+    Row { granted, unclear }
 }
 
 // Room for the numbers of a row, by box number: 65,535 throughout.
@@ -169,14 +159,19 @@ pub fn sort_row(
         → Moded pic m (now (heads .entry)) (now (arrows .entry)) (now (own .entry)) → user < length (pic .boxes)
         → Sorts pic m user (isIn asked) r) ⌝ }
 {
-    let x = around(closure, heads, user, asked);
-    let clash = shared(x.negative.files, x.positive.files);
-    let clear = minus(x.positive.files, clash);
+    let x = around_user(closure, heads, user, asked);
+    let negative = x.negative;
+    let positive = x.positive;
+    let denied = negative.files;
+    let granted = positive.files;
+    let clash = shared(denied, granted);
     let mut numbers = no_row();
     let found = walk(closure, heads, arrows, own, x, clash, &mut numbers);
+    let won = found.granted;
+    let unclear = found.unclear;
     Row {
-        granted: joined(clear, found.granted),
-        unclear: found.unclear,
+        granted: joined(minus(granted, clash), won),
+        unclear,
     }
 }
 
@@ -196,8 +191,12 @@ pub fn answer_row(
         → Sorts pic m user (isIn asked) r
         × ((f : ℕ) → T (isIn asked f) → getD (now (numbers .exit)) f 0 ≡ numberOf (answer pic m user f))) ⌝ }
 {
-    let x = around(closure, heads, user, asked);
-    let reached = joined(x.negative.files, x.positive.files);
+    let x = around_user(closure, heads, user, asked);
+    let negative = x.negative;
+    let positive = x.positive;
+    let denied = negative.files;
+    let granted = positive.files;
+    let reached = joined(denied, granted);
     walk(closure, heads, arrows, own, x, reached, numbers)
 }
 
@@ -235,10 +234,12 @@ pub fn entry_of(
         → Sorts pic mode u asked row → number ≡ numberOf (answer pic mode u f)
         → r ≡ answer pic mode u f) ⌝ }
 {
-    if is_in(row.granted, f) {
+    let granted = row.granted;
+    if is_in(granted, f) {
         return Entry::Granted(number);
     }
-    if is_in(row.unclear, f) {
+    let unclear = row.unclear;
+    if is_in(unclear, f) {
         return Entry::Unclear(
             first_hit(closure, arrows, mode, 1, u, f),
             first_hit(closure, arrows, mode, 0, u, f),
