@@ -5,7 +5,7 @@ use mathlib.Core.Bool.{Bool, true, false}
 use mathlib.Core.List.{List}
 use mathlib.Core.Option.{Option, none, some}
 use Prim.Native.Nat.{ℕ, _+_, _*_, _/_, _%_, _<_, _≤_}
-use native.Mathlib.Nat.{mod-lt, div-lt-iff-lt-mul, eq-zero-or-pos, mul-zero, mul-le-mul, le-trans}
+use native.Mathlib.Nat.{mod-lt, div-lt-iff-lt-mul, eq-zero-or-pos, mul-zero}
 use native.Mathlib.Omega.{arith}
 use lib.Dec.{T}
 use lib.ListN.{length, getD}
@@ -15,7 +15,7 @@ use Rattle.tables.specs.Atoms.{atom, atoms, pairCount}
 use Rattle.tables.specs.Refusals.{unclearPair}
 use Rattle.tables.specs.declared.Refusal.{Refusal}
 use Rattle.base.proofs.SearchLaws.{first-none, first-some, given-some, given-none, given-true, given-false}
-use Rattle.tables.proofs.AtomPlaces.{pairCount-is, atoms-found, atoms-has, atoms-before, atoms-same, atoms-most}
+use Rattle.tables.proofs.AtomPlaces.{pairCount-is, atoms-found, atoms-has, atoms-before, atoms-same, few-pairs}
 use Rattle.base.proofs.Index.{in-table, at-div, at-mod, place, row-step}
 use Rattle.meaning.specs.Pairs.{Before, users, files, pairs, userAt, fileAt, firstPair, answerAt, unclearFault}
 use Rattle.meaning.specs.Meaning.{isUnclear}
@@ -62,10 +62,6 @@ module _ (pic : Picture) where
         rw (at-mod n (i .0) (j .0) (j .1)) (j .2),
       )
 
-  -- at most 256 boxes give so many pairs
-  pub few-pairs : length (pic .boxes) ≤ 256 → length (users pic) * length (files pic) ≤ 65536
-  few-pairs h = mul-le-mul (le-trans (atoms-most (pic .boxes) (pic .rows) user) h) (le-trans (atoms-most (pic .boxes) (pic .rows) file) h)
-
   -- a pair read out of the two lists by its place
   module _ (us fs : List ℕ) (eu : us ≡ users pic) (ef : fs ≡ files pic) (p : ℕ) where
     pub place-there : p < pairs pic → (p / length fs < length us) × (p % length fs < length fs)
@@ -75,7 +71,7 @@ module _ (pic : Picture) where
     pairs-are = rw (eu, ef, pairCount-is)
 
     pub pairs-fit : length (pic .boxes) ≤ 256 → length us * length fs ≤ 65536
-    pairs-fit h = rw (eu, ef) (few-pairs h)
+    pairs-fit h = rw (eu, ef) (few-pairs (pic .boxes) (pic .rows) h)
 
     pub user-read : getD us (p / length fs) 0 ≡ userAt pic p
     unfolding userAt

@@ -5,8 +5,8 @@ ghost use mathlib.Core.List.{[]};
 ghost use Prim.Native.Nat.{ℕ, _+_, _*_, _/_, _%_, _<_, _≤_};
 ghost use lib.ListN.{length, getD};
 ghost use Rattle.base.specs.Search.{given};
-ghost use Rattle.base.specs.Buffers.{written};
-ghost use Rattle.tables.specs.Atoms.{outer, atom, atoms};
+ghost use Rattle.base.specs.Buffers.{written, zeros};
+ghost use Rattle.tables.specs.Atoms.{outer, atom, atoms, pairCount};
 ghost use Rattle.tables.specs.Steps.{Marks, fails, rowsFor, SoundRows};
 ghost use Rattle.tables.specs.Rows.{picture, sideOf, isGroup, onSide, rowAt, rowCount, arrowAt, arrowCount};
 ghost use Rattle.tables.specs.Refusals.{refusal, verdictOf, either};
@@ -370,4 +370,22 @@ pub fn atoms_of(boxes: &[u8], rows: &[u16], side: u8, out: &mut [u16]) -> usize
     let mut marks = zero_bytes();
     mark_outer(rows, &mut marks);
     gather(boxes, rows, side, &marks, out)
+}
+
+// Room for box numbers.
+pub fn no_boxes() -> [u16; 256]
+    ensures { λ r. ⌜ r ≡ zeros 256 ⌝ }
+{
+    [0u16; 256]
+}
+
+// How many pairs of an atomic user and an atomic file there are.
+pub fn pair_count(boxes: &[u8], rows: &[u16]) -> usize
+    requires { ⌜ SoundRows (now boxes) (now rows) ⌝ }
+    ensures { λ r. ⌜ r ≡ pairCount (now (boxes .entry)) (now (rows .entry)) ⌝ }
+{
+    let mut atoms = no_boxes();
+    let users = atoms_of(boxes, rows, BoxRow::USER, &mut atoms);
+    let files = atoms_of(boxes, rows, BoxRow::FILE, &mut atoms);
+    users * files
 }

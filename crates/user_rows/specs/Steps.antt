@@ -7,7 +7,8 @@ use Prim.Native.Nat.{ℕ, _+_, _*_, _<_, _≤_}
 use lib.Dec.{T, eqb}
 use lib.ListN.{length, getD, replicate}
 use Rattle.base.specs.Search.{lowest}
-use Rattle.tables.specs.Rows.{Picture, arrowCount, arrowAt}
+use Rattle.tables.specs.Rows.{Picture, user, file, arrowCount, arrowAt}
+use Rattle.tables.specs.Atoms.{atom, atoms}
 use Rattle.tables.specs.Steps.{SoundRows, SoundArrows}
 use Rattle.tables.specs.declared.Arrow.{Arrow}
 use Rattle.containment.specs.Contains.{around, loopFault}
@@ -48,6 +49,13 @@ pub record Drawn (pic : Picture) (closure : List ℕ) : Type 0 where
   pub arrows-sound : SoundArrows (pic .boxes) (pic .arrows)
   pub no-loops : loopFault (pic .boxes) (pic .rows) ≡ none
   pub closed : Closure (length (pic .boxes)) (pic .rows) closure
+
+-- the picture of a call, its atomic users and the set of its atomic files
+pub record Ready (pic : Picture) (closure arrows users : List ℕ) (files : Set) : Type 0 where
+  pub drawn : Drawn pic closure
+  pub arrows-are : arrows ≡ pic .arrows
+  pub users-are : users ≡ atoms (pic .boxes) (pic .rows) user
+  pub files-are : (k : ℕ) → isIn files k ≡ atom (pic .boxes) (pic .rows) file k
 
 -- the sets of the mode's arrows below k
 pub record SetsBelow (arrows : List ℕ) (mode k : ℕ) (heads : List ℕ) : Type 0 where

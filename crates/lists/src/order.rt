@@ -1,0 +1,145 @@
+// How the list is found, on sets: for each user the files that the list does not reach yet (`left`) and those that are granted. `closure` is
+// the table of containment, `own` the mode's arrows without repeats: a repeat never reaches anything new.
+ghost use mathlib.Core.Path.{_≡_};
+ghost use Prim.Native.Nat.{ℕ, _≤_};
+ghost use lib.ListN.{length};
+ghost use Rattle.base.specs.Buffers.{written, zeros};
+ghost use Rattle.tables.specs.Rows.{Picture};
+ghost use Rattle.boxsets.specs.Sets.{isIn, has};
+ghost use Rattle.user_rows.specs.Row.{ownArrows};
+ghost use Rattle.user_rows.specs.Steps.{Small, Numbers, Drawn};
+ghost use Rattle.meaning.specs.Pairs.{unclearFault};
+ghost use Rattle.lists.specs.Greedy.{greedy};
+ghost use Rattle.lists.specs.Steps.{someIn, wrongAt, standingOf, standingBy, Done, NextFree, Takes, Table, unreached, grantedTo};
+use super::Standing;
+use base::wide;
+use boxsets::Set;
+use boxsets::dropped;
+use boxsets::is_empty;
+use boxsets::lowest;
+use boxsets::minus;
+use boxsets::put_set;
+use boxsets::set_at;
+use boxsets::shared;
+use tables::Arrow;
+
+// Of files that are left, those to which an arrow of the sign would give the wrong answer.
+fn wrong_of(open: Set, granted: Set, sign: u16) -> Set {
+    if sign == 1 {
+        return minus(open, granted);
+    }
+    shared(open, granted)
+}
+
+// How an arrow of the sign stands that reaches these users and files.
+fn standing(users: Set, files: Set, left: &[u64], granted: &[u64], sign: u16) -> Standing
+    requires { ⌜ (length (now left) ≡ 1024) × (length (now granted) ≡ 1024) × (sign ≤ 1) ⌝ }
+    ensures { λ r. ⌜ r ≡ standingOf (someIn users files (wrongAt (now (left .entry)) (now (granted .entry)) sign))
+        (someIn users files (has (now (left .entry)))) ⌝ }
+{
+    let mut rest = users;
+    let mut fresh = false;
+    while !is_empty(rest) {
+        let u = lowest(rest);
+        rest = dropped(rest);
+        let open = shared(files, set_at(left, u));
+        if !is_empty(wrong_of(open, set_at(granted, u), sign)) {
+            return Standing::Blocked;
+        }
+        fresh = fresh | !is_empty(open);
+    }
+    if fresh {
+        return Standing::Free;
+    }
+    Standing::Spent
+}
+
+// How an arrow stands.
+fn standing_by(closure: &[u64], left: &[u64], granted: &[u64], a: Arrow) -> Standing {
+    let users = set_at(closure, wide(a.tail));
+    let files = set_at(closure, wide(a.head));
+    standing(users, files, left, granted, a.sign)
+}
+
+// The first place whose arrow is free, or one past the last. What is spent stays so, and is not looked at again.
+fn next_free(
+    closure: &[u64],
+    arrows: &[u16],
+    own: &[u16],
+    left: &[u64],
+    granted: &[u64],
+    done: &mut [u8],
+) -> usize
+    requires { ⌜ (length (now closure) ≡ 2048) × (length (now left) ≡ 1024) × (length (now granted) ≡ 1024) ⌝ }
+    requires { ⌜ Small (now arrows) × Numbers (now arrows) (now own) × (length (now own) ≤ length (now done)) ⌝ }
+    requires { ⌜ Done (now closure) (now arrows) (now own) (now left) (now granted) (now done) ⌝ }
+    ensures { λ r. ⌜ NextFree (now (closure .entry)) (now (arrows .entry)) (now (own .entry)) (now (left .entry))
+        (now (granted .entry)) r ⌝ }
+    ensures { λ _. ⌜ (length (now (done .exit)) ≡ length (now (done .entry)))
+        × Done (now (closure .entry)) (now (arrows .entry)) (now (own .entry)) (now (left .entry)) (now (granted .entry))
+        (now (done .exit)) ⌝ }
+{
+    for i in 0..own.len() {
+        if done[i] == 0 {
+            let a = Arrow::at(arrows, wide(own[i]));
+            match standing_by(closure, left, granted, a) {
+                Standing::Free => return i,
+                Standing::Spent => done[i] = 1,
+                Standing::Blocked => (),
+            }
+        }
+    }
+    own.len()
+}
+
+// Takes the files from what each of the users has left.
+fn take_files(users: Set, files: Set, left: &mut [u64])
+    requires { ⌜ length (now left) ≡ 1024 ⌝ }
+    ensures { λ _. ⌜ Takes users files (now (left .entry)) (now (left .exit)) ⌝ }
+{
+    let mut rest = users;
+    while !is_empty(rest) {
+        let u = lowest(rest);
+        rest = dropped(rest);
+        let open = minus(set_at(left, u), files);
+        put_set(left, u, open);
+    }
+}
+
+// Writes the list and answers its length: at each place the lowest arrow that is free, until there is none. `left` has all pairs at the
+// start, and at the end those that the list does not reach.
+pub fn order(
+    closure: &[u64],
+    arrows: &[u16],
+    own: &[u16],
+    left: &mut [u64],
+    granted: &[u64],
+    out: &mut [u16],
+) -> usize
+    requires { ⌜ (length (now closure) ≡ 2048) × (length (now left) ≡ 1024) × (length (now granted) ≡ 1024) ⌝ }
+    requires { ⌜ Small (now arrows) × Numbers (now arrows) (now own) × (length (now own) ≤ 512) × (length (now own) ≤ length (now out)) ⌝ }
+    ensures { λ r. ⌜ ((pic : Picture) (m : ℕ) → Drawn pic (now (closure .entry)) → now (arrows .entry) ≡ pic .arrows
+        → now (own .entry) ≡ ownArrows (pic .arrows) m → unclearFault pic m ≡ none
+        → Table pic (unreached pic []) (now (left .entry)) → Table pic (grantedTo pic m) (now (granted .entry))
+        → (r ≡ length (greedy pic m)) × (now (out .exit) ≡ written (greedy pic m) (now (out .entry)))
+        × Table pic (unreached pic (greedy pic m)) (now (left .exit))) ⌝ }
+{
+    let mut done = [0u8; 512];
+    let mut count = 0;
+    while count < own.len() {
+        let i = next_free(closure, arrows, own, left, granted, &mut done);
+        if own.len() <= i {
+            return count;
+        }
+        let k = own[i];
+        out[count] = k;
+        count += 1;
+        let a = Arrow::at(arrows, wide(k));
+        take_files(
+            set_at(closure, wide(a.tail)),
+            set_at(closure, wide(a.head)),
+            left,
+        );
+    }
+    count
+}
