@@ -81,7 +81,7 @@ module _ (heads : List ℕ) (a : Arrow) (tail head sign : ℕ) (et : tail ≡ a 
             ∙ rw (et, eh, es, heads-place s t (a .sign) (a .tail) lt tail-small);
         tails-are = λ s t ls h.
             let stay : has mid (512 + s) t ≡ has heads (512 + s) t =
-                first .each (512 + s) t ∙ or-other _ _ _ (ne-eqb (512 + s) (256 * sign + tail) (λ i. omega arith)) in
+            first .each (512 + s) t ∙ or-other _ _ _ (ne-eqb (512 + s) (256 * sign + tail) (λ i. omega arith)) in
             second .each (512 + s) t ∙ rw (stay, es, et, eqb-shifted 512 s (a .sign));
         tails-stay = λ h. absurd (h tt);
       }

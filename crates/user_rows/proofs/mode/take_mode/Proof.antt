@@ -74,16 +74,18 @@ loop-again c =
     let tail = start .pre .0 .tail-small (l .k) (omega arith) in
     let sign = start .pre .0 .sign-small (l .k) (omega arith) in
     ⊎-elim
-    (λ w. rw (w .7, w .8, w .9)
-    (search needs,
-    turn-own (a .arrows .now) (a .mode) (a .own .now) (l .k) (l .count) (l .own) (l .heads) arrow is (l .inv .1) (w .2 .last .0)
-    (w .2 .result) (w .0 .taken) tail sign (w .2 .ensures) (w .6 .result) (w .5 .taken) (w .6 .ensures) (omega arith)))
+    (λ w. rw (w .7, w .8, w .9) (
+      search needs,
+      turn-own (a .arrows .now) (a .mode) (a .own .now) (l .k) (l .count) (l .own) (l .heads) arrow is (l .inv .1) (w .2 .last .0)
+          (w .2 .result) (w .0 .taken) tail sign (w .2 .ensures) (w .6 .result) (w .5 .taken) (w .6 .ensures) (omega arith),
+    ))
     (λ w. rw (w .1, w .2, w .3)
     (⊎-elim
-    (λ v. rw (v .6)
-    (search needs,
-    turn-repeat (a .arrows .now) (a .mode) (a .own .now) (l .k) (l .count) (l .own) (l .heads) arrow is (l .inv .1) (v .2 .last .0)
-    (v .2 .result) (v .0 .taken) tail sign (v .2 .ensures) (v .5 .left)))
+    (λ v. rw (v .6) (
+      search needs,
+      turn-repeat (a .arrows .now) (a .mode) (a .own .now) (l .k) (l .count) (l .own) (l .heads) arrow is (l .inv .1) (v .2 .last .0)
+          (v .2 .result) (v .0 .taken) tail sign (v .2 .ensures) (v .5 .left),
+    ))
     (λ v. rw (v .1)
     (search needs, turn-other (a .arrows .now) (a .mode) (a .own .now) (l .k) (l .count) (l .own) (l .heads) arrow is (l .inv .1) (v .0 .left)))
     (w .0 .came)))

@@ -46,7 +46,8 @@ returns c =
     hit-here (a .closure .now) (a .arrows .now) (a .mode) (a .sign) (a .u) (a .f) (at-loop .loop .k) (c .narrow .result) (got .at .result)
     (got .at .ensures) (c .narrow .ensures) (omega arith)
     (hit-is (a .closure .now) (a .mode) (a .sign) (a .u) (a .f) (got .at .result) (modes .if1 .taken) (eqb-true _ _ (signs .if2 .taken))
-    (rw (← first .before .wide .ensures, ← first .has .ensures) (true-T _ (second .before .before .if3 .taken))) (rw (← second .before .wide2 .ensures, ← second .has2 .ensures) (true-T _ (c .before .if4 .taken))))
+    (rw (← first .before .wide .ensures, ← first .has .ensures) (true-T _ (second .before .before .if3 .taken)))
+    (rw (← second .before .wide2 .ensures, ← second .has2 .ensures) (true-T _ (c .before .if4 .taken))))
     (at-loop .loop .inv .1)
 
 loop-again : tie.Need-loop-again Inv-loop μ-loop
