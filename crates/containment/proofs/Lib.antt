@@ -2,6 +2,9 @@
 pub mod ContainsLaws
 pub mod DrawnLaws
 pub mod ScratchLaws
-mod Rounds
-mod StepLaws
 pub mod PictureLaws
+mod ClosingLaws
+mod SpreadLaws
+mod MarkLaws
+mod Rounds
+pub mod ClosureLaws

@@ -3,7 +3,7 @@ use mathlib.Core.Path.{_≡_}
 use mathlib.Core.List.{List}
 use mathlib.Core.Option.{Option, none}
 use Rattle.tables.specs.declared.Refusal.{Refusal}
-use Prim.Native.Nat.{ℕ}
+use Prim.Native.Nat.{ℕ, _*_, _≤_}
 use lib.ListN.{length}
 use Rattle.tables.specs.Rows.{picture}
 use Rattle.tables.specs.Faults.{tableFault}
@@ -11,19 +11,18 @@ use Rattle.tables.specs.Steps.{SoundRows, SoundArrows}
 use Rattle.tables.proofs.TableLaws.{both-none, sound-rows, sound-arrows}
 use Rattle.containment.specs.Contains.{loopFault}
 use Rattle.containment.specs.Scratch.{filled, scratchFault, scratchAfter, earlyFault, pictureFault}
-use Rattle.containment.specs.Steps.{Says}
-use Rattle.containment.proofs.ScratchLaws.{filled-says, scratch-room}
+use Rattle.containment.proofs.ScratchLaws.{scratch-room}
 
 pub record Prepared (boxes rows arrows s : List ℕ) : Type 0 where
   pub rows-sound : SoundRows boxes rows
   pub arrows-sound : SoundArrows boxes arrows
-  pub says : Says (length boxes) rows (filled (length boxes) rows s)
+  pub room : length boxes * length boxes ≤ length s
 
 pub prepared : (boxes rows arrows s : List ℕ) → tableFault (picture boxes rows arrows) ≡ none → scratchFault (length boxes) s ≡ none → Prepared boxes rows arrows s
 prepared boxes rows arrows s t r = record {
   rows-sound = sound-rows boxes rows arrows t;
   arrows-sound = sound-arrows boxes rows arrows t;
-  says = filled-says (length boxes) rows s (scratch-room (length boxes) s r);
+  room = scratch-room (length boxes) s r;
 }
 
 -- the scratch is filled where checks 1 to 9 found nothing
