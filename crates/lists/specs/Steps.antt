@@ -33,8 +33,8 @@ wrongAt left granted sign u f = has left u f && not (eqbBool (has granted u f) (
     eqbBool false b = not b
 
 -- an arrow is blocked if it would give a pair that is left the wrong answer, spent if it reaches no pair that is left, else free
-unfoldable pub standingOf : (wrong open : Bool) → Standing
-standingOf true open = Blocked
+unfoldable pub standingOf : (wrong new : Bool) → Standing
+standingOf true new = Blocked
 standingOf false true = Free
 standingOf false false = Spent
 
