@@ -139,8 +139,11 @@ pub extern "C" fn rights_judge(
     arrows: &[u16],
     scratch: &mut [u8],
 ) -> Reply
-    ensures { λ r. ⌜ r ≡ verdictReply (verdictOf (judgeFault (now (boxes .entry)) (now (rows .entry)) (now (arrows .entry)) (now (scratch .entry)))) ⌝ }
-    ensures { λ _. ⌜ now (scratch .exit) ≡ scratchAfter (earlyFault (now (boxes .entry)) (now (rows .entry)) (now (arrows .entry)) (now (scratch .entry))) (now (boxes .entry)) (now (rows .entry)) (now (scratch .entry)) ⌝ }
+    ensures { λ r. ⌜ r ≡ verdictReply (verdictOf (judgeFault (now (boxes .entry)) (now (rows .entry)) (now (arrows .entry))
+        (now (scratch .entry)))) ⌝ }
+    ensures { λ _. ⌜ now (scratch .exit) ≡ scratchAfter
+        (earlyFault (now (boxes .entry)) (now (rows .entry)) (now (arrows .entry)) (now (scratch .entry))) (now (boxes .entry))
+        (now (rows .entry)) (now (scratch .entry)) ⌝ }
 {
     of_verdict(answers::judge(boxes, rows, arrows, scratch))
 }
@@ -155,8 +158,11 @@ pub extern "C" fn rights_entry(
     mode: u16,
     scratch: &mut [u8],
 ) -> Reply
-    ensures { λ r. ⌜ r ≡ askedReply (replyOf (entryFault (now (boxes .entry)) (now (rows .entry)) (now (arrows .entry)) (now (scratch .entry)) mode user file) (answer (now (rows .entry)) (now (arrows .entry)) mode user file)) ⌝ }
-    ensures { λ _. ⌜ now (scratch .exit) ≡ scratchAfter (entryEarly (now (boxes .entry)) (now (rows .entry)) (now (arrows .entry)) (now (scratch .entry)) mode) (now (boxes .entry)) (now (rows .entry)) (now (scratch .entry)) ⌝ }
+    ensures { λ r. ⌜ r ≡ askedReply (replyOf (entryFault (now (boxes .entry)) (now (rows .entry)) (now (arrows .entry))
+        (now (scratch .entry)) mode user file) (answer (now (rows .entry)) (now (arrows .entry)) mode user file)) ⌝ }
+    ensures { λ _. ⌜ now (scratch .exit) ≡ scratchAfter
+        (entryEarly (now (boxes .entry)) (now (rows .entry)) (now (arrows .entry)) (now (scratch .entry)) mode) (now (boxes .entry))
+        (now (rows .entry)) (now (scratch .entry)) ⌝ }
 {
     of_asked(answers::one_entry(boxes, rows, arrows, scratch, user, file, mode))
 }
@@ -171,10 +177,15 @@ pub extern "C" fn rights_matrix(
     bytes: &mut [u8],
     numbers: &mut [u16],
 ) -> Reply
-    ensures { λ r. ⌜ r ≡ verdictReply (verdictOf (matrixFault (now (boxes .entry)) (now (rows .entry)) (now (arrows .entry)) (now (scratch .entry)) mode (now (bytes .entry)) (now (numbers .entry)))) ⌝ }
-    ensures { λ _. ⌜ now (scratch .exit) ≡ scratchAfter (matrixEarly (now (boxes .entry)) (now (rows .entry)) (now (arrows .entry)) (now (scratch .entry)) mode (now (bytes .entry)) (now (numbers .entry))) (now (boxes .entry)) (now (rows .entry)) (now (scratch .entry)) ⌝ }
-    ensures { λ _. ⌜ now (bytes .exit) ≡ bytesAfter (now (boxes .entry)) (now (rows .entry)) (now (arrows .entry)) (now (scratch .entry)) mode (now (bytes .entry)) (now (numbers .entry)) ⌝ }
-    ensures { λ _. ⌜ now (numbers .exit) ≡ numbersAfter (now (boxes .entry)) (now (rows .entry)) (now (arrows .entry)) (now (scratch .entry)) mode (now (bytes .entry)) (now (numbers .entry)) ⌝ }
+    ensures { λ r. ⌜ r ≡ verdictReply (verdictOf (matrixFault (now (boxes .entry)) (now (rows .entry)) (now (arrows .entry))
+        (now (scratch .entry)) mode (now (bytes .entry)) (now (numbers .entry)))) ⌝ }
+    ensures { λ _. ⌜ now (scratch .exit) ≡ scratchAfter
+        (matrixEarly (now (boxes .entry)) (now (rows .entry)) (now (arrows .entry)) (now (scratch .entry)) mode (now (bytes .entry))
+        (now (numbers .entry))) (now (boxes .entry)) (now (rows .entry)) (now (scratch .entry)) ⌝ }
+    ensures { λ _. ⌜ now (bytes .exit) ≡ bytesAfter (now (boxes .entry)) (now (rows .entry)) (now (arrows .entry))
+        (now (scratch .entry)) mode (now (bytes .entry)) (now (numbers .entry)) ⌝ }
+    ensures { λ _. ⌜ now (numbers .exit) ≡ numbersAfter (now (boxes .entry)) (now (rows .entry)) (now (arrows .entry))
+        (now (scratch .entry)) mode (now (bytes .entry)) (now (numbers .entry)) ⌝ }
 {
     of_verdict(answers::matrix(boxes, rows, arrows, scratch, mode, bytes, numbers))
 }
@@ -229,7 +240,9 @@ pub extern "C" fn rights_read(
     rows: &mut [u16],
     arrows: &mut [u16],
 ) -> Reply
-    ensures { λ r. ⌜ ((x : Reading) × (r ≡ readReply x) × ReadDone (now (file .entry)) (now (boxes .entry)) (now (rows .entry)) (now (arrows .entry)) (now (boxes .exit)) (now (rows .exit)) (now (arrows .exit)) x) ⌝ }
+    ensures { λ r. ⌜ ((x : Reading) × (r ≡ readReply x)
+        × ReadDone (now (file .entry)) (now (boxes .entry)) (now (rows .entry)) (now (arrows .entry)) (now (boxes .exit))
+        (now (rows .exit)) (now (arrows .exit)) x) ⌝ }
 {
     of_reading(blocks::read(file, boxes, rows, arrows))
 }
