@@ -1,0 +1,4 @@
+-- Laws for the proofs of this crate and of the crates above it.
+mod HeadLaws
+mod BlockLaws
+mod OutsideLaws
