@@ -2,3 +2,4 @@
 mod HeadLaws
 mod BlockLaws
 mod OutsideLaws
+mod SetLaws
