@@ -3,3 +3,4 @@ mod HeadLaws
 mod BlockLaws
 mod OutsideLaws
 mod SetLaws
+mod OutsideWalk
