@@ -4,3 +4,5 @@ mod BlockLaws
 mod OutsideLaws
 mod SetLaws
 mod OutsideWalk
+mod NearLaws
+mod StepLaws
