@@ -18,7 +18,7 @@ use Rattle.user_rows.specs.Steps.{Drawn, ModeSets, NearBy}
 use Rattle.user_rows.specs.declared.Near.{Near}
 use Rattle.user_rows.proofs.HeadLaws.{heads-bound}
 use Rattle.user_rows.proofs.OutsideLaws.{in-same, in-either}
-use Rattle.user_rows.proofs.NearLaws.{heads-set}
+use Rattle.user_rows.proofs.NearLaws.{nested-set, nesting-set, heads-set}
 
 and-swap : (a b c : Bool) → ((a && b) && c) ≡ ((a && c) && b)
 and-swap true true true = refl
@@ -46,58 +46,139 @@ module _ (pic : Picture) (m o u : ℕ) (p : Arrow) where
       in-either pic headBlocks (λ g. tailBlocks g || levelBlocks g) f
       ∙ ap (λ (b : Bool). inOne pic headBlocks f || b) (in-either pic tailBlocks levelBlocks f)
 
--- one step: the files in none of the boxes that a set has, where it has the boxes of a test
-pub step : (pic : Picture) (x y r : Set) (boxes : ℕ → Bool) → ((g : ℕ) → isIn y g ≡ boxes g)
-    → ((g : ℕ) → T (boxes g) → g < length (pic .boxes))
-    → (((g : ℕ) → T (isIn y g) → g < length (pic .boxes)) → (f : ℕ) → isIn r f ≡ (isIn x f && not (inOne pic (isIn y) f)))
-    → (f : ℕ) → isIn r f ≡ (isIn x f && not (inOne pic boxes f))
-step pic x y r boxes e bound told f =
-    told (λ g t. bound g (subst T (e g) t)) f ∙ ap (λ (b : Bool). isIn x f && not b) (in-same pic (isIn y) boxes e f)
+-- the files of a set in none of the boxes, where a set has the boxes of a test: what `outside_all` gives
+abbrev pub Outside : (pic : Picture) (files y r : Set) → Type 0
+Outside pic files y r =
+    ((g : ℕ) → T (isIn y g) → g < length (pic .boxes)) → (f : ℕ) → isIn r f ≡ (isIn files f && not (inOne pic (isIn y) f))
 
-module _ (pic : Picture) (m : ℕ) (closure heads : List ℕ) (d : Drawn pic closure) (sets : ModeSets (pic .arrows) m heads)
-    (s u : ℕ) (small : s ≤ 1) (asked : ℕ → Bool) (x : Near) (near : NearBy pic m s u asked x) (p : Arrow) where
-  -- the sets of boxes that the steps take, by what the code makes them of
-  module _ (nested : Set) (nested-is : (k : ℕ) → isIn nested k ≡ nests pic (p .head) k) (y : Set) where
-    pub head-step : ((k : ℕ) → isIn y k ≡ (isIn (x .heads) k && isIn nested k)) → (g : ℕ) → isIn y g ≡ headBlocks pic m s u p g
-    head-step told g = told g ∙ ap₂ _&&_ (near .heads-are g) (nested-is g)
+step : (pic : Picture) (files y r : Set) (boxes : ℕ → Bool) → ((g : ℕ) → isIn y g ≡ boxes g)
+    → ((g : ℕ) → T (boxes g) → g < length (pic .boxes)) → Outside pic files y r
+    → (f : ℕ) → isIn r f ≡ (isIn files f && not (inOne pic boxes f))
+step pic files y r boxes e bound told f =
+    told (λ g t. bound g (subst T (e g) t)) f ∙ ap (λ (b : Bool). isIn files f && not b) (in-same pic (isIn y) boxes e f)
 
-  module _ (nested : Set) (nested-is : (k : ℕ) → isIn nested k ≡ nests pic (p .tail) k) (y r : Set) where
-    pub tail-step : ((t : ℕ) → isIn y t ≡ (isIn (x .tails) t && isIn nested t))
-        → ((g : ℕ) → isIn r g ≡ anyBelow (λ t. isIn y t && has heads (256 * s + t) g) 256)
-        → (g : ℕ) → isIn r g ≡ tailBlocks pic m s u p g
-    tail-step told-y told-r =
-        heads-set pic m closure heads d sets s small (λ t. around (pic .rows) t u && nests pic (p .tail) t) y r
-        (λ t. told-y t ∙ ap₂ _&&_ (near .tails-are t) (nested-is t) ∙ and-swap (around (pic .rows) t u) _ (nests pic (p .tail) t))
-        told-r
+-- what the steps know: the sets of the picture, and the arrow's ends are boxes
+pub record Known (pic : Picture) (m u : ℕ) (closure heads : List ℕ) (x : Near) (p : Arrow) : Type 0 where
+  pub drawn : Drawn pic closure
+  pub sets : ModeSets (pic .arrows) m heads
+  pub small : x .sign ≤ 1
+  pub asked : ℕ → Bool
+  pub near : NearBy pic m (x .sign) u asked x
+  pub tail-in : p .tail < length (pic .boxes)
+  pub head-in : p .head < length (pic .boxes)
 
-  module _ (nesting outer : Set) (nesting-is : (k : ℕ) → isIn nesting k ≡ nests pic k (p .tail))
-      (outer-is : (k : ℕ) → isIn outer k ≡ nests pic k (p .head)) (y r z : Set) where
-    pub level-step : ((t : ℕ) → isIn y t ≡ (isIn (x .tails) t && not (isIn nesting t)))
-        → ((g : ℕ) → isIn r g ≡ anyBelow (λ t. isIn y t && has heads (256 * s + t) g) 256)
-        → ((g : ℕ) → isIn z g ≡ (isIn r g && not (isIn outer g)))
-        → (g : ℕ) → isIn z g ≡ levelBlocks pic m s u p g
-    level-step told-y told-r told-z g =
-        told-z g
+module _ (pic : Picture) (m u : ℕ) (closure heads : List ℕ) (x : Near) (p : Arrow) (known : Known pic m u closure heads x p) where
+  bound : (tails : ℕ → Bool) (g : ℕ) → T (headsOf (pic .arrows) m (x .sign) tails g) → g < length (pic .boxes)
+  bound tails g t = heads-bound (pic .arrows) m (pic .boxes) (known .drawn .arrows-sound) (x .sign) tails g t
+
+  module _ (t h : ℕ) (tail-is : t ≡ p .tail) (head-is : h ≡ p .head) where
+    -- what is nested in the tail or in the head, and what they are nested in
+    nested : (b c : ℕ) → b ≡ c → c < length (pic .boxes) → (y : Set)
+        → ((k : ℕ) → isIn y k ≡ (has closure b k && not (has closure (256 + b) k))) → (k : ℕ) → isIn y k ≡ nests pic c k
+    nested b c e l y told k = nested-set pic closure (known .drawn) b (rw e l) y told k ∙ ap (λ (z : ℕ). nests pic z k) e
+
+    nesting : (b c : ℕ) → b ≡ c → c < length (pic .boxes) → (y : Set)
+        → ((k : ℕ) → isIn y k ≡ (has closure (256 + b) k && not (has closure b k))) → (k : ℕ) → isIn y k ≡ nests pic k c
+    nesting b c e l y told k = nesting-set pic closure (known .drawn) b (rw e l) y told k ∙ ap (λ (z : ℕ). nests pic k z) e
+
+    -- the heads nested in the arrow's
+    pub take-head : (files inner y r : Set)
+        → ((k : ℕ) → isIn inner k ≡ (has closure h k && not (has closure (256 + h) k)))
+        → ((k : ℕ) → isIn y k ≡ (isIn (x .heads) k && isIn inner k))
+        → Outside pic files y r
+        → (f : ℕ) → isIn r f ≡ (isIn files f && not (inOne pic (headBlocks pic m (x .sign) u p) f))
+    take-head files inner y r told-inner told-y =
+        step pic files y r (headBlocks pic m (x .sign) u p)
+        (λ g. told-y g ∙ ap₂ _&&_ (known .near .heads-are g) (nested h (p .head) head-is (known .head-in) inner told-inner g))
+        (λ g s. bound all g (and-T (headsOf (pic .arrows) m (x .sign) all g) (nests pic (p .head) g) s .0))
+      where
+        all : ℕ → Bool
+        all v = around (pic .rows) v u
+
+    -- the heads of the arrows whose tail is nested in the arrow's
+    pub take-tail : (files inner from y r : Set)
+        → ((k : ℕ) → isIn inner k ≡ (has closure t k && not (has closure (256 + t) k)))
+        → ((k : ℕ) → isIn from k ≡ (isIn (x .tails) k && isIn inner k))
+        → ((g : ℕ) → isIn y g ≡ anyBelow (λ k. isIn from k && has heads (256 * x .sign + k) g) 256)
+        → Outside pic files y r
+        → (f : ℕ) → isIn r f ≡ (isIn files f && not (inOne pic (tailBlocks pic m (x .sign) u p) f))
+    take-tail files inner from y r told-inner told-from told-y =
+        step pic files y r (tailBlocks pic m (x .sign) u p)
+        (heads-set pic m closure heads (known .drawn) (known .sets) (x .sign) (known .small) tails from y
+        (λ k.
+        told-from k
+        ∙ ap₂ _&&_ (known .near .tails-are k) (nested t (p .tail) tail-is (known .tail-in) inner told-inner k)
+        ∙ and-swap (around (pic .rows) k u) _ (nests pic (p .tail) k))
+        told-y)
+        (bound tails)
+      where
+        tails : ℕ → Bool
+        tails v = around (pic .rows) v u && nests pic (p .tail) v
+
+    -- the heads of the arrows neither of whose ends has the arrow's nested in it
+    pub take-level : (files outer-tail from reach outer-head y r : Set)
+        → ((k : ℕ) → isIn outer-tail k ≡ (has closure (256 + t) k && not (has closure t k)))
+        → ((k : ℕ) → isIn from k ≡ (isIn (x .tails) k && not (isIn outer-tail k)))
+        → ((g : ℕ) → isIn reach g ≡ anyBelow (λ k. isIn from k && has heads (256 * x .sign + k) g) 256)
+        → ((k : ℕ) → isIn outer-head k ≡ (has closure (256 + h) k && not (has closure h k)))
+        → ((g : ℕ) → isIn y g ≡ (isIn reach g && not (isIn outer-head g)))
+        → Outside pic files y r
+        → (f : ℕ) → isIn r f ≡ (isIn files f && not (inOne pic (levelBlocks pic m (x .sign) u p) f))
+    take-level files outer-tail from reach outer-head y r told-tail told-from told-reach told-head told-y =
+        step pic files y r (levelBlocks pic m (x .sign) u p)
+        (λ g.
+        told-y g
         ∙ ap₂ (λ (a b : Bool). a && not b)
-        (heads-set pic m closure heads d sets s small (λ t. around (pic .rows) t u && not (nests pic t (p .tail))) y r
-        (λ t.
-        told-y t
-        ∙ ap₂ (λ (a b : Bool). a && not b) (near .tails-are t) (nesting-is t)
-        ∙ and-swap (around (pic .rows) t u) _ (not (nests pic t (p .tail))))
-        told-r g)
-        (outer-is g)
+        (heads-set pic m closure heads (known .drawn) (known .sets) (x .sign) (known .small) tails from reach
+        (λ k.
+        told-from k
+        ∙ ap₂ (λ (a b : Bool). a && not b) (known .near .tails-are k) (nesting t (p .tail) tail-is (known .tail-in) outer-tail told-tail k)
+        ∙ and-swap (around (pic .rows) k u) _ (not (nests pic k (p .tail))))
+        told-reach g)
+        (nesting h (p .head) head-is (known .head-in) outer-head told-head g))
+        (λ g s. bound tails g (and-T (headsOf (pic .arrows) m (x .sign) tails g) (not (nests pic g (p .head))) s .0))
+      where
+        tails : ℕ → Bool
+        tails v = around (pic .rows) v u && not (nests pic v (p .tail))
 
-  -- each of these boxes is one of the picture's
-  pub head-bound : (g : ℕ) → T (headBlocks pic m s u p g) → g < length (pic .boxes)
-  head-bound g t =
-      heads-bound (pic .arrows) m (pic .boxes) (d .arrows-sound) s (λ t. around (pic .rows) t u) g
-      (and-T (headsOf (pic .arrows) m s (λ t. around (pic .rows) t u) g) (nests pic (p .head) g) t .0)
+-- ---- the three steps together
 
-  pub tail-bound : (g : ℕ) → T (tailBlocks pic m s u p g) → g < length (pic .boxes)
-  tail-bound g t =
-      heads-bound (pic .arrows) m (pic .boxes) (d .arrows-sound) s (λ t. around (pic .rows) t u && nests pic (p .tail) t) g t
+-- what the first, two or three steps leave is what all leave, where nothing is left before the last
+module _ (pic : Picture) (m o u : ℕ) (p : Arrow) (f : ℕ) (files : Bool) where
+  steps : ((((files && not (inOne pic (headBlocks pic m o u p) f)) && not (inOne pic (tailBlocks pic m o u p) f)))
+      && not (inOne pic (levelBlocks pic m o u p) f)) ≡ (files && not (inOne pic (blocks pic m o u p) f))
+  steps =
+      apart files (inOne pic (headBlocks pic m o u p) f) (inOne pic (tailBlocks pic m o u p) f) (inOne pic (levelBlocks pic m o u p) f)
+      ∙ ap (λ (b : Bool). files && not b) (sym (blocks-apart pic m o u p f))
+    where
+      apart : (a x y z : Bool) → (((a && not x) && not y) && not z) ≡ (a && not (x || (y || z)))
+      apart false x y z = refl
+      apart true true y z = refl
+      apart true false true z = refl
+      apart true false false z = refl
 
-  pub level-bound : (g : ℕ) → T (levelBlocks pic m s u p g) → g < length (pic .boxes)
-  level-bound g t =
-      heads-bound (pic .arrows) m (pic .boxes) (d .arrows-sound) s (λ t. around (pic .rows) t u && not (nests pic t (p .tail))) g
-      (and-T (headsOf (pic .arrows) m s (λ t. around (pic .rows) t u && not (nests pic t (p .tail))) g) (not (nests pic g (p .head))) t .0)
+  pub one-step : (first : Bool) → first ≡ (files && not (inOne pic (headBlocks pic m o u p) f)) → first ≡ false
+      → first ≡ (files && not (inOne pic (blocks pic m o u p) f))
+  one-step first e none-left =
+      none-left
+      ∙ ap (λ (b : Bool). (b && not (inOne pic (tailBlocks pic m o u p) f)) && not (inOne pic (levelBlocks pic m o u p) f)) (sym none-left ∙ e)
+      ∙ steps
+
+  pub two-steps : (first second : Bool) → first ≡ (files && not (inOne pic (headBlocks pic m o u p) f))
+      → second ≡ (first && not (inOne pic (tailBlocks pic m o u p) f)) → second ≡ false
+      → second ≡ (files && not (inOne pic (blocks pic m o u p) f))
+  two-steps first second e i none-left =
+      none-left
+      ∙ ap (λ (b : Bool). b && not (inOne pic (levelBlocks pic m o u p) f))
+      (sym none-left ∙ i ∙ ap (λ (b : Bool). b && not (inOne pic (tailBlocks pic m o u p) f)) e)
+      ∙ steps
+
+  pub three-steps : (first second third : Bool) → first ≡ (files && not (inOne pic (headBlocks pic m o u p) f))
+      → second ≡ (first && not (inOne pic (tailBlocks pic m o u p) f))
+      → third ≡ (second && not (inOne pic (levelBlocks pic m o u p) f))
+      → third ≡ (files && not (inOne pic (blocks pic m o u p) f))
+  three-steps first second third e i j =
+      j
+      ∙ ap (λ (b : Bool). b && not (inOne pic (levelBlocks pic m o u p) f))
+      (i ∙ ap (λ (b : Bool). b && not (inOne pic (tailBlocks pic m o u p) f)) e)
+      ∙ steps
