@@ -155,3 +155,34 @@ certified-is pic sound m s o u f k lv =
     either true true = refl
     either true false = refl
     either false b = refl
+
+-- ---- the two ways of `certified`: the files that no opposite arrow reaches are taken as they are
+
+module _ (pic : Picture) (m o u : ℕ) (p : Arrow) (sound : SoundArrows (pic .boxes) (pic .arrows)) (f : ℕ) (left asked hit met : Bool)
+    (within : T left → T asked) (hit-is : hit ≡ (around (pic .rows) (p .head) f && left))
+    (met-is : met ≡ (hit && (asked && reachedBy pic m o u f))) where
+  pub certified-met : (r : Bool) → r ≡ ((hit && not met) || (met && not (inOne pic (blocks pic m o u p) f)))
+      → r ≡ (left && certified pic m o u p f)
+  unfolding certified
+  certified-met r e =
+      e
+      ∙ rw (met-is, hit-is)
+      (whole (around (pic .rows) (p .head) f) left asked (reachedBy pic m o u f) (inOne pic (blocks pic m o u p) f)
+      within (blocked-reached pic m o u p sound f))
+    where
+      whole : (h l a r b : Bool) → (T l → T a) → (T b → T r)
+          → (((h && l) && not ((h && l) && (a && r))) || (((h && l) && (a && r)) && not b)) ≡ (l && (h && not b))
+      whole false true a r b i j = refl
+      whole false false a r b i j = refl
+      whole true false a r b i j = refl
+      whole true true false r b i j = absurd (i tt)
+      whole true true true true b i j = refl
+      whole true true true false true i j = absurd (j tt)
+      whole true true true false false i j = refl
+
+  pub certified-unmet : met ≡ false → hit ≡ (left && certified pic m o u p f)
+  certified-unmet e = certified-met hit (rw e (whole hit))
+    where
+      whole : (h : Bool) → h ≡ ((h && true) || false)
+      whole true = refl
+      whole false = refl
