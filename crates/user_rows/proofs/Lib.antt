@@ -5,4 +5,4 @@ mod OutsideLaws
 mod SetLaws
 mod OutsideWalk
 mod NearLaws
-mod StepLaws
+mod BlockSteps

@@ -7,8 +7,8 @@ use Rattle.tables.specs.Rows.{Picture}
 use Rattle.boxsets.specs.Sets.{isIn}
 use Rattle.boxsets.proofs.WalkLaws.{empty-none}
 use Rattle.user_rows.specs.Row.{inOne}
-use Rattle.user_rows.proofs.StepLaws.{Known, headBlocks, tailBlocks, levelBlocks, take-head, take-tail, take-level}
-use Rattle.user_rows.proofs.StepLaws.{one-step, two-steps, three-steps}
+use Rattle.user_rows.proofs.BlockSteps.{Known, headBlocks, tailBlocks, levelBlocks, take-head, take-tail, take-level}
+use Rattle.user_rows.proofs.BlockSteps.{one-step, two-steps, three-steps}
 use Rattle.user_rows.proofs.certificate.unblocked.Statement.{statement}
 use Rattle.user_rows.proofs.certificate.unblocked.Tie as tie
 
