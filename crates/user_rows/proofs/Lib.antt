@@ -1,4 +1,7 @@
 -- Laws for the proofs of this crate and of the crates above it.
+pub mod SameLaws
+pub mod ModeLaws
+pub mod StepLaws
 mod HeadLaws
 mod BlockLaws
 mod OutsideLaws
@@ -6,3 +9,6 @@ mod SetLaws
 mod OutsideWalk
 mod NearLaws
 mod BlockSteps
+mod OwnLaws
+mod ShowLaws
+mod ReachLaws
