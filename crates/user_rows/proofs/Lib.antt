@@ -11,4 +11,4 @@ mod NearLaws
 mod BlockSteps
 mod OwnLaws
 mod ShowLaws
-mod ReachLaws
+mod RowAnswers
