@@ -81,15 +81,13 @@ module _ (pic : Picture) (m : ℕ) (closure heads : List ℕ) (d : Drawn pic clo
 
   -- what `arrows_near` makes
   module _ (s u : ℕ) (small : s ≤ 1) (there : u < length (pic .boxes)) (x : Near) (asked out : Set) where
-    pub near-made : x .sign ≡ s
-        → ((t : ℕ) → isIn (x .tails) t ≡ (has closure (256 + u) t && has heads (512 + s) t))
+    pub near-made : ((t : ℕ) → isIn (x .tails) t ≡ (has closure (256 + u) t && has heads (512 + s) t))
         → ((g : ℕ) → isIn (x .heads) g ≡ anyBelow (λ t. isIn (x .tails) t && has heads (256 * s + t) g) 256)
         → (((g : ℕ) → T (isIn (x .heads) g) → g < length (pic .boxes))
         → (f : ℕ) → isIn out f ≡ (isIn asked f && not (inOne pic (isIn (x .heads)) f)))
         → ((f : ℕ) → isIn (x .files) f ≡ (isIn asked f && not (isIn out f)))
         → NearBy pic m s u (isIn asked) x
-    near-made sign-is tails told-heads told-out told-files = record {
-      sign-is = sign-is;
+    near-made tails told-heads told-out told-files = record {
       tails-are = tails-are;
       heads-are = heads-are;
       files-are = λ f.

@@ -4,7 +4,7 @@ use mathlib.Core.Logic.{_⊎_, inl, inr, ⊎-elim}
 use mathlib.Core.Bool.{Bool, true, false, not, _&&_, _||_, or-false}
 use mathlib.Core.List.{List}
 use mathlib.Core.Option.{none, some}
-use Prim.Native.Nat.{ℕ, _<_, _≤_}
+use Prim.Native.Nat.{ℕ, _+_, _<_, _≤_}
 use native.Mathlib.Omega.{arith}
 use lib.Dec.{T, eqb}
 use lib.ListN.{length, getD}
@@ -17,9 +17,12 @@ use Rattle.containment.specs.Contains.{around}
 use Rattle.meaning.specs.Meaning.{positive, negative, hasMode, reaches, overrides, hits, certifies}
 use Rattle.meaning.proofs.AnswerLaws.{hit-mode, hit-sign, hit-reaches, certifies-hits}
 use Rattle.meaning.proofs.ModeLaws.{reaches-is}
+use Rattle.boxsets.specs.Sets.{has}
+use Rattle.user_rows.specs.Steps.{Drawn}
 use Rattle.user_rows.specs.Row.{leaves, same, ownArrows, certified, shows}
 use Rattle.user_rows.proofs.SameLaws.{same-parts}
 use Rattle.user_rows.proofs.OwnLaws.{own-first, own-nothing}
+use Rattle.user_rows.proofs.HeadLaws.{tail-there, head-there}
 use Rattle.user_rows.proofs.BlockLaws.{certified-is}
 
 module _ (pic : Picture) (m u f : ℕ) where
@@ -106,3 +109,25 @@ module _ (pic : Picture) (m u f : ℕ) where
   pub own-none : ((i : ℕ) → i < length (ownArrows (pic .arrows) m) → T (shows pic m u f (getD (ownArrows (pic .arrows) m) i 0)) → ⊥)
       → lowest (shows pic m u f) (arrowCount (pic .arrows)) ≡ none
   own-none = own-nothing (pic .arrows) m (shows pic m u f) shows-mode shows-same
+
+-- ---- for an arrow that the code has read
+
+module _ (pic : Picture) (m u k : ℕ) (closure : List ℕ) (d : Drawn pic closure) (there : u < length (pic .boxes)) (a : Arrow)
+    (a-is : a ≡ arrowAt (pic .arrows) k) (l : k < arrowCount (pic .arrows)) where
+  pub ends-there : (a .tail < length (pic .boxes)) × (a .head < length (pic .boxes)) × (u < length (pic .boxes))
+  ends-there = rw a-is (
+    tail-there (pic .boxes) (pic .arrows) (d .arrows-sound) k l,
+    head-there (pic .boxes) (pic .arrows) (d .arrows-sound) k l,
+    there,
+  )
+
+  pub sign-other : (a .sign ≡ positive → ⊥) → a .sign ≡ negative
+  sign-other n = let i : a .sign ≤ 1 = rw a-is (d .arrows-sound .sign-most k l) in omega arith
+
+  pub shown-by : T (hasMode (pic .arrows) m k) → T (has closure (256 + u) (a .tail))
+      → (s o : ℕ) → ((s ≡ positive) × (o ≡ negative)) ⊎ ((s ≡ negative) × (o ≡ positive)) → a .sign ≡ s
+      → (f : ℕ) → shows pic m u f k ≡ certified pic m o u a f
+  shown-by mode-is tail-is s o signs sign-is f =
+      shows-certified pic m u f (d .arrows-sound) s o k signs (sym (ap (λ (x : Arrow). x .sign) a-is) ∙ sign-is) mode-is
+      (subst T (ap (λ (x : Arrow). has closure (256 + u) (x .tail)) a-is ∙ d .closed .up (arrowAt (pic .arrows) k .tail) u there) tail-is)
+      ∙ ap (λ (x : Arrow). certified pic m o u x f) (sym a-is)
