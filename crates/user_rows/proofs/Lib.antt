@@ -12,3 +12,4 @@ mod BlockSteps
 mod OwnLaws
 mod ShowLaws
 mod RowAnswers
+mod RowWalk
