@@ -13,3 +13,4 @@ mod OwnLaws
 mod ShowLaws
 mod RowAnswers
 mod RowWalk
+mod RowSorts
