@@ -14,3 +14,4 @@ mod ShowLaws
 mod RowAnswers
 mod RowWalk
 mod RowSorts
+mod EntryLaws

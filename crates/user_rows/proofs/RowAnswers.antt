@@ -3,8 +3,7 @@ use mathlib.Core.Path.{_≡_, refl, sym, ap, subst, _∙_}
 use mathlib.Core.Logic.{_⊎_, ⊎-elim}
 use mathlib.Core.Bool.{Bool, true, false, not, _&&_, _||_, cond}
 use mathlib.Core.Option.{Option, none, some}
-use Prim.Native.Nat.{ℕ, _<_, _≤_}
-use native.Mathlib.Omega.{arith}
+use Prim.Native.Nat.{ℕ, _<_}
 use lib.Dec.{T, eqb}
 use Rattle.base.specs.Search.{lowest, anyBelow}
 use Rattle.base.proofs.Tests.{T?, or-T, T-true, not-false, false-not}
@@ -13,8 +12,7 @@ use Rattle.base.proofs.SelectLaws.{lowest-is, lowest-nothing}
 use Rattle.base.proofs.AnyLaws.{any-found, any-is}
 use Rattle.tables.specs.Rows.{Picture, arrowCount, arrowAt}
 use Rattle.meaning.specs.Meaning.{positive, negative, settle, hits, certifies, answer, isGranted, isUnclear, numberOf}
-use Rattle.meaning.specs.declared.Entry.{Entry}
-use Rattle.meaning.specs.declared.Entry.the-variants.{Granted, Denied, Default, Unclear}
+use Rattle.meaning.specs.declared.Entry.the-variants.{Granted, Denied, Default}
 use Rattle.meaning.proofs.AnswerLaws.{certifies-hits, certifies-is, hit-sign, one-sign}
 use Rattle.user_rows.specs.Row.{shows, saidBy, reachedBy}
 use Rattle.user_rows.proofs.ShowLaws.{shows-parts, shows-grants, shows-denies, shows-hits, certifies-sign}
@@ -162,50 +160,3 @@ module _ (pic : Picture) (m u f : ℕ) where
   shown-row k e =
       let s = arrowAt (pic .arrows) k .sign in
       (ap isGranted (shown-said k e) ∙ said-granted s k, ap isUnclear (shown-said k e) ∙ said-clear s k, ap numberOf (shown-said k e) ∙ said-number s k)
-
-  -- ---- the answer from its tests and its number, as `entry_of` makes it
-
-  pub entry-granted : T (isGranted (answer pic m u f)) → Granted (numberOf (answer pic m u f)) ≡ answer pic m u f
-  unfolding isGranted numberOf
-  entry-granted t = go (answer pic m u f) t
-    where
-      go : (e : Entry) → T (isGranted e) → Granted (numberOf e) ≡ e
-      go (Granted k) t = refl
-      go (Denied k) t = absurd t
-      go Default t = absurd t
-      go (Unclear p n) t = absurd t
-
-  -- an unclear pair has an arrow of each sign, and the lowest are named
-  pub entry-unclear : T (isUnclear (answer pic m u f))
-      → (p n : ℕ) × (lowest (hits pic m positive u f) count ≡ some p) × (lowest (hits pic m negative u f) count ≡ some n)
-      × (answer pic m u f ≡ Unclear p n)
-  unfolding answer settle isUnclear
-  entry-unclear t =
-      go (lowest (certifies pic m positive negative u f) count) (lowest (certifies pic m negative positive u f) count)
-      (lowest (hits pic m positive u f) count) (lowest (hits pic m negative u f) count) t
-    where
-      go : (a b c d : Option ℕ) → T (isUnclear (settle a b c d)) → (p n : ℕ) × (c ≡ some p) × (d ≡ some n) × (settle a b c d ≡ Unclear p n)
-      go (some k) b c d t = absurd t
-      go none (some k) c d t = absurd t
-      go none none (some p) (some n) t = (p, n, refl, refl, refl)
-      go none none (some p) none t = absurd t
-      go none none none d t = absurd t
-
-  -- what is neither granted nor unclear is denied by an arrow if its number is one, else by default
-  pub entry-denied : count ≤ 512 → (T (isGranted (answer pic m u f)) → ⊥) → (T (isUnclear (answer pic m u f)) → ⊥)
-      → (numberOf (answer pic m u f) < 65535 → Denied (numberOf (answer pic m u f)) ≡ answer pic m u f)
-      × (65535 ≤ numberOf (answer pic m u f) → Default ≡ answer pic m u f)
-  unfolding answer settle isUnclear isGranted numberOf
-  entry-denied few g n =
-      go (lowest (certifies pic m positive negative u f) count) (lowest (certifies pic m negative positive u f) count) refl
-      (lowest (hits pic m positive u f) count) (lowest (hits pic m negative u f) count) g n
-    where
-      go : (a b : Option ℕ) → lowest (certifies pic m negative positive u f) count ≡ b → (c d : Option ℕ)
-          → (T (isGranted (settle a b c d)) → ⊥) → (T (isUnclear (settle a b c d)) → ⊥)
-          → (numberOf (settle a b c d) < 65535 → Denied (numberOf (settle a b c d)) ≡ settle a b c d)
-          × (65535 ≤ numberOf (settle a b c d) → Default ≡ settle a b c d)
-      go (some k) b e c d g n = absurd (g tt)
-      go none (some k) e c d g n = (λ l. refl, λ l. absurd (omega (arith, lowest-some _ count k e .0)))
-      go none none e (some p) (some q) g n = absurd (n tt)
-      go none none e (some p) none g n = (λ l. absurd (omega arith), λ l. refl)
-      go none none e none d g n = (λ l. absurd (omega arith), λ l. refl)
