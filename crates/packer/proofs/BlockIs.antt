@@ -6,7 +6,7 @@ use native.Mathlib.Omega.{arith}
 use lib.ListN.{length, getD, take, drop, take-append-drop}
 use lib.Seq.{take-take, take-add, drop-drop, drop-cons, drop-length}
 use Rattle.base.specs.Buffers.{zeros}
-use Rattle.tables.specs.Rows.{rowAt, arrowAt}
+use Rattle.tables.specs.Rows.{Picture, rowAt, arrowAt}
 use Rattle.blocks.specs.Fnv.{fnv1a}
 use Rattle.blocks.specs.Blocks.{number16, number32, headOf, recordSize, joined}
 use Rattle.blocks.specs.declared.Head.{Head}
@@ -126,8 +126,8 @@ module _ (block : List ℕ) (whole : length block ≡ 512) (small : (at : ℕ) �
 
   -- ---- a row's record is that of the block, where the block says the row
 
-  module _ (boxes rows arrows : List ℕ) (i j : ℕ) where
-    pub box-record : j < 500 → getD boxes i 0 ≡ getD block (8 + j) 0 → recordBytes boxes rows arrows 1 i ≡ recordIn block 1 j
+  module _ (pic : Picture) (i j : ℕ) where
+    pub box-record : j < 500 → getD (pic .boxes) i 0 ≡ getD block (8 + j) 0 → recordBytes pic 1 i ≡ recordIn block 1 j
     unfolding recordBytes boxBytes
     box-record h e =
         let a : 8 + 1 * j ≡ 8 + j = omega arith in

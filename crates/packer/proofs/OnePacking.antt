@@ -11,7 +11,7 @@ use native.Mathlib.Nat.{zero-add, add-assoc, mul-suc}
 use borrow.Author.Tests.{eqb-true, eqb-false}
 use lib.Dec.{eqb}
 use lib.ListN.{length, getD}
-use Rattle.tables.specs.Rows.{picture}
+use Rattle.tables.specs.Rows.{Picture, picture}
 use Rattle.tables.specs.Faults.{tableFault}
 use Rattle.blocks.specs.Blocks.{joined}
 use Rattle.blocks.specs.Files.{blockAt, blockCount, fileFault, boxesOf, containmentsOf, arrowsOf}
@@ -192,21 +192,21 @@ pub one-packing : (file : List ℕ) → ((i : ℕ) → getD file i 0 < 256) → 
 one-packing file small good regular = packed-same file small good regular (file-runs file good)
 
 -- so no other says them
-pub only-packing : (boxes rows arrows file : List ℕ) → ((i : ℕ) → getD file i 0 < 256) → fileFault file ≡ none → Regular file
-    → boxesOf file ≡ boxes → containmentsOf file ≡ rows → arrowsOf file ≡ arrows → file ≡ packed boxes rows arrows
-only-packing boxes rows arrows file small good regular b r a = sym (one-packing file small good regular) ∙ rw (b, r, a)
+pub only-packing : (pic : Picture) (file : List ℕ) → ((i : ℕ) → getD file i 0 < 256) → fileFault file ≡ none → Regular file
+    → boxesOf file ≡ (pic .boxes) → containmentsOf file ≡ (pic .rows) → arrowsOf file ≡ (pic .arrows) → file ≡ packed pic
+only-packing pic file small good regular b r a = sym (one-packing file small good regular) ∙ rw (b, r, a)
 
 -- P1, both ways: the regular packing of a picture that checks 1 to 7 pass is its packed file, and nothing else
-pub regular-packing : (boxes rows arrows : List ℕ) → tableFault (picture boxes rows arrows) ≡ none
-    → (file : List ℕ) → RegularPacking boxes rows arrows file ↔ (file ≡ packed boxes rows arrows)
-regular-packing boxes rows arrows sound file = (
-  λ p. only-packing boxes rows arrows file (p .bytes) (p .good) (p .regular) (p .says-boxes) (p .says-containments) (p .says-arrows),
+pub regular-packing : (pic : Picture) → tableFault pic ≡ none
+    → (file : List ℕ) → RegularPacking pic file ↔ (file ≡ packed pic)
+regular-packing pic sound file = (
+  λ p. only-packing pic file (p .bytes) (p .good) (p .regular) (p .says-boxes) (p .says-containments) (p .says-arrows),
   λ e. rw e (record {
-    bytes = packed-bytes boxes rows arrows sound;
-    good = packed-good boxes rows arrows sound;
-    regular = packed-regular boxes rows arrows;
-    says-boxes = packed-boxes boxes rows arrows sound;
-    says-containments = packed-containments boxes rows arrows sound;
-    says-arrows = packed-arrows boxes rows arrows sound;
+    bytes = packed-bytes pic sound;
+    good = packed-good pic sound;
+    regular = packed-regular pic;
+    says-boxes = packed-boxes pic sound;
+    says-containments = packed-containments pic sound;
+    says-arrows = packed-arrows pic sound;
   }),
 )

@@ -7,6 +7,7 @@ use native.Mathlib.Nat.{mul-zero, mul-suc}
 use native.Mathlib.Numerals.{add-one}
 use lib.ListN.{length, take, drop, length-append}
 use lib.Seq.{sets, length-sets}
+use Rattle.tables.specs.Rows.{Picture}
 use Rattle.base.specs.Buffers.{zeros}
 use Rattle.blocks.specs.Fnv.{fnv1a}
 use Rattle.blocks.specs.Blocks.{capacity, recordSize, joined}
@@ -57,13 +58,13 @@ module _ (kind : Kind) (boxes rows arrows l₀ : List ℕ) (w : Walk) (count : �
       chain l₀ l₃ l₄ (blockByte kind w) 508 (h ++ (r ++ z)) (bytes32 (fnv1a (h ++ (r ++ z)))) whole all check
 
 -- a loop that has written so many blocks of a kind
-module _ (boxes rows arrows : List ℕ) (kind : Kind) (l₀ : List ℕ) (blocks : ℕ) where
+module _ (pic : Picture) (kind : Kind) (l₀ : List ℕ) (blocks : ℕ) where
   pub record Wrote (k : ℕ) (file : List ℕ) (w : Walk) : Type 0 where
     pub most : k ≤ blocks
     pub the-walk : w ≡ walkAt (kind .capacity) (w .row)
     pub the-row : k < blocks → w .row ≡ kind .capacity * k
     pub same-length : length file ≡ length l₀
-    pub so-far : file ≡ sets l₀ (512 * kind .first) (joined (kindBlock boxes rows arrows (kind .number)) k)
+    pub so-far : file ≡ sets l₀ (512 * kind .first) (joined (kindBlock pic (kind .number)) k)
 
   pub wrote-none : (w : Walk) → ((capacity : ℕ) → w ≡ walkAt capacity 0) → Wrote 0 l₀ w
   wrote-none w start = record {
@@ -71,11 +72,11 @@ module _ (boxes rows arrows : List ℕ) (kind : Kind) (l₀ : List ℕ) (blocks 
     the-walk = rw (start (kind .capacity));
     the-row = λ _. rw (start (kind .capacity), mul-zero);
     same-length = refl;
-    so-far = rw (joined-none (kindBlock boxes rows arrows (kind .number)));
+    so-far = rw (joined-none (kindBlock pic (kind .number)));
   }
 
-  module _ (of : OfKind boxes rows arrows kind)
-      (asked : (blocks ≡ blocksOf boxes rows arrows (kind .number)) × BlocksFit kind blocks (length l₀))
+  module _ (of : OfKind pic kind)
+      (asked : (blocks ≡ blocksOf pic (kind .number)) × BlocksFit kind blocks (length l₀))
       (k : ℕ) (file : List ℕ) (w : Walk) (wrote : Wrote k file w) (less : k < blocks) where
     stands : w ≡ record { row = kind .capacity * k; block = k; place = 0 }
     stands =
@@ -83,11 +84,11 @@ module _ (boxes rows arrows : List ℕ) (kind : Kind) (l₀ : List ℕ) (blocks 
         wrote .the-walk ∙ rw (wrote .the-row less) (walk-begun (kind .capacity) k some)
 
     pub row-begun : w .row ≤ kind .rows
-    row-begun = rw (stands, of .the-capacity, of .the-rows) (block-begun boxes rows arrows (kind .number) (of .low) (of .high) k (rw (← asked .0) less))
+    row-begun = rw (stands, of .the-capacity, of .the-rows) (block-begun pic (kind .number) (of .low) (of .high) k (rw (← asked .0) less))
 
     -- the rows that the next block takes
     module _ (count : ℕ) (is : count ≡ least (kind .rows - w .row) (kind .capacity)) where
-      count-is : count ≡ countIn boxes rows arrows (kind .number) k
+      count-is : count ≡ countIn pic (kind .number) k
       unfolding countIn
       count-is = is ∙ rw (stands, of .the-capacity, of .the-rows)
 
@@ -109,9 +110,9 @@ module _ (boxes rows arrows : List ℕ) (kind : Kind) (l₀ : List ℕ) (blocks 
       -- one block more
       module _ (file′ : List ℕ) (w′ : Walk) (walked : w′ ≡ walkAt (kind .capacity) (w .row + count))
           (put : file′ ≡ sets file (blockByte kind w)
-          (blockOf (kind .number) (kind .first + w .block) count (λ j. recordBytes boxes rows arrows (kind .number) (w .row + j)))) where
-        next-block : blockOf (kind .number) (kind .first + w .block) count (λ j. recordBytes boxes rows arrows (kind .number) (w .row + j))
-            ≡ kindBlock boxes rows arrows (kind .number) k
+          (blockOf (kind .number) (kind .first + w .block) count (λ j. recordBytes pic (kind .number) (w .row + j)))) where
+        next-block : blockOf (kind .number) (kind .first + w .block) count (λ j. recordBytes pic (kind .number) (w .row + j))
+            ≡ kindBlock pic (kind .number) k
         unfolding kindBlock
         next-block = rw (stands, count-is, of .the-first, of .the-capacity)
 
@@ -120,7 +121,7 @@ module _ (boxes rows arrows : List ℕ) (kind : Kind) (l₀ : List ℕ) (blocks 
 
         next-begun : k + 1 < blocks → w′ .row ≡ kind .capacity * (k + 1)
         next-begun h =
-            let last = full-but-last boxes rows arrows (kind .number) (of .low) (of .high) k (rw (← asked .0) h) in
+            let last = full-but-last pic (kind .number) (of .low) (of .high) k (rw (← asked .0) h) in
             let full : count ≡ kind .capacity = count-is ∙ last ∙ sym (of .the-capacity) in
             next-row ∙ rw (full, stands, add-one k, mul-suc)
 
@@ -130,6 +131,6 @@ module _ (boxes rows arrows : List ℕ) (kind : Kind) (l₀ : List ℕ) (blocks 
           the-walk = walked ∙ ap (λ (r : ℕ). walkAt (kind .capacity) r) (sym next-row);
           the-row = next-begun;
           same-length = rw put (simp length-sets (wrote .same-length));
-          so-far = put ∙ rw (next-block, wrote .so-far) (put-more l₀ (512 * kind .first) (kindBlock boxes rows arrows (kind .number)) 512
-              (kind-block-length (kind .number) (of .low) (of .high) boxes rows arrows) k _ (rw stands (omega arith)));
+          so-far = put ∙ rw (next-block, wrote .so-far) (put-more l₀ (512 * kind .first) (kindBlock pic (kind .number)) 512
+              (kind-block-length (kind .number) (of .low) (of .high) pic) k _ (rw stands (omega arith)));
         }
