@@ -151,8 +151,8 @@ module _ (file : List ℕ) where
                 least-high _ (capacity kind) (omega arith) ∙ sym (run-full j (omega arith)))
                 (eq-or-lt-of-le (le-of-suc-le-suc (rw e at h))))
 
-        pub blocks-same : firstOf boxes rows arrows kind ≡ from → (j : ℕ) → j < m
-            → kindBlock boxes rows arrows kind j ≡ blockAt file (from + j)
+        pub blocks-same : firstOf pic kind ≡ from → (j : ℕ) → j < m
+            → kindBlock pic kind j ≡ blockAt file (from + j)
         unfolding kindBlock
         blocks-same first j h =
             rw (first, counts-are j h)

@@ -84,13 +84,13 @@ module _ (kind : ℕ) (low : 1 ≤ kind) (high : kind ≤ 3) where
     unfolding countIn
     count-most k = least-most (rowsOf pic kind - capacity kind * k) (capacity kind) .1
 
-    pub kind-block-length : (k : ℕ) → length (kindBlock boxes rows arrows kind k) ≡ 512
+    pub kind-block-length : (k : ℕ) → length (kindBlock pic kind k) ≡ 512
     unfolding kindBlock
-    kind-block-length k = block-length _ _ _ (count-most k) (λ j. record-length boxes rows arrows (capacity kind * k + j))
+    kind-block-length k = block-length _ _ _ (count-most k) (λ j. record-length pic (capacity kind * k + j))
 
-    pub kind-length : length (kindBytes boxes rows arrows kind) ≡ 512 * blocksOf boxes rows arrows kind
+    pub kind-length : length (kindBytes pic kind) ≡ 512 * blocksOf pic kind
     unfolding kindBytes
-    kind-length = joined-length _ 512 (blocksOf boxes rows arrows kind) (λ k h. kind-block-length k)
+    kind-length = joined-length _ 512 (blocksOf pic kind) (λ k h. kind-block-length k)
 
 -- 512 bytes a block
 pub packed-length : (pic : Picture)

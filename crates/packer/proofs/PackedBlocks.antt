@@ -94,14 +94,14 @@ module _ (pic : Picture) where
   other-boxes kind low high n =
       joined-empty _ n (λ k h. no-boxes _ _ _ _ (kind-head pic kind (omega arith) high k) (λ e. omega arith))
 
-  pub boxes-packed : boxesIn blocks blocksAll ≡ (pic .boxes)
+  pub boxes-packed : boxesIn blocks blocksAll ≡ pic .boxes
   unfolding countIn
   boxes-packed =
       boxes-in blocks blocksAll ∙ by-kind boxesSaid
       ∙ ap₂ _++_ own (ap₂ _++_ (other-boxes 2 (omega arith) (omega arith) _) (other-boxes 3 (omega arith) (omega arith) _))
       ∙ append-nil (pic .boxes)
     where
-      own : joined (λ k. boxesSaid (kindBlock pic 1 k)) (blocksOf pic 1) ≡ (pic .boxes)
+      own : joined (λ k. boxesSaid (kindBlock pic 1 k)) (blocksOf pic 1) ≡ pic .boxes
       own =
           joined-same _ _ _ (λ k h. boxes-said pic k)
           ∙ joined-all (λ i. getD (pic .boxes) i 0 ∷ []) (capacity 1) (rowsOf pic 1) _ (all-packed pic 1 (omega arith) (omega arith))
@@ -113,7 +113,7 @@ module _ (pic : Picture) where
   other-containments kind low high not n =
       joined-empty _ n (λ k h. no-containments _ _ _ _ (kind-head pic kind low high k) not)
 
-  pub containments-packed : length (pic .rows) % 2 ≡ 0 → containmentsIn blocks blocksAll ≡ (pic .rows)
+  pub containments-packed : length (pic .rows) % 2 ≡ 0 → containmentsIn blocks blocksAll ≡ pic .rows
   unfolding countIn
   containments-packed whole =
       containments-in blocks blocksAll ∙ by-kind containmentsSaid
@@ -121,7 +121,7 @@ module _ (pic : Picture) where
       (ap₂ _++_ own (other-containments 3 (omega arith) (omega arith) (λ e. omega arith) _))
       ∙ append-nil (pic .rows)
     where
-      own : joined (λ k. containmentsSaid (kindBlock pic 2 k)) (blocksOf pic 2) ≡ (pic .rows)
+      own : joined (λ k. containmentsSaid (kindBlock pic 2 k)) (blocksOf pic 2) ≡ pic .rows
       own =
           let row : ℕ → List ℕ = λ i. rowAt (pic .rows) i .outer ∷ rowAt (pic .rows) i .inner ∷ [] in
           joined-same _ _ _ (λ k h. containments-said pic k)
@@ -142,7 +142,7 @@ module _ (pic : Picture) where
 
   module _ (whole : length (pic .arrows) % 4 ≡ 0) (modes : (i : ℕ) → i < arrowCount (pic .arrows) → arrowAt (pic .arrows) i .mode ≤ 7)
       (signs : (i : ℕ) → i < arrowCount (pic .arrows) → arrowAt (pic .arrows) i .sign ≤ 1) where
-    own-arrows : joined (λ k. arrowsSaid (kindBlock pic 3 k)) (blocksOf pic 3) ≡ (pic .arrows)
+    own-arrows : joined (λ k. arrowsSaid (kindBlock pic 3 k)) (blocksOf pic 3) ≡ pic .arrows
     unfolding countIn
     own-arrows =
         let row : ℕ → List ℕ = λ i. arrowAt (pic .arrows) i .tail ∷ arrowAt (pic .arrows) i .head ∷ arrowAt (pic .arrows) i .mode ∷ arrowAt (pic .arrows) i .sign ∷ [] in
@@ -152,7 +152,7 @@ module _ (pic : Picture) where
         ∙ ap (joined row) (rows-by-kind pic .2)
         ∙ arrows-joined (pic .arrows) whole
 
-    pub arrows-packed : arrowsIn blocks blocksAll ≡ (pic .arrows)
+    pub arrows-packed : arrowsIn blocks blocksAll ≡ pic .arrows
     arrows-packed =
         arrows-in blocks blocksAll ∙ by-kind arrowsSaid
         ∙ ap₂ _++_ (other-arrows 1 (omega arith) (omega arith) _) (ap₂ _++_ (other-arrows 2 (omega arith) (omega arith) _) own-arrows)

@@ -26,10 +26,10 @@ module _ (pic : Picture) (sound : tableFault pic ≡ none) where
       let r = sound-rows (pic .boxes) (pic .rows) (pic .arrows) sound in
       blocks-few pic (r .few-boxes) (r .few-rows) (sound-arrows (pic .boxes) (pic .rows) (pic .arrows) sound .few-arrows)
 
-  rows-said : containmentsIn (blocks pic) (blocksAll pic) ≡ (pic .rows)
+  rows-said : containmentsIn (blocks pic) (blocksAll pic) ≡ pic .rows
   rows-said = containments-packed pic (sound-rows (pic .boxes) (pic .rows) (pic .arrows) sound .whole)
 
-  arrows-said : arrowsIn (blocks pic) (blocksAll pic) ≡ (pic .arrows)
+  arrows-said : arrowsIn (blocks pic) (blocksAll pic) ≡ pic .arrows
   arrows-said =
       let a = sound-arrows (pic .boxes) (pic .rows) (pic .arrows) sound in
       arrows-packed pic (a .whole) (a .mode-most) (a .sign-most)
@@ -41,13 +41,13 @@ module _ (pic : Picture) (sound : tableFault pic ≡ none) where
       (made-good (blocks pic) _ (blocks-whole pic) (few .0) (omega (arith, few .1)) (blocks-good pic))
 
   -- it says the picture's tables
-  pub packed-boxes : boxesOf (packed pic) ≡ (pic .boxes)
+  pub packed-boxes : boxesOf (packed pic) ≡ pic .boxes
   packed-boxes = rw packed-is (made-boxes _ _ (blocks-whole pic) ∙ boxes-packed pic)
 
-  pub packed-containments : containmentsOf (packed pic) ≡ (pic .rows)
+  pub packed-containments : containmentsOf (packed pic) ≡ pic .rows
   packed-containments = rw packed-is (made-containments _ _ (blocks-whole pic) ∙ rows-said)
 
-  pub packed-arrows : arrowsOf (packed pic) ≡ (pic .arrows)
+  pub packed-arrows : arrowsOf (packed pic) ≡ pic .arrows
   packed-arrows = rw packed-is (made-arrows _ _ (blocks-whole pic) ∙ arrows-said)
 
   pub packed-counts : countsOf (packed pic)
@@ -55,7 +55,7 @@ module _ (pic : Picture) (sound : tableFault pic ≡ none) where
   packed-counts =
       rw packed-is
       (made-counts _ _ (blocks-whole pic)
-      ∙ counts-in _ _ pic (boxes-packed pic) rows-said arrows-said)
+      ∙ counts-in _ _ (pic .boxes) (pic .rows) (pic .arrows) (boxes-packed pic) rows-said arrows-said)
 
   -- P1: reading a packed file into buffers that suffice returns the same three tables
   module _ (b r a : List ℕ) (box-room : length (pic .boxes) ≤ length b) (row-room : length (pic .rows) ≤ length r) (arrow-room : length (pic .arrows) ≤ length a) where
@@ -63,7 +63,7 @@ module _ (pic : Picture) (sound : tableFault pic ≡ none) where
     no-fault =
         let s = sound-rows (pic .boxes) (pic .rows) (pic .arrows) sound in
         let t = sound-arrows (pic .boxes) (pic .rows) (pic .arrows) sound in
-        let c = counts-in _ _ pic (boxes-packed pic) rows-said arrows-said in
+        let c = counts-in _ _ (pic .boxes) (pic .rows) (pic .arrows) (boxes-packed pic) rows-said arrows-said in
         rw packed-is
         (made-read _ _ (blocks-whole pic) (few .0) (omega (arith, few .1)) (blocks-good pic) (length b) (length r) (length a)
         ∙ rw c (tables-passed _ (length b) (length r) (length a)
@@ -83,10 +83,10 @@ module _ (pic : Picture) (sound : tableFault pic ≡ none) where
       )
 
 -- P1: two pictures have the same packed bytes only if their tables are equal
-pub same-bytes : (boxes rows arrows boxes' rows' arrows' : List ℕ) → tableFault boxes rows arrows ≡ none → tableFault (picture boxes' rows' arrows') ≡ none
-    → packed boxes rows arrows ≡ packed boxes' rows' arrows' → (boxes ≡ boxes') × (rows ≡ rows') × (arrows ≡ arrows')
-same-bytes boxes rows arrows boxes' rows' arrows' s s' e = (
-  sym (packed-boxes boxes rows arrows s) ∙ ap boxesOf e ∙ packed-boxes boxes' rows' arrows' s',
-  sym (packed-containments boxes rows arrows s) ∙ ap containmentsOf e ∙ packed-containments boxes' rows' arrows' s',
-  sym (packed-arrows boxes rows arrows s) ∙ ap arrowsOf e ∙ packed-arrows boxes' rows' arrows' s',
+pub same-bytes : (pic other : Picture) → tableFault pic ≡ none → tableFault other ≡ none → packed pic ≡ packed other
+    → (pic .boxes ≡ other .boxes) × (pic .rows ≡ other .rows) × (pic .arrows ≡ other .arrows)
+same-bytes pic other s s' e = (
+  sym (packed-boxes pic s) ∙ ap boxesOf e ∙ packed-boxes other s',
+  sym (packed-containments pic s) ∙ ap containmentsOf e ∙ packed-containments other s',
+  sym (packed-arrows pic s) ∙ ap arrowsOf e ∙ packed-arrows other s',
 )

@@ -83,8 +83,8 @@ unfolding arrowBytes bytes16
 arrow-length arrows i = refl
 
 -- the records' bytes fit between head and check
-pub used-most : {boxes rows arrows : List ℕ} {kind : Kind} {len count : ℕ} {w : Walk}
-    → OfKind boxes rows arrows kind × Begins kind len w count → kind .size * count ≤ 500
+pub used-most : {pic : Picture} {kind : Kind} {len count : ℕ} {w : Walk}
+    → OfKind pic kind × Begins kind len w count → kind .size * count ≤ 500
 used-most {kind = kind} {count = count} asked =
     rw (asked .0 .the-size) (records-fit (kind .number) (asked .0 .low) (asked .0 .high) count (rw (← asked .0 .the-capacity) (asked .1 .most)))
 

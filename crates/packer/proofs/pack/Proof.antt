@@ -22,10 +22,10 @@ tabled : (c : tie.After-enum-told) → let a = c .before .before .before .before
 tabled c = sym (c .before .before .check .ensures) ∙ c .enum-told .given .1
 
 few : (c : tie.After-blocks-for2) → (c .before .blocks-for .result ≤ 9) × (c .blocks-for2 .result ≤ 7)
-few c = blocks-most _ _ _ (tabled (c .before .before)) _ _ (c .before .blocks-for .ensures) (c .blocks-for2 .ensures)
+few c = blocks-most _ (tabled (c .before .before)) _ _ (c .before .blocks-for .ensures) (c .blocks-for2 .ensures)
 
-named : (c : tie.After-blocks-for2) → let a = c .before .before .before .before .before .before .before .before .before .args in 512 * (1 + c .before .blocks-for .result + c .blocks-for2 .result) ≡ length (packed (a .boxes .now) (a .rows .now) (a .arrows .now))
-named c = need-is _ _ _ (tabled (c .before .before)) _ _ (c .before .blocks-for .ensures) (c .blocks-for2 .ensures)
+named : (c : tie.After-blocks-for2) → let a = c .before .before .before .before .before .before .before .before .before .args in 512 * (1 + c .before .blocks-for .result + c .blocks-for2 .result) ≡ length (packed (picture (a .boxes .now) (a .rows .now) (a .arrows .now)))
+named c = need-is _ (tabled (c .before .before)) _ _ (c .before .blocks-for .ensures) (c .blocks-for2 .ensures)
 
 roomed : (c : tie.After-enum-told2) → let s = c .before .before .before in let a = c .before .before .before .before .before .before .before .before .before .before .before .before .args in
     verdictOf (roomFault 8 (length (a .file .now)) (512 * (1 + s .before .blocks-for .result + s .blocks-for2 .result))) ≡ Passed
@@ -36,12 +36,12 @@ room : (c : tie.After-enum-told2) → let s = c .before .before .before in let a
 room c =
     let s = c .before .before .before in
     let a = s .before .before .before .before .before .before .before .before .before .args in
-    room-there (a .boxes .now) (a .rows .now) (a .arrows .now) (a .file .now) (tabled (s .before .before)) _ (named s) (roomed c)
+    room-there (picture (a .boxes .now) (a .rows .now) (a .arrows .now)) (a .file .now) (tabled (s .before .before)) _ (named s) (roomed c)
 
 returns : tie.Need-returns
 returns c =
     let a = c .before .before .before .before .before .before .before .before .args in
-    by-tables (a .boxes .now) (a .rows .now) (a .arrows .now) (a .file .now) _ (sym (c .before .before .before .check .ensures) ∙ c .before .tables .given .1)
+    by-tables (picture (a .boxes .now) (a .rows .now) (a .arrows .now)) (a .file .now) _ (sym (c .before .before .before .check .ensures) ∙ c .before .tables .given .1)
 
 blocks-for-requires : tie.Need-blocks-for-requires
 blocks-for-requires c κs =
@@ -71,7 +71,7 @@ returns-2 : tie.Need-returns-2
 returns-2 c =
     let s = c .before .before .before .before in
     let a = c .before .before .before .before .before .before .before .before .before .before .before .before .before .args in
-    by-room (a .boxes .now) (a .rows .now) (a .arrows .now) (a .file .now) (tabled (s .before .before)) _ (named s) _ (sym (c .before .before .before .check-room .ensures) ∙ c .before .room .given .1)
+    by-room (picture (a .boxes .now) (a .rows .now) (a .arrows .now)) (a .file .now) (tabled (s .before .before)) _ (named s) _ (sym (c .before .before .before .check-room .ensures) ∙ c .before .room .given .1)
 
 put-kind-requires : tie.Need-put-kind-requires
 put-kind-requires c κs =
@@ -79,8 +79,8 @@ put-kind-requires c κs =
     let s = o .before .before .before in
     let found = tabled (s .before .before) in
     rw (c .before .boxes .ensures) (
-      boxes-known _ _ _ found _ _ (s .before .blocks-for .ensures) (s .blocks-for2 .ensures),
-      boxes-fit _ _ _ found _ _ (s .before .blocks-for .ensures) (s .blocks-for2 .ensures) _ (room o),
+      boxes-known _ found _ _ (s .before .blocks-for .ensures) (s .blocks-for2 .ensures),
+      boxes-fit _ found _ _ (s .before .blocks-for .ensures) (s .blocks-for2 .ensures) _ (room o),
     )
 
 put-kind-requires-2 : tie.Need-put-kind-requires-2
@@ -89,8 +89,8 @@ put-kind-requires-2 c κs =
     let s = o .before .before .before in
     let found = tabled (s .before .before) in
     rw (c .before .containments .ensures) (
-      containments-known _ _ _ found _ _ (s .before .blocks-for .ensures) (s .blocks-for2 .ensures),
-      containments-fit _ _ _ found _ _ (s .before .blocks-for .ensures) (s .blocks-for2 .ensures) _ (rw (c .before .before .before .before .put-kind .ensures) (simp length-sets (room o))),
+      containments-known _ found _ _ (s .before .blocks-for .ensures) (s .blocks-for2 .ensures),
+      containments-fit _ found _ _ (s .before .blocks-for .ensures) (s .blocks-for2 .ensures) _ (rw (c .before .before .before .before .put-kind .ensures) (simp length-sets (room o))),
     )
 
 add-arrows : tie.Need-add-arrows
@@ -103,8 +103,8 @@ put-kind-requires-3 c κs =
     let s = o .before .before .before in
     let found = tabled (s .before .before) in
     rw (c .before .arrows .ensures) (
-      arrows-known _ _ _ found _ _ (s .before .blocks-for .ensures) (s .blocks-for2 .ensures),
-      arrows-fit _ _ _ found _ _ (s .before .blocks-for .ensures) (s .blocks-for2 .ensures) _ (rw (c .before .before .before .before .put-kind2 .ensures) (simp length-sets (rw (c .before .before .before .before .before .before .before .before .before .put-kind .ensures) (simp length-sets (room o))))),
+      arrows-known _ found _ _ (s .before .blocks-for .ensures) (s .blocks-for2 .ensures),
+      arrows-fit _ found _ _ (s .before .blocks-for .ensures) (s .blocks-for2 .ensures) _ (rw (c .before .before .before .before .put-kind2 .ensures) (simp length-sets (rw (c .before .before .before .before .before .before .before .before .before .put-kind .ensures) (simp length-sets (room o))))),
     )
 
 returns-3 : tie.Need-returns-3
@@ -113,8 +113,8 @@ returns-3 c =
     let s = o .before .before .before in
     let found = tabled (s .before .before) in
     let a = o .before .before .before .before .before .before .before .before .before .before .before .before .args in
-    by-none (a .boxes .now) (a .rows .now) (a .arrows .now) (a .file .now) found _ (named s) (roomed o) _
-    (file-made (a .boxes .now) (a .rows .now) (a .arrows .now) found _ _ (s .before .blocks-for .ensures) (s .blocks-for2 .ensures) _ _ _ _ (room o)
+    by-none (picture (a .boxes .now) (a .rows .now) (a .arrows .now)) (a .file .now) found _ (named s) (roomed o) _
+    (file-made (picture (a .boxes .now) (a .rows .now) (a .arrows .now)) found _ _ (s .before .blocks-for .ensures) (s .blocks-for2 .ensures) _ _ _ _ (room o)
     (rw (c .before .before .before .before .before .before .before .before .before .before .before .before .before .before .boxes .ensures) at (c .before .before .before .before .before .before .before .before .before .before .before .before .put-kind .ensures))
     (rw (c .before .before .before .before .before .before .before .before .before .containments .ensures) at (c .before .before .before .before .before .before .before .put-kind2 .ensures))
     (rw (c .before .before .before .before .arrows .ensures) at (c .before .before .put-kind3 .ensures)))
