@@ -11,7 +11,7 @@ use native.Mathlib.Nat.{zero-add, add-assoc, mul-suc}
 use borrow.Author.Tests.{eqb-true, eqb-false}
 use lib.Dec.{eqb}
 use lib.ListN.{length, getD}
-use Rattle.tables.specs.Rows.{Picture, picture}
+use Rattle.tables.specs.Rows.{Picture}
 use Rattle.tables.specs.Faults.{tableFault}
 use Rattle.blocks.specs.Blocks.{joined}
 use Rattle.blocks.specs.Files.{blockAt, blockCount, fileFault, boxesOf, containmentsOf, arrowsOf}

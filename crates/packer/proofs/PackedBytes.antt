@@ -5,7 +5,7 @@ use mathlib.Core.Option.{none}
 use Prim.Native.Nat.{ℕ, zero, suc, _+_, _*_, _-_, _/_, _%_, _<_, _≤_}
 use native.Mathlib.Omega.{arith}
 use lib.ListN.{length, getD, replicate}
-use Rattle.tables.specs.Rows.{Picture, picture, rowCount, rowAt, arrowCount, arrowAt}
+use Rattle.tables.specs.Rows.{Picture, rowCount, rowAt, arrowCount, arrowAt}
 use Rattle.tables.specs.Faults.{tableFault}
 use Rattle.tables.specs.Steps.{SoundRows, SoundArrows}
 use Rattle.base.proofs.BufferLaws.{zeros-is}
@@ -71,10 +71,10 @@ of-block kind number count records k n c r =
 
 module _ (pic : Picture) (sound : tableFault pic ≡ none) where
   the-rows : SoundRows (pic .boxes) (pic .rows)
-  the-rows = sound-rows (pic .boxes) (pic .rows) (pic .arrows) sound
+  the-rows = sound-rows _ _ _ sound
 
   the-arrows : SoundArrows (pic .boxes) (pic .arrows)
-  the-arrows = sound-arrows (pic .boxes) (pic .rows) (pic .arrows) sound
+  the-arrows = sound-arrows _ _ _ sound
 
   -- ---- a row's record
 

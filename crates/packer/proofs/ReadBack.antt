@@ -7,7 +7,7 @@ use Prim.Native.Nat.{ℕ, _<_, _≤_}
 use native.Mathlib.Omega.{arith}
 use lib.ListN.{length}
 use Rattle.base.specs.Buffers.{written}
-use Rattle.tables.specs.Rows.{Picture, picture, rowCount, arrowCount}
+use Rattle.tables.specs.Rows.{Picture, rowCount, arrowCount}
 use Rattle.tables.specs.Faults.{tableFault}
 use Rattle.tables.proofs.TableLaws.{room-enough, counts-few, sound-rows, sound-arrows}
 use Rattle.blocks.specs.Files.{fileFault, containmentsIn, arrowsIn, boxesOf, containmentsOf, arrowsOf}
@@ -23,15 +23,15 @@ use Rattle.packer.proofs.PackedBlocks.{blocks, blocksAll, packed-is, bl
 module _ (pic : Picture) (sound : tableFault pic ≡ none) where
   few : (0 < blocksAll pic) × (blocksAll pic ≤ 17)
   few =
-      let r = sound-rows (pic .boxes) (pic .rows) (pic .arrows) sound in
-      blocks-few pic (r .few-boxes) (r .few-rows) (sound-arrows (pic .boxes) (pic .rows) (pic .arrows) sound .few-arrows)
+      let r = sound-rows _ _ _ sound in
+      blocks-few pic (r .few-boxes) (r .few-rows) (sound-arrows _ _ _ sound .few-arrows)
 
   rows-said : containmentsIn (blocks pic) (blocksAll pic) ≡ pic .rows
-  rows-said = containments-packed pic (sound-rows (pic .boxes) (pic .rows) (pic .arrows) sound .whole)
+  rows-said = containments-packed pic (sound-rows _ _ _ sound .whole)
 
   arrows-said : arrowsIn (blocks pic) (blocksAll pic) ≡ pic .arrows
   arrows-said =
-      let a = sound-arrows (pic .boxes) (pic .rows) (pic .arrows) sound in
+      let a = sound-arrows _ _ _ sound in
       arrows-packed pic (a .whole) (a .mode-most) (a .sign-most)
 
   -- the packed file is good
@@ -61,8 +61,8 @@ module _ (pic : Picture) (sound : tableFault pic ≡ none) where
   module _ (b r a : List ℕ) (box-room : length (pic .boxes) ≤ length b) (row-room : length (pic .rows) ≤ length r) (arrow-room : length (pic .arrows) ≤ length a) where
     no-fault : readFault (packed pic) (length b) (length r) (length a) ≡ none
     no-fault =
-        let s = sound-rows (pic .boxes) (pic .rows) (pic .arrows) sound in
-        let t = sound-arrows (pic .boxes) (pic .rows) (pic .arrows) sound in
+        let s = sound-rows _ _ _ sound in
+        let t = sound-arrows _ _ _ sound in
         let c = counts-in _ _ (pic .boxes) (pic .rows) (pic .arrows) (boxes-packed pic) rows-said arrows-said in
         rw packed-is
         (made-read _ _ (blocks-whole pic) (few .0) (omega (arith, few .1)) (blocks-good pic) (length b) (length r) (length a)

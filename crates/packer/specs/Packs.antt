@@ -6,7 +6,7 @@ use lib.ListN.{length}
 use Rattle.base.specs.Search.{orElse}
 use Rattle.base.specs.Buffers.{written}
 use Rattle.tables.specs.Refusals.{unlessRefused}
-use Rattle.tables.specs.Rows.{Picture, picture}
+use Rattle.tables.specs.Rows.{Picture}
 use Rattle.tables.specs.Faults.{tableFault, roomFault}
 use Rattle.tables.specs.declared.Refusal.{Refusal}
 use Rattle.packer.specs.Packed.{packed}
