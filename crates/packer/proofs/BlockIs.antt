@@ -133,8 +133,8 @@ module _ (block : List ℕ) (whole : length block ≡ 512) (small : (at : ℕ) �
         let a : 8 + 1 * j ≡ 8 + j = omega arith in
         rw (a, part-more (8 + j) 0 (omega arith), e)
 
-    pub containment-record : j < 125 → rowAt (pic .rows) i .outer ≡ number16 block (8 + 4 * j) → rowAt (pic .rows) i .inner ≡ number16 block (10 + 4 * j)
-        → recordBytes pic 2 i ≡ recordIn block 4 j
+    pub containment-record : j < 125 → rowAt (pic .rows) i .outer ≡ number16 block (8 + 4 * j)
+        → rowAt (pic .rows) i .inner ≡ number16 block (10 + 4 * j) → recordBytes pic 2 i ≡ recordIn block 4 j
     unfolding recordBytes containmentBytes
     containment-record h p q =
         let at = 8 + 4 * j in
@@ -153,7 +153,8 @@ module _ (block : List ℕ) (whole : length block ≡ 512) (small : (at : ℕ) �
           c,
         )
 
-    pub arrow-record : j < 83 → arrowAt (pic .arrows) i .tail ≡ number16 block (8 + 6 * j) → arrowAt (pic .arrows) i .head ≡ number16 block (10 + 6 * j)
+    pub arrow-record : j < 83
+        → arrowAt (pic .arrows) i .tail ≡ number16 block (8 + 6 * j) → arrowAt (pic .arrows) i .head ≡ number16 block (10 + 6 * j)
         → arrowAt (pic .arrows) i .mode ≡ getD block (12 + 6 * j) 0 → arrowAt (pic .arrows) i .sign ≡ getD block (13 + 6 * j) 0
         → recordBytes pic 3 i ≡ recordIn block 6 j
     unfolding recordBytes arrowBytes
@@ -164,8 +165,10 @@ module _ (block : List ℕ) (whole : length block ≡ 512) (small : (at : ℕ) �
         let d : 10 + 6 * j + 1 ≡ suc (suc (suc (8 + 6 * j))) = omega arith in
         let e : 12 + 6 * j ≡ suc (suc (suc (suc (8 + 6 * j)))) = omega arith in
         let f : 13 + 6 * j ≡ suc (suc (suc (suc (suc (8 + 6 * j))))) = omega arith in
-        let m : arrowAt (pic .arrows) i .mode % 256 ≡ getD block (12 + 6 * j) 0 = let l = small (12 + 6 * j) (omega arith) in rw r (omega arith) in
-        let n : arrowAt (pic .arrows) i .sign % 256 ≡ getD block (13 + 6 * j) 0 = let l = small (13 + 6 * j) (omega arith) in rw s (omega arith) in
+        let m : arrowAt (pic .arrows) i .mode % 256 ≡ getD block (12 + 6 * j) 0
+        = let l = small (12 + 6 * j) (omega arith) in rw r (omega arith) in
+        let n : arrowAt (pic .arrows) i .sign % 256 ≡ getD block (13 + 6 * j) 0
+        = let l = small (13 + 6 * j) (omega arith) in rw s (omega arith) in
         ap₂ _++_ (ap bytes16 p ∙ bytes16-at (8 + 6 * j) (omega arith))
         (ap₂ _++_ (ap bytes16 q ∙ bytes16-at (10 + 6 * j) (omega arith)) (ap₂ (λ (x y : ℕ). x ∷ y ∷ []) m n))
         ∙ rw (

@@ -111,7 +111,8 @@ module _ (pic : Picture) where
   unfolding recordBytes containmentBytes bytes16
   containment-bytes i =
       let r = recordBytes pic 2 i in
-      ap₂ (λ (o n : ℕ). o ∷ n ∷ []) (number16-is r 0 ∙ two-bytes (rowAt (pic .rows) i .outer)) (number16-is r 2 ∙ two-bytes (rowAt (pic .rows) i .inner))
+      ap₂ (λ (o n : ℕ). o ∷ n ∷ [])
+      (number16-is r 0 ∙ two-bytes (rowAt (pic .rows) i .outer)) (number16-is r 2 ∙ two-bytes (rowAt (pic .rows) i .inner))
 
   arrow-bytes : (i : ℕ) → arrowAt (pic .arrows) i .mode ≤ 7 → arrowAt (pic .arrows) i .sign ≤ 1
       → number16 (recordBytes pic 3 i) 0 ∷ number16 (recordBytes pic 3 i) 2
@@ -144,7 +145,8 @@ module _ (pic : Picture) where
 
   -- a mode and a sign are bytes
   pub arrows-said : (k : ℕ)
-      → ((j : ℕ) → j < countIn pic 3 k → (arrowAt (pic .arrows) (capacity 3 * k + j) .mode ≤ 7) × (arrowAt (pic .arrows) (capacity 3 * k + j) .sign ≤ 1))
+      → ((j : ℕ) → j < countIn pic 3 k
+      → (arrowAt (pic .arrows) (capacity 3 * k + j) .mode ≤ 7) × (arrowAt (pic .arrows) (capacity 3 * k + j) .sign ≤ 1))
       → arrowsSaid (kindBlock pic 3 k)
       ≡ joined (λ j. arrowAt (pic .arrows) (capacity 3 * k + j) .tail ∷ arrowAt (pic .arrows) (capacity 3 * k + j) .head
       ∷ arrowAt (pic .arrows) (capacity 3 * k + j) .mode ∷ arrowAt (pic .arrows) (capacity 3 * k + j) .sign ∷ []) (countIn pic 3 k)

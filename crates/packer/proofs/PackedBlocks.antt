@@ -145,7 +145,7 @@ module _ (pic : Picture) where
     own-arrows : joined (λ k. arrowsSaid (kindBlock pic 3 k)) (blocksOf pic 3) ≡ pic .arrows
     unfolding countIn
     own-arrows =
-        let row : ℕ → List ℕ = λ i. arrowAt (pic .arrows) i .tail ∷ arrowAt (pic .arrows) i .head ∷ arrowAt (pic .arrows) i .mode ∷ arrowAt (pic .arrows) i .sign ∷ [] in
+        let row : ℕ → List ℕ = λ i. let a = arrowAt (pic .arrows) i in a .tail ∷ a .head ∷ a .mode ∷ a .sign ∷ [] in
         joined-same _ _ _
         (λ k h. arrows-said pic k (λ j l. (modes (capacity 3 * k + j) (row-there k j l), signs (capacity 3 * k + j) (row-there k j l))))
         ∙ joined-all row (capacity 3) (rowsOf pic 3) _ (all-packed pic 3 (omega arith) (omega arith))
@@ -158,7 +158,8 @@ module _ (pic : Picture) where
         ∙ ap₂ _++_ (other-arrows 1 (omega arith) (omega arith) _) (ap₂ _++_ (other-arrows 2 (omega arith) (omega arith) _) own-arrows)
 
   -- few rows fill few blocks, and there is one
-  pub blocks-few : length (pic .boxes) ≤ 256 → rowCount (pic .rows) ≤ 1024 → arrowCount (pic .arrows) ≤ 512 → (0 < blocksAll) × (blocksAll ≤ 17)
+  pub blocks-few : length (pic .boxes) ≤ 256 → rowCount (pic .rows) ≤ 1024 → arrowCount (pic .arrows) ≤ 512
+      → (0 < blocksAll) × (blocksAll ≤ 17)
   blocks-few b r a =
       let some = box-block pic in
       let one = fills-1 pic .few in

@@ -97,7 +97,8 @@ module _ (pic : Picture) (sound : tableFault pic ≡ none) where
       let t = onSide-there (pic .boxes) _ (arrowAt (pic .arrows) i .tail) (the-arrows .tail-user i h) in
       let n = onSide-there (pic .boxes) _ (arrowAt (pic .arrows) i .head) (the-arrows .head-file i h) in
       both-bytes _ _ (of-16 (arrowAt (pic .arrows) i .tail) (omega arith))
-      (both-bytes _ _ (of-16 (arrowAt (pic .arrows) i .head) (omega arith)) (more-bytes _ _ (omega arith) (more-bytes _ _ (omega arith) no-bytes)))
+      (both-bytes _ _ (of-16 (arrowAt (pic .arrows) i .head) (omega arith))
+      (more-bytes _ _ (omega arith) (more-bytes _ _ (omega arith) no-bytes)))
 
   few : firstOf pic 3 + blocksOf pic 3 ≤ 17
   few =

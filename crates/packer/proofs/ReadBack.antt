@@ -58,7 +58,8 @@ module _ (pic : Picture) (sound : tableFault pic ≡ none) where
       ∙ counts-in _ _ (pic .boxes) (pic .rows) (pic .arrows) (boxes-packed pic) rows-said arrows-said)
 
   -- P1: reading a packed file into buffers that suffice returns the same three tables
-  module _ (b r a : List ℕ) (box-room : length (pic .boxes) ≤ length b) (row-room : length (pic .rows) ≤ length r) (arrow-room : length (pic .arrows) ≤ length a) where
+  module _ (b r a : List ℕ) (box-room : length (pic .boxes) ≤ length b) (row-room : length (pic .rows) ≤ length r)
+      (arrow-room : length (pic .arrows) ≤ length a) where
     no-fault : readFault (packed pic) (length b) (length r) (length a) ≡ none
     no-fault =
         let s = sound-rows _ _ _ sound in
@@ -70,7 +71,8 @@ module _ (pic : Picture) (sound : tableFault pic ≡ none) where
         (counts-few _ _ _ (s .few-boxes) (s .few-rows) (t .few-arrows))
         (room-enough 5 _ _ box-room) (room-enough 6 _ _ (omega arith)) (room-enough 7 _ _ (omega arith))))
 
-  pub read-back : (b r a b' r' a' : List ℕ) (x : Reading) → length (pic .boxes) ≤ length b → length (pic .rows) ≤ length r → length (pic .arrows) ≤ length a
+  pub read-back : (b r a b' r' a' : List ℕ) (x : Reading)
+      → length (pic .boxes) ≤ length b → length (pic .rows) ≤ length r → length (pic .arrows) ≤ length a
       → ReadDone (packed pic) b r a b' r' a' x
       → (x ≡ Tables (record { boxes = length (pic .boxes); containments = rowCount (pic .rows); arrows = arrowCount (pic .arrows) }))
       × (b' ≡ written (pic .boxes) b) × (r' ≡ written (pic .rows) r) × (a' ≡ written (pic .arrows) a)

@@ -93,8 +93,8 @@ pub begins-still : {kind : Kind} {len len′ : ℕ} {w : Walk} {count : ℕ} →
 begins-still begins e = rw e begins
 
 -- what is asked of and had from each kind's loop
-module _ (pic : Picture) (kind : Kind) (len : ℕ) (w : Walk) (count : ℕ)
-    (asked : OfKind pic kind × Begins kind len w count) (at : ℕ) (from : at ≡ blockByte kind w) where
+module _ {pic : Picture} {kind : Kind} {len : ℕ} {w : Walk} {count : ℕ}
+    (asked : OfKind pic kind × Begins kind len w count) {at : ℕ} (from : at ≡ blockByte kind w) where
   -- the walk behind the records, and the file with them
   abbrev pub Done : Walk → List ℕ → List ℕ → Type 0
   Done r l l′ = (r ≡ walkAt (kind .capacity) (w .row + count))
@@ -126,27 +126,27 @@ module _ (pic : Picture) (kind : Kind) (len : ℕ) (w : Walk) (count : ℕ)
       (asked .0 .the-size ∙ rw (e, record-sizes .0)) (asked .0 .the-capacity ∙ rw (e, capacities .0))
       (asked .0 .the-rows ∙ rw (e, rows-by-kind pic .0))
 
-  pub boxes-done : kind .number ≡ 1 → (r : Walk) (l l′ : List ℕ) → r ≡ walkAt 500 (w .row + count)
+  pub boxes-done : kind .number ≡ 1 → (l : List ℕ) {r : Walk} {l′ : List ℕ} → r ≡ walkAt 500 (w .row + count)
       → l′ ≡ sets l (at + 8) (joined (λ j. boxBytes (pic .boxes) (w .row + j)) count) → Done r l l′
   unfolding recordBytes
-  boxes-done e r l l′ p q = (p ∙ rw (asked .0 .the-capacity, e, capacities .0), q ∙ rw (from, e))
+  boxes-done e l p q = (p ∙ rw (asked .0 .the-capacity, e, capacities .0), q ∙ rw (from, e))
 
   pub containments-run : kind .number ≡ 2 → Run 4 125 (rowCount (pic .rows)) w count (at + 8) len
   containments-run e = run-of 4 125 (rowCount (pic .rows))
       (asked .0 .the-size ∙ rw (e, record-sizes .1)) (asked .0 .the-capacity ∙ rw (e, capacities .1))
       (asked .0 .the-rows ∙ rw (e, rows-by-kind pic .1))
 
-  pub containments-done : kind .number ≡ 2 → (r : Walk) (l l′ : List ℕ) → r ≡ walkAt 125 (w .row + count)
+  pub containments-done : kind .number ≡ 2 → (l : List ℕ) {r : Walk} {l′ : List ℕ} → r ≡ walkAt 125 (w .row + count)
       → l′ ≡ sets l (at + 8) (joined (λ j. containmentBytes (pic .rows) (w .row + j)) count) → Done r l l′
   unfolding recordBytes
-  containments-done e r l l′ p q = (p ∙ rw (asked .0 .the-capacity, e, capacities .1), q ∙ rw (from, e))
+  containments-done e l p q = (p ∙ rw (asked .0 .the-capacity, e, capacities .1), q ∙ rw (from, e))
 
   pub arrows-run : (kind .number ≡ 1 → ⊥) → (kind .number ≡ 2 → ⊥) → Run 6 83 (arrowCount (pic .arrows)) w count (at + 8) len
   arrows-run a b = run-of 6 83 (arrowCount (pic .arrows))
       (asked .0 .the-size ∙ rw (third a b, record-sizes .2)) (asked .0 .the-capacity ∙ rw (third a b, capacities .2))
       (asked .0 .the-rows ∙ rw (third a b, rows-by-kind pic .2))
 
-  pub arrows-done : (kind .number ≡ 1 → ⊥) → (kind .number ≡ 2 → ⊥) → (r : Walk) (l l′ : List ℕ) → r ≡ walkAt 83 (w .row + count)
+  pub arrows-done : (kind .number ≡ 1 → ⊥) → (kind .number ≡ 2 → ⊥) → (l : List ℕ) {r : Walk} {l′ : List ℕ} → r ≡ walkAt 83 (w .row + count)
       → l′ ≡ sets l (at + 8) (joined (λ j. arrowBytes (pic .arrows) (w .row + j)) count) → Done r l l′
   unfolding recordBytes
-  arrows-done a b r l l′ p q = (p ∙ rw (asked .0 .the-capacity, third a b, capacities .2), q ∙ rw (from, third a b))
+  arrows-done a b l p q = (p ∙ rw (asked .0 .the-capacity, third a b, capacities .2), q ∙ rw (from, third a b))

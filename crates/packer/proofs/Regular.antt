@@ -131,7 +131,8 @@ fills-arrows n = record { enough = omega arith; few = omega arith; no-more = λ 
 module _ (pic : Picture) where
   -- ---- by kind
 
-  pub rows-by-kind : (rowsOf pic 1 ≡ length (pic .boxes)) × (rowsOf pic 2 ≡ rowCount (pic .rows)) × (rowsOf pic 3 ≡ arrowCount (pic .arrows))
+  pub rows-by-kind : (rowsOf pic 1 ≡ length (pic .boxes)) × (rowsOf pic 2 ≡ rowCount (pic .rows))
+      × (rowsOf pic 3 ≡ arrowCount (pic .arrows))
   unfolding rowsOf
   rows-by-kind = (of-boxes _ _ _, of-containments _ _ _, of-arrows _ _ _)
 

@@ -22,10 +22,10 @@ use Rattle.packer.proofs.Regular.{block-begun, full-but-last}
 use Rattle.packer.proofs.Putting.{chain, stored}
 use Rattle.packer.proofs.Walking.{walk-begun}
 
-module _ (pic : Picture) (kind : Kind) (l₀ : List ℕ) (w : Walk) (count : ℕ)
+module _ (l₀ : List ℕ) {pic : Picture} {kind : Kind} {w : Walk} {count : ℕ}
     (asked : OfKind pic kind × Begins kind (length l₀) w count) where
   -- head, records, zeros, and the check of what then stands there
-  pub block-made : (l₁ l₂ l₃ l₄ : List ℕ) (at number n : ℕ) → at ≡ blockByte kind w → number ≡ kind .first + w .block → n ≡ count
+  pub block-made : {l₁ l₂ l₃ l₄ : List ℕ} {at number n : ℕ} → at ≡ blockByte kind w → number ≡ kind .first + w .block → n ≡ count
       → l₁ ≡ sets l₀ at (headBytes (kind .number) number n)
       → l₂ ≡ sets l₁ (blockByte kind w + 8) (joined (λ j. recordBytes pic (kind .number) (w .row + j)) count)
       → l₃ ≡ sets l₂ (at + 8 + kind .size * count) (zeros (500 - kind .size * count))
@@ -33,11 +33,12 @@ module _ (pic : Picture) (kind : Kind) (l₀ : List ℕ) (w : Walk) (count : ℕ
       → l₄ ≡ sets l₀ (blockByte kind w)
       (blockOf (kind .number) (kind .first + w .block) count (λ j. recordBytes pic (kind .number) (w .row + j)))
   unfolding blockOf covered
-  block-made l₁ l₂ l₃ l₄ at number n e₁ e₂ e₃ p₁ p₂ p₃ p₄ =
+  block-made {l₁} {l₂} {l₃} {l₄} e₁ e₂ e₃ p₁ p₂ p₃ p₄ =
       let of = asked .0 in
       let begins = asked .1 in
       let f : ℕ → List ℕ = λ j. recordBytes pic (kind .number) (w .row + j) in
-      let len : (j : ℕ) → length (f j) ≡ recordSize (kind .number) = λ j. record-length (kind .number) (of .low) (of .high) pic (w .row + j) in
+      let len : (j : ℕ) → length (f j) ≡ recordSize (kind .number) 
+      = λ j. record-length (kind .number) (of .low) (of .high) pic (w .row + j) in
       let fit : count ≤ capacity (kind .number) = rw (← of .the-capacity) (begins .most) in
       let h = headBytes (kind .number) (kind .first + w .block) count in
       let r = joined f count in

@@ -59,7 +59,8 @@ module _ (pic : Picture) where
 
   -- row i of a kind's table as a record
   unfoldable pub recordBytes : (kind i : ℕ) → List ℕ
-  recordBytes kind i = cond (eqb kind 1) (boxBytes (pic .boxes) i) (cond (eqb kind 2) (containmentBytes (pic .rows) i) (arrowBytes (pic .arrows) i))
+  recordBytes kind i =
+      cond (eqb kind 1) (boxBytes (pic .boxes) i) (cond (eqb kind 2) (containmentBytes (pic .rows) i) (arrowBytes (pic .arrows) i))
 
   -- how many blocks a kind has: as many as its rows fill, and of boxes at least one
   unfoldable pub blocksOf : (kind : ℕ) → ℕ

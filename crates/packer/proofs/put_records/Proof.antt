@@ -7,35 +7,35 @@ use Rattle.packer.proofs.put_records.Tie as tie
 put-boxes-requires : tie.Need-put-boxes-requires
 put-boxes-requires c κs =
     let at-block = c .before .before .before in
-    boxes-run _ _ _ _ _ (at-block .before .before .before .before .before .pre) _ (at-block .block-byte .ensures) (c .before .if1 .taken)
+    boxes-run (at-block .before .before .before .before .before .pre) (at-block .block-byte .ensures) (c .before .if1 .taken)
 
 returns : tie.Need-returns
 returns c =
     let at-block = c .before .before .before .before .before .before in
-    boxes-done _ _ _ _ _ (at-block .before .before .before .before .before .pre) _ (at-block .block-byte .ensures) (c .before .before .before .before .if1 .taken)
-    _ _ _ (c .before .before .put-boxes .ensures .0) (c .before .before .put-boxes .ensures .1)
+    boxes-done (at-block .before .before .before .before .before .pre) (at-block .block-byte .ensures) (c .before .before .before .before .if1 .taken)
+    _ (c .before .before .put-boxes .ensures .0) (c .before .before .put-boxes .ensures .1)
 
 put-containments-requires : tie.Need-put-containments-requires
 put-containments-requires c κs =
     let at-block = c .before .before .before .before .before in
-    containments-run _ _ _ _ _ (at-block .before .before .before .before .before .pre) _ (at-block .block-byte .ensures) (c .before .if2 .taken)
+    containments-run (at-block .before .before .before .before .before .pre) (at-block .block-byte .ensures) (c .before .if2 .taken)
 
 returns-2 : tie.Need-returns-2
 returns-2 c =
     let at-block = c .before .before .before .before .before .before .before .before in
-    containments-done _ _ _ _ _ (at-block .before .before .before .before .before .pre) _ (at-block .block-byte .ensures) (c .before .before .before .before .if2 .taken)
-    _ _ _ (c .before .before .put-containments .ensures .0) (c .before .before .put-containments .ensures .1)
+    containments-done (at-block .before .before .before .before .before .pre) (at-block .block-byte .ensures) (c .before .before .before .before .if2 .taken)
+    _ (c .before .before .put-containments .ensures .0) (c .before .before .put-containments .ensures .1)
 
 put-arrows-requires : tie.Need-put-arrows-requires
 put-arrows-requires c κs =
     let at-block = c .before .before .before .before .before in
-    arrows-run _ _ _ _ _ (at-block .before .before .before .before .before .pre) _ (at-block .block-byte .ensures) (c .before .before .before .if1 .left) (c .before .if2 .left)
+    arrows-run (at-block .before .before .before .before .before .pre) (at-block .block-byte .ensures) (c .before .before .before .if1 .left) (c .before .if2 .left)
 
 returns-3 : tie.Need-returns-3
 returns-3 c =
     let at-block = c .before .before .before .before .before .before .before .before in
-    arrows-done _ _ _ _ _ (at-block .before .before .before .before .before .pre) _ (at-block .block-byte .ensures) (c .before .before .before .before .before .before .if1 .left) (c .before .before .before .before .if2 .left)
-    _ _ _ (c .before .before .put-arrows .ensures .0) (c .before .before .put-arrows .ensures .1)
+    arrows-done (at-block .before .before .before .before .before .pre) (at-block .block-byte .ensures) (c .before .before .before .before .before .before .if1 .left) (c .before .before .before .before .if2 .left)
+    _ (c .before .before .put-arrows .ensures .0) (c .before .before .put-arrows .ensures .1)
 
 pub put-records-spec : {M : Type 1} → statement M
 put-records-spec =
