@@ -66,7 +66,7 @@ module _ {pic : Picture} {second third : ℕ} (counted : Counted pic second thir
   need-is = sym (packed-length pic ∙ rw (box-blocks, second-is, third-is))
 
   -- the three kinds as the call knows them
-  pub boxes-known : OfKind pic (boxKind (length (pic .boxes)))
+  boxes-known : OfKind pic (boxKind (length (pic .boxes)))
   boxes-known = record {
     low = omega arith;
     high = omega arith;
@@ -77,7 +77,7 @@ module _ {pic : Picture} {second third : ℕ} (counted : Counted pic second thir
     the-first = sym (first-by-kind pic .0);
   }
 
-  pub containments-known : OfKind pic (containmentKind (rowCount (pic .rows)) 1)
+  containments-known : OfKind pic (containmentKind (rowCount (pic .rows)) 1)
   containments-known = record {
     low = omega arith;
     high = omega arith;
@@ -88,7 +88,7 @@ module _ {pic : Picture} {second third : ℕ} (counted : Counted pic second thir
     the-first = sym (first-by-kind pic .1 ∙ box-blocks);
   }
 
-  pub arrows-known : OfKind pic (arrowKind (arrowCount (pic .arrows)) (1 + second))
+  arrows-known : OfKind pic (arrowKind (arrowCount (pic .arrows)) (1 + second))
   arrows-known = record {
     low = omega arith;
     high = omega arith;
@@ -99,16 +99,19 @@ module _ {pic : Picture} {second third : ℕ} (counted : Counted pic second thir
     the-first = sym (first-by-kind pic .2 ∙ rw (box-blocks, second-is));
   }
 
-  -- their blocks, and room for all is room for each
+  -- what is asked to write each: its blocks, and room for them where there is room for all
   module _ (len : ℕ) (room : 512 * (1 + second + third) ≤ len) where
-    pub boxes-fit : (1 ≡ blocksOf pic 1) × BlocksFit (boxKind (length (pic .boxes))) 1 len
-    boxes-fit = (sym box-blocks, record { numbers = omega arith; room = omega arith })
+    pub boxes-asked : OfKind pic (boxKind (length (pic .boxes))) × (1 ≡ blocksOf pic 1)
+        × BlocksFit (boxKind (length (pic .boxes))) 1 len
+    boxes-asked = (boxes-known, sym box-blocks, record { numbers = omega arith; room = omega arith })
 
-    pub containments-fit : (second ≡ blocksOf pic 2) × BlocksFit (containmentKind (rowCount (pic .rows)) 1) second len
-    containments-fit = (sym second-is, record { numbers = omega (arith, blocks-most .0); room = omega arith })
+    pub containments-asked : OfKind pic (containmentKind (rowCount (pic .rows)) 1) × (second ≡ blocksOf pic 2)
+        × BlocksFit (containmentKind (rowCount (pic .rows)) 1) second len
+    containments-asked = (containments-known, sym second-is, record { numbers = omega (arith, blocks-most .0); room = omega arith })
 
-    pub arrows-fit : (third ≡ blocksOf pic 3) × BlocksFit (arrowKind (arrowCount (pic .arrows)) (1 + second)) third len
-    arrows-fit = (sym third-is, record { numbers = omega (arith, blocks-most .0, blocks-most .1); room = omega arith })
+    pub arrows-asked : OfKind pic (arrowKind (arrowCount (pic .arrows)) (1 + second)) × (third ≡ blocksOf pic 3)
+        × BlocksFit (arrowKind (arrowCount (pic .arrows)) (1 + second)) third len
+    arrows-asked = (arrows-known, sym third-is, record { numbers = omega (arith, blocks-most .0, blocks-most .1); room = omega arith })
 
   -- the kinds written one after the other
   pub file-made : (l₀ l₁ l₂ l₃ : List ℕ) → 512 * (1 + second + third) ≤ length l₀ → l₁ ≡ sets l₀ (512 * 0) (kindBytes pic 1)

@@ -76,62 +76,65 @@ module _ (pic : Picture) (kind : Kind) (l₀ : List ℕ) (blocks : ℕ) where
     so-far = rw (joined-none (kindBlock pic (kind .number)));
   }
 
-  module _ (of : OfKind pic kind)
-      (asked : (blocks ≡ blocksOf pic (kind .number)) × BlocksFit kind blocks (length l₀))
-      (k : ℕ) (file : List ℕ) (w : Walk) (wrote : Wrote k file w) (less : k < blocks) where
-    stands : w ≡ record { row = kind .capacity * k; block = k; place = 0 }
-    stands =
-        let some : 0 < kind .capacity = rw (of .the-capacity) (capacity-some (kind .number) (of .low) (of .high)) in
-        wrote .the-walk ∙ rw (wrote .the-row less) (walk-begun (kind .capacity) k some)
+module _ {pic : Picture} {kind : Kind} {l₀ : List ℕ} {blocks : ℕ}
+    (asked : OfKind pic kind × (blocks ≡ blocksOf pic (kind .number)) × BlocksFit kind blocks (length l₀))
+    {k : ℕ} {file : List ℕ} {w : Walk} (wrote : Wrote pic kind l₀ blocks k file w) (less : k < blocks) where
+  of : OfKind pic kind
+  of = asked .0
 
-    pub row-begun : w .row ≤ kind .rows
-    row-begun = rw (stands, of .the-capacity, of .the-rows) (block-begun pic (kind .number) (of .low) (of .high) k (rw (← asked .0) less))
+  stands : w ≡ record { row = kind .capacity * k; block = k; place = 0 }
+  stands =
+      let some : 0 < kind .capacity = rw (of .the-capacity) (capacity-some (kind .number) (of .low) (of .high)) in
+      wrote .the-walk ∙ rw (wrote .the-row less) (walk-begun (kind .capacity) k some)
 
-    -- the rows that the next block takes
-    module _ (count : ℕ) (is : count ≡ least (kind .rows - w .row) (kind .capacity)) where
-      count-is : count ≡ countIn pic (kind .number) k
-      unfolding countIn
-      count-is = is ∙ rw (stands, of .the-capacity, of .the-rows)
+  pub row-begun : w .row ≤ kind .rows
+  row-begun = rw (stands, of .the-capacity, of .the-rows) (block-begun pic (kind .number) (of .low) (of .high) k (rw (← asked .1) less))
 
-      pub next-begins : Begins kind (length file) w count
-      next-begins =
-          let m = least-most (kind .rows - w .row) (kind .capacity) in
-          let r = row-begun in
-          let n = asked .1 .numbers in
-          let l = asked .1 .room in
-          record {
-            rows-left = rw is (omega (arith, m .0));
-            most = rw is (m .1);
-            walked = wrote .the-walk;
-            the-place = rw stands;
-            the-block = rw stands (omega arith);
-            room = rw (stands, wrote .same-length) (omega arith);
-          }
+  -- the rows that the next block takes
+  module _ {count : ℕ} (is : count ≡ least (kind .rows - w .row) (kind .capacity)) where
+    count-is : count ≡ countIn pic (kind .number) k
+    unfolding countIn
+    count-is = is ∙ rw (stands, of .the-capacity, of .the-rows)
 
-      -- one block more
-      module _ (file′ : List ℕ) (w′ : Walk) (walked : w′ ≡ walkAt (kind .capacity) (w .row + count))
-          (put : file′ ≡ sets file (blockByte kind w)
-          (blockOf (kind .number) (kind .first + w .block) count (λ j. recordBytes pic (kind .number) (w .row + j)))) where
-        next-block : blockOf (kind .number) (kind .first + w .block) count (λ j. recordBytes pic (kind .number) (w .row + j))
-            ≡ kindBlock pic (kind .number) k
-        unfolding kindBlock
-        next-block = rw (stands, count-is, of .the-first, of .the-capacity)
-
-        next-row : w′ .row ≡ w .row + count
-        next-row = rw walked
-
-        next-begun : k + 1 < blocks → w′ .row ≡ kind .capacity * (k + 1)
-        next-begun h =
-            let last = full-but-last pic (kind .number) (of .low) (of .high) k (rw (← asked .0) h) in
-            let full : count ≡ kind .capacity = count-is ∙ last ∙ sym (of .the-capacity) in
-            next-row ∙ rw (full, stands, add-one k, mul-suc)
-
-        pub wrote-more : Wrote (k + 1) file′ w′
-        wrote-more = record {
-          most = omega arith;
-          the-walk = walked ∙ ap (λ (r : ℕ). walkAt (kind .capacity) r) (sym next-row);
-          the-row = next-begun;
-          same-length = rw put (simp length-sets (wrote .same-length));
-          so-far = put ∙ rw (next-block, wrote .so-far) (put-more l₀ (512 * kind .first) (kindBlock pic (kind .number)) 512
-              (kind-block-length (kind .number) (of .low) (of .high) pic) k _ (rw stands (omega arith)));
+    pub next-begins : Begins kind (length file) w count
+    next-begins =
+        let m = least-most (kind .rows - w .row) (kind .capacity) in
+        let r = row-begun in
+        let n = asked .2 .numbers in
+        let l = asked .2 .room in
+        record {
+          rows-left = rw is (omega (arith, m .0));
+          most = rw is (m .1);
+          walked = wrote .the-walk;
+          the-place = rw stands;
+          the-block = rw stands (omega arith);
+          room = rw (stands, wrote .same-length) (omega arith);
         }
+
+    -- one block more
+    module _ {file′ : List ℕ} {w′ : Walk} (walked : w′ ≡ walkAt (kind .capacity) (w .row + count))
+        (put : file′ ≡ sets file (blockByte kind w)
+        (blockOf (kind .number) (kind .first + w .block) count (λ j. recordBytes pic (kind .number) (w .row + j)))) where
+      next-block : blockOf (kind .number) (kind .first + w .block) count (λ j. recordBytes pic (kind .number) (w .row + j))
+          ≡ kindBlock pic (kind .number) k
+      unfolding kindBlock
+      next-block = rw (stands, count-is, of .the-first, of .the-capacity)
+
+      next-row : w′ .row ≡ w .row + count
+      next-row = rw walked
+
+      next-begun : k + 1 < blocks → w′ .row ≡ kind .capacity * (k + 1)
+      next-begun h =
+          let last = full-but-last pic (kind .number) (of .low) (of .high) k (rw (← asked .1) h) in
+          let full : count ≡ kind .capacity = count-is ∙ last ∙ sym (of .the-capacity) in
+          next-row ∙ rw (full, stands, add-one k, mul-suc)
+
+      pub wrote-more : Wrote pic kind l₀ blocks (k + 1) file′ w′
+      wrote-more = record {
+        most = omega arith;
+        the-walk = walked ∙ ap (λ (r : ℕ). walkAt (kind .capacity) r) (sym next-row);
+        the-row = next-begun;
+        same-length = rw put (simp length-sets (wrote .same-length));
+        so-far = put ∙ rw (next-block, wrote .so-far) (put-more l₀ (512 * kind .first) (kindBlock pic (kind .number)) 512
+            (kind-block-length (kind .number) (of .low) (of .high) pic) k _ (rw stands (omega arith)));
+      }

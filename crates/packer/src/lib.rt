@@ -210,7 +210,7 @@ fn put_block(
 // Writes the blocks of a kind, of which there are so many.
 fn put_kind(kind: Kind, boxes: &[u8], rows: &[u16], arrows: &[u16], blocks: usize, file: &mut [u8])
     requires { ⌜ (let pic = picture (now boxes) (now rows) (now arrows) in
-        OfKind pic kind × ((blocks ≡ blocksOf pic (kind .number)) × BlocksFit kind blocks (length (now file)))) ⌝ }
+        OfKind pic kind × (blocks ≡ blocksOf pic (kind .number)) × BlocksFit kind blocks (length (now file))) ⌝ }
     ensures { λ _. ⌜ (let pic = picture (now (boxes .entry)) (now (rows .entry)) (now (arrows .entry)) in
         now (file .exit) ≡ sets (now (file .entry)) (512 * kind .first) (kindBytes pic (kind .number))) ⌝ }
 {

@@ -10,8 +10,8 @@ use Rattle.tables.specs.Refusals.{verdictOf}
 use Rattle.tables.specs.declared.Verdict.the-variants.{Passed}
 use Rattle.tables.proofs.TableLaws.{sound-rows, sound-arrows}
 use Rattle.tables.proofs.Verdicts.{passed}
-use Rattle.packer.proofs.Filing.{Counted, blocks-most, boxes-known, containments-known, arrows-known}
-use Rattle.packer.proofs.Filing.{boxes-fit, containments-fit, arrows-fit, file-made, by-tables, by-room, room-there, by-none}
+use Rattle.packer.proofs.Filing.{Counted, blocks-most, boxes-asked, containments-asked, arrows-asked}
+use Rattle.packer.proofs.Filing.{file-made, by-tables, by-room, room-there, by-none}
 use native.Mathlib.Omega.{arith}
 use borrow.Author.Needs.{needs}
 use Rattle.packer.proofs.pack.Statement.{statement}
@@ -85,7 +85,7 @@ put-kind-requires : tie.Need-put-kind-requires
 put-kind-requires c κs =
     let at-passed = c .before .before in
     let all = counted (at-passed .before .before .before) in
-    rw (c .before .boxes .ensures) (boxes-known all, boxes-fit all _ (room at-passed))
+    rw (c .before .boxes .ensures) (boxes-asked all _ (room at-passed))
 
 put-kind-requires-2 : tie.Need-put-kind-requires-2
 put-kind-requires-2 c κs =
@@ -93,7 +93,7 @@ put-kind-requires-2 c κs =
     let at-passed = at-first .before .before .before in
     let all = counted (at-passed .before .before .before) in
     rw (c .before .containments .ensures)
-    (containments-known all, containments-fit all _ (rw (at-first .put-kind .ensures) (simp length-sets (room at-passed))))
+    (containments-asked all _ (rw (at-first .put-kind .ensures) (simp length-sets (room at-passed))))
 
 add-arrows : tie.Need-add-arrows
 add-arrows c =
@@ -109,7 +109,7 @@ put-kind-requires-3 c κs =
     let at-passed = at-first .before .before .before in
     let all = counted (at-passed .before .before .before) in
     rw (c .before .arrows .ensures)
-    (arrows-known all, arrows-fit all _ (rw (at-second .put-kind2 .ensures)
+    (arrows-asked all _ (rw (at-second .put-kind2 .ensures)
     (simp length-sets (rw (at-first .put-kind .ensures) (simp length-sets (room at-passed))))))
 
 returns-3 : tie.Need-returns-3

@@ -22,21 +22,23 @@ loop-holds c =
 sub-least-of : tie.Need-sub-least-of Inv-loop μ-loop
 sub-least-of c =
     let asked = c .before .before .before .before .before .before .before .before .before .pre in
-    row-begun _ _ _ _ (asked .0) (asked .1) _ _ _ (c .before .before .before .loop .inv) (search needs)
+    row-begun asked (c .before .before .before .loop .inv) (search needs)
 
 put-block-requires : tie.Need-put-block-requires Inv-loop μ-loop
 put-block-requires c κs =
     let at-count = c .before in
-    let asked = at-count .before .before .before .before .before .before .before .before .before .before .pre in
-    (asked .0, next-begins _ _ _ _ (asked .0) (asked .1) _ _ _ (at-count .before .before .before .before .loop .inv) (search needs) _ (at-count .least-of .ensures))
+    let at-loop = at-count .before .before .before .before in
+    let asked = at-loop .before .before .before .before .before .before .pre in
+    (asked .0, next-begins asked (at-loop .loop .inv) (search needs) (at-count .least-of .ensures))
 
 loop-again : tie.Need-loop-again Inv-loop μ-loop
 loop-again c =
     let at-block = c .before .before in
     let at-count = at-block .before .before in
-    let asked = at-count .before .before .before .before .before .before .before .before .before .before .pre in
-    wrote-more _ _ _ _ (asked .0) (asked .1) _ _ _ (at-count .before .before .before .before .loop .inv) (search needs) _ (at-count .least-of .ensures)
-    _ _ (at-block .put-block .ensures .0) (at-block .put-block .ensures .1)
+    let at-loop = at-count .before .before .before .before in
+    let asked = at-loop .before .before .before .before .before .before .pre in
+    wrote-more asked (at-loop .loop .inv) (search needs) (at-count .least-of .ensures)
+    (at-block .put-block .ensures .0) (at-block .put-block .ensures .1)
 
 same-length : tie.Need-same-length Inv-loop μ-loop
 same-length c =
@@ -48,7 +50,7 @@ returns c =
     let l = c .before .loop in
     let start = c .before .before .before .before .before .before .before in
     let e : l .k ≡ start .args .blocks = let m = l .inv .most in omega arith in
-    rw (← start .pre .1 .0, ← e) (l .inv .so-far)
+    rw (← start .pre .1, ← e) (l .inv .so-far)
 
 pub put-kind-spec : {M : Type 1} → statement M
 put-kind-spec =
