@@ -37,7 +37,7 @@ module _ (l₀ : List ℕ) {pic : Picture} {kind : Kind} {w : Walk} {count : ℕ
       let of = asked .0 in
       let begins = asked .1 in
       let f : ℕ → List ℕ = λ j. recordBytes pic (kind .number) (w .row + j) in
-      let len : (j : ℕ) → length (f j) ≡ recordSize (kind .number) 
+      let len : (j : ℕ) → length (f j) ≡ recordSize (kind .number)
       = λ j. record-length (kind .number) (of .low) (of .high) pic (w .row + j) in
       let fit : count ≤ capacity (kind .number) = rw (← of .the-capacity) (begins .most) in
       let h = headBytes (kind .number) (kind .first + w .block) count in
