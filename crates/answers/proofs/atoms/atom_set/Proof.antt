@@ -1,49 +1,38 @@
-use native.Mathlib.Omega.{arith}
+-- `answers::atoms::atom_set` meets its contract: the numbers of the written part. Assumes nothing.
+use mathlib.Core.Path.{_∙_}
 use borrow.Author.Needs.{needs}
+use lib.ListN.{take}
+use Rattle.boxsets.specs.Sets.{among}
+use Rattle.answers.proofs.TakenLaws.{room}
+use Rattle.answers.proofs.AtomLaws.{among-atoms, atoms-within, atoms-length, atoms-are, atoms-boxes}
 use Rattle.answers.proofs.atoms.atom_set.Statement.{statement}
 use Rattle.answers.proofs.atoms.atom_set.Tie as tie
-use Rattle.answers.proofs.atoms.atom_set.Reads as reads
-use Rattle.answers.proofs.atoms.atom_set.Lts as lts
-use Rattle.answers.proofs.atoms.no_boxes.Reads as no-boxes-reads
-use Rattle.boxsets.proofs.set_of.Reads as set-of-reads
-use Rattle.tables.proofs.atoms_of.Reads as atoms-of-reads
 
--- src/atoms.rt:36:21
-no-boxes-requires : tie.Need-no-boxes-requires
-no-boxes-requires c κs = search needs
-
--- src/atoms.rt:37:45
-slice-aggregate-atoms-of : tie.Need-slice-aggregate-atoms-of
-slice-aggregate-atoms-of c = search needs
-
--- src/atoms.rt:37:9
-atoms-of-requires : tie.Need-atoms-of-requires
-atoms-of-requires c κs = search needs
-
--- src/atoms.rt:38:12
 array-share-prefix-atoms : tie.Need-array-share-prefix-atoms
-array-share-prefix-atoms c = search needs
+array-share-prefix-atoms c =
+    let start = c .before .before .before .before .before .before in
+    let a = start .args in
+    atoms-within (a .boxes .now) (a .rows .now) (a .side) (start .pre .few-boxes) _ _ _ (c .before .atoms-of .ensures)
+    (room 256 (c .before .before .before .no-boxes .ensures))
 
--- src/atoms.rt:38:12
 slice-aggregate-set-of : tie.Need-slice-aggregate-set-of
-slice-aggregate-set-of c = search needs
+slice-aggregate-set-of c =
+    let start = c .before .before .before .before .before .before .before in
+    let a = start .args in
+    atoms-length (a .boxes .now) (a .rows .now) (a .side) (start .pre .few-boxes) _ _ _ (c .before .before .atoms-of .ensures)
 
--- src/atoms.rt:38:5
 set-of-requires : tie.Need-set-of-requires
-set-of-requires c κs = search needs
+set-of-requires c κs =
+    let start = c .before .before .before .before .before .before .before in
+    let a = start .args in
+    atoms-boxes (a .boxes .now) (a .rows .now) (a .side) (start .pre .few-boxes) _ _ _ (c .before .before .atoms-of .ensures)
 
--- src/atoms.rt:32:1
 returns : tie.Need-returns
-returns c = search needs
+returns c b =
+    let start = c .before .before .before .before .before .before .before .before in
+    let a = start .args in
+    let are = atoms-are (a .boxes .now) (a .rows .now) (a .side) (start .pre .few-boxes) _ _ _ (c .before .before .before .atoms-of .ensures) in
+    c .set-of .ensures b ∙ rw are (among-atoms (a .boxes .now) (a .rows .now) (a .side) b)
 
 pub atom-set-spec : {M : Type 1} → statement M
-atom-set-spec =
-    tie.close
-    (tie.spec
-    no-boxes-requires
-    slice-aggregate-atoms-of
-    atoms-of-requires
-    array-share-prefix-atoms
-    slice-aggregate-set-of
-    set-of-requires
-    returns)
+atom-set-spec = tie.close (tie.spec (λ c κs. search needs) (search needs) (λ c κs. search needs) array-share-prefix-atoms slice-aggregate-set-of set-of-requires returns)

@@ -1,13 +1,10 @@
-use native.Mathlib.Omega.{arith}
-use borrow.Author.Needs.{needs}
+-- `answers::atoms::no_boxes` meets its contract: 256 zeros. Assumes nothing.
+use Rattle.base.proofs.BufferLaws.{zeros-is}
 use Rattle.answers.proofs.atoms.no_boxes.Statement.{statement}
 use Rattle.answers.proofs.atoms.no_boxes.Tie as tie
-use Rattle.answers.proofs.atoms.no_boxes.Reads as reads
-use Rattle.answers.proofs.atoms.no_boxes.Lts as lts
 
--- src/atoms.rt:14:1
 returns : tie.Need-returns
-returns c = search needs
+returns c = zeros-is 256
 
 pub no-boxes-spec : {M : Type 1} → statement M
 no-boxes-spec = tie.close (tie.spec returns)

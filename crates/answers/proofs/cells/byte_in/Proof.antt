@@ -1,30 +1,21 @@
-use native.Mathlib.Omega.{arith}
+-- `answers::cells::byte_in` meets its contract, by the two sets. Assumes nothing.
+use mathlib.Core.Path.{sym, _∙_}
 use borrow.Author.Needs.{needs}
+use Rattle.answers.specs.Steps.{byteIn}
 use Rattle.answers.proofs.cells.byte_in.Statement.{statement}
 use Rattle.answers.proofs.cells.byte_in.Tie as tie
-use Rattle.answers.proofs.cells.byte_in.Reads as reads
-use Rattle.answers.proofs.cells.byte_in.Lts as lts
-use Rattle.boxsets.proofs.is_in.Reads as is-in-reads
 
--- src/cells.rt:30:8
-is-in-requires : tie.Need-is-in-requires
-is-in-requires c κs = search needs
-
--- src/cells.rt:31:9
 returns : tie.Need-returns
-returns c = search needs
+unfolding byteIn
+returns c = rw (← c .before .is-in .ensures, c .if1 .taken)
 
--- src/cells.rt:34:8
-is-in-requires-2 : tie.Need-is-in-requires-2
-is-in-requires-2 c κs = search needs
-
--- src/cells.rt:35:9
 returns-2 : tie.Need-returns-2
-returns-2 c = search needs
+unfolding byteIn
+returns-2 c = rw (← c .before .before .before .before .is-in .ensures, c .before .before .before .if1 .left, ← c .before .is-in2 .ensures, c .if2 .taken)
 
--- src/cells.rt:25:1
 returns-3 : tie.Need-returns-3
-returns-3 c = search needs
+unfolding byteIn
+returns-3 c = rw (← c .before .before .before .before .is-in .ensures, c .before .before .before .if1 .left, ← c .before .is-in2 .ensures, c .if2 .left)
 
 pub byte-in-spec : {M : Type 1} → statement M
-byte-in-spec = tie.close (tie.spec is-in-requires returns is-in-requires-2 returns-2 returns-3)
+byte-in-spec = tie.close (tie.spec (λ c κs. search needs) returns (λ c κs. search needs) returns-2 returns-3)

@@ -1,54 +1,37 @@
-use native.Mathlib.Omega.{arith}
+-- `answers::early::early_entry` meets its contract: checks 1 to 7 refuse, or leave 8 and 9 their facts. Assumes nothing.
+use mathlib.Core.Path.{_≡_, sym, _∙_}
+use mathlib.Core.Option.{none}
 use borrow.Author.Needs.{needs}
+use Rattle.tables.specs.Rows.{picture}
+use Rattle.tables.specs.Faults.{tableFault, modeFault}
+use Rattle.tables.proofs.TableLaws.{sound-rows}
+use Rattle.tables.proofs.Verdicts.{passed, refuses, passes, either-verdict}
+
+use Rattle.containment.specs.Scratch.{scratchFault}
+use Rattle.answers.specs.Calls.{entryEarly}
+use lib.ListN.{length}
 use Rattle.answers.proofs.early.early_entry.Statement.{statement}
 use Rattle.answers.proofs.early.early_entry.Tie as tie
-use Rattle.answers.proofs.early.early_entry.Reads as reads
-use Rattle.answers.proofs.early.early_entry.Lts as lts
-use Rattle.containment.proofs.check_scratch.Reads as check-scratch-reads
-use Rattle.tables.proofs.Verdict.or_else.Reads as or-else-reads
-use Rattle.tables.proofs.check.Reads as check-reads
-use Rattle.tables.proofs.check_mode.Reads as check-mode-reads
 
--- src/early.rt:30:9
-check-requires : tie.Need-check-requires
-check-requires c κs = search needs
-
--- src/early.rt:31:29
-enum-known-tables : tie.Need-enum-known-tables
-enum-known-tables c = search needs
-
--- src/early.rt:32:9
 returns : tie.Need-returns
-returns c = search needs
+unfolding entryEarly
+returns c = refuses _ _ _ (sym (c .before .before .before .check .ensures) ∙ c .before .tables .given .1)
 
-enum-told : tie.Need-enum-told
-enum-told c = search needs
+tabled : (c : tie.After-enum-told) → let a = c .before .before .before .before .before .before .before .args in tableFault (picture (a .boxes .now) (a .rows .now) (a .arrows .now)) ≡ none
+tabled c = passed _ (sym (c .before .before .check .ensures) ∙ c .enum-told .given .1)
 
--- src/early.rt:34:5
-check-mode-requires : tie.Need-check-mode-requires
-check-mode-requires c κs = search needs
-
--- src/early.rt:34:30
 check-scratch-requires : tie.Need-check-scratch-requires
-check-scratch-requires c κs = search needs
+check-scratch-requires c κs =
+    let a = c .before .before .before .before .before .before .before .before .args in
+    sound-rows (a .boxes .now) (a .rows .now) (a .arrows .now) (tabled (c .before)) .few-boxes
 
--- src/early.rt:34:5
-or-else-requires : tie.Need-or-else-requires
-or-else-requires c κs = search needs
-
--- src/early.rt:26:1
 returns-2 : tie.Need-returns-2
-returns-2 c = search needs
+unfolding entryEarly
+returns-2 c =
+    let a = c .before .before .before .before .before .before .before .before .before .before .args in
+    rw (c .or-else .ensures, c .before .before .check-mode .ensures, c .before .check-scratch .ensures)
+    (either-verdict (modeFault (a .mode)) (scratchFault (length (a .boxes .now)) (a .scratch .now)))
+    ∙ passes _ _ (sym (c .before .before .before .before .before .check .ensures) ∙ c .before .before .before .enum-told .given .1)
 
 pub early-entry-spec : {M : Type 1} → statement M
-early-entry-spec =
-    tie.close
-    (tie.spec
-    check-requires
-    enum-known-tables
-    returns
-    enum-told
-    check-mode-requires
-    check-scratch-requires
-    or-else-requires
-    returns-2)
+early-entry-spec = tie.close (tie.spec (λ c κs. search needs) (search needs) returns (search needs) (λ c κs. search needs) check-scratch-requires (λ c κs. search needs) returns-2)

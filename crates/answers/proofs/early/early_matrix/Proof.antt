@@ -1,81 +1,56 @@
-use native.Mathlib.Omega.{arith}
+-- `answers::early::early_matrix` meets its contract: checks 1 to 7 refuse, or leave 8 and 9 their facts. Assumes nothing.
+use mathlib.Core.Path.{_≡_, sym, _∙_}
+use mathlib.Core.Option.{none}
 use borrow.Author.Needs.{needs}
+use Rattle.tables.specs.Rows.{picture}
+use Rattle.tables.specs.Faults.{tableFault, modeFault, roomFault}
+use Rattle.tables.proofs.TableLaws.{sound-rows}
+use Rattle.tables.proofs.Verdicts.{passed, refuses, passes}
+
+use Rattle.tables.specs.Atoms.{pairCount}
+use Rattle.tables.specs.Steps.{SoundRows}
+use Rattle.containment.specs.Scratch.{scratchFault}
+use Rattle.answers.specs.Calls.{matrixEarly}
+use Rattle.answers.proofs.CallLaws.{chained}
+use lib.ListN.{length}
 use Rattle.answers.proofs.early.early_matrix.Statement.{statement}
 use Rattle.answers.proofs.early.early_matrix.Tie as tie
-use Rattle.answers.proofs.early.early_matrix.Reads as reads
-use Rattle.answers.proofs.early.early_matrix.Lts as lts
-use Rattle.answers.proofs.atoms.pair_count.Reads as pair-count-reads
-use Rattle.containment.proofs.check_scratch.Reads as check-scratch-reads
-use Rattle.tables.proofs.Verdict.or_else.Reads as or-else-reads
-use Rattle.tables.proofs.check.Reads as check-reads
-use Rattle.tables.proofs.check_mode.Reads as check-mode-reads
-use Rattle.tables.proofs.check_room.Reads as check-room-reads
 
--- src/early.rt:50:9
-check-requires : tie.Need-check-requires
-check-requires c κs = search needs
-
--- src/early.rt:51:29
-enum-known-tables : tie.Need-enum-known-tables
-enum-known-tables c = search needs
-
--- src/early.rt:52:9
 returns : tie.Need-returns
-returns c = search needs
+unfolding matrixEarly
+returns c = refuses _ _ _ (sym (c .before .before .before .check .ensures) ∙ c .before .tables .given .1)
 
-enum-told : tie.Need-enum-told
-enum-told c = search needs
+sound : (c : tie.After-enum-told) → let a = c .before .before .before .before .before .before .before .before .before .args in SoundRows (a .boxes .now) (a .rows .now)
+sound c =
+    let a = c .before .before .before .before .before .before .before .before .before .args in
+    sound-rows (a .boxes .now) (a .rows .now) (a .arrows .now) (passed _ (sym (c .before .before .check .ensures) ∙ c .enum-told .given .1))
 
--- src/early.rt:54:9
 pair-count-requires : tie.Need-pair-count-requires
-pair-count-requires c κs = search needs
+pair-count-requires c κs = sound c
 
--- src/early.rt:55:5
-check-mode-requires : tie.Need-check-mode-requires
-check-mode-requires c κs = search needs
-
--- src/early.rt:56:18
 check-scratch-requires : tie.Need-check-scratch-requires
-check-scratch-requires c κs = search needs
+check-scratch-requires c κs = sound (c .before .before) .few-boxes
 
--- src/early.rt:55:5
-or-else-requires : tie.Need-or-else-requires
-or-else-requires c κs = search needs
-
--- src/early.rt:57:18
-check-room-requires : tie.Need-check-room-requires
-check-room-requires c κs = search needs
-
--- src/early.rt:55:5
-or-else-requires-2 : tie.Need-or-else-requires-2
-or-else-requires-2 c κs = search needs
-
--- src/early.rt:58:18
-check-room-requires-2 : tie.Need-check-room-requires-2
-check-room-requires-2 c κs = search needs
-
--- src/early.rt:55:5
-or-else-requires-3 : tie.Need-or-else-requires-3
-or-else-requires-3 c κs = search needs
-
--- src/early.rt:38:1
 returns-2 : tie.Need-returns-2
-returns-2 c = search needs
+unfolding matrixEarly
+returns-2 c =
+    let at-mode = c .before .before .before .before .before .before in
+    let told = at-mode .before .before in
+    let a = told .before .before .before .before .before .before .before .before .before .args in
+    let pairs = pairCount (a .boxes .now) (a .rows .now) in
+    rw (
+      c .or-else3 .ensures,
+      c .before .check-room2 .ensures,
+      c .before .before .or-else2 .ensures,
+      c .before .before .before .check-room .ensures,
+      c .before .before .before .before .or-else .ensures,
+      c .before .before .before .before .before .check-scratch .ensures,
+      at-mode .check-mode .ensures,
+      at-mode .before .pair-count .ensures,
+    ) (chained (modeFault (a .mode)) (scratchFault (length (a .boxes .now)) (a .scratch .now)) (roomFault 1 (length (a .bytes .now)) pairs)
+    (roomFault 2 (length (a .numbers .now)) pairs))
+    ∙ passes _ _ (sym (told .before .before .check .ensures) ∙ told .enum-told .given .1)
 
 pub early-matrix-spec : {M : Type 1} → statement M
 early-matrix-spec =
-    tie.close
-    (tie.spec
-    check-requires
-    enum-known-tables
-    returns
-    enum-told
-    pair-count-requires
-    check-mode-requires
-    check-scratch-requires
-    or-else-requires
-    check-room-requires
-    or-else-requires-2
-    check-room-requires-2
-    or-else-requires-3
-    returns-2)
+    tie.close (tie.spec (λ c κs. search needs) (search needs) returns (search needs) pair-count-requires (λ c κs. search needs) check-scratch-requires (λ c κs. search needs) (λ c κs. search needs) (λ c κs. search needs) (λ c κs. search needs) (λ c κs. search needs) returns-2)

@@ -1,36 +1,29 @@
-use native.Mathlib.Omega.{arith}
+-- `answers::early::early_picture` meets its contract: checks 1 to 7 refuse, or leave 9 its facts. Assumes nothing.
+use mathlib.Core.Path.{_≡_, sym, _∙_}
+use mathlib.Core.Option.{none}
 use borrow.Author.Needs.{needs}
+use Rattle.tables.specs.Rows.{picture}
+use Rattle.tables.specs.Faults.{tableFault}
+use Rattle.tables.proofs.TableLaws.{sound-rows}
+use Rattle.tables.proofs.Verdicts.{passed, refuses, passes}
+
+use Rattle.containment.specs.Scratch.{earlyFault}
 use Rattle.answers.proofs.early.early_picture.Statement.{statement}
 use Rattle.answers.proofs.early.early_picture.Tie as tie
-use Rattle.answers.proofs.early.early_picture.Reads as reads
-use Rattle.answers.proofs.early.early_picture.Lts as lts
-use Rattle.containment.proofs.check_scratch.Reads as check-scratch-reads
-use Rattle.tables.proofs.check.Reads as check-reads
 
--- src/early.rt:18:9
-check-requires : tie.Need-check-requires
-check-requires c κs = search needs
-
--- src/early.rt:19:29
-enum-known-tables : tie.Need-enum-known-tables
-enum-known-tables c = search needs
-
--- src/early.rt:20:9
 returns : tie.Need-returns
-returns c = search needs
+unfolding earlyFault
+returns c = refuses _ _ _ (sym (c .before .before .before .check .ensures) ∙ c .before .tables .given .1)
 
-enum-told : tie.Need-enum-told
-enum-told c = search needs
+tabled : (c : tie.After-enum-told) → let a = c .before .before .before .before .before .before .before .args in tableFault (picture (a .boxes .now) (a .rows .now) (a .arrows .now)) ≡ none
+tabled c = passed _ (sym (c .before .before .check .ensures) ∙ c .enum-told .given .1)
 
--- src/early.rt:22:5
 check-scratch-requires : tie.Need-check-scratch-requires
-check-scratch-requires c κs = search needs
+check-scratch-requires c κs = let a = c .before .before .before .before .before .before .before .args in sound-rows (a .boxes .now) (a .rows .now) (a .arrows .now) (tabled c) .few-boxes
 
--- src/early.rt:14:1
 returns-2 : tie.Need-returns-2
-returns-2 c = search needs
+unfolding earlyFault
+returns-2 c = c .check-scratch .ensures ∙ passes _ _ (sym (c .before .before .before .check .ensures) ∙ c .before .enum-told .given .1)
 
 pub early-picture-spec : {M : Type 1} → statement M
-early-picture-spec =
-    tie.close
-    (tie.spec check-requires enum-known-tables returns enum-told check-scratch-requires returns-2)
+early-picture-spec = tie.close (tie.spec (λ c κs. search needs) (search needs) returns (search needs) check-scratch-requires returns-2)

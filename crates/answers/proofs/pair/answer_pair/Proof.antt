@@ -1,98 +1,59 @@
-use native.Mathlib.Omega.{arith}
+-- `answers::pair::answer_pair` meets its contract: the local arrays hold the mode's arrows, and the row has one file. Assumes nothing.
+use mathlib.Core.Path.{_≡_, sym, subst, _∙_}
 use borrow.Author.Needs.{needs}
+use native.Mathlib.Omega.{arith}
+use lib.Dec.{T, eqb-refl}
+use Rattle.base.proofs.PartLaws.{Wrote}
+use Rattle.boxsets.specs.Sets.{isIn}
+use Rattle.user_rows.specs.Row.{ownArrows}
+use Rattle.user_rows.specs.Steps.{Small}
+use Rattle.answers.proofs.TakenLaws.{room, taken-within, taken-length, taken-sized, taken-moded}
 use Rattle.answers.proofs.pair.answer_pair.Statement.{statement}
 use Rattle.answers.proofs.pair.answer_pair.Tie as tie
-use Rattle.answers.proofs.pair.answer_pair.Reads as reads
-use Rattle.answers.proofs.pair.answer_pair.Lts as lts
-use Rattle.answers.proofs.stub.answer_row.Reads as answer-row-reads
-use Rattle.answers.proofs.stub.entry_of.Reads as entry-of-reads
-use Rattle.boxsets.proofs.single.Reads as single-reads
-use Rattle.user_rows.proofs.no_heads.Reads as no-heads-reads
-use Rattle.user_rows.proofs.no_numbers.Reads as no-numbers-reads
-use Rattle.user_rows.proofs.take_mode.Reads as take-mode-reads
-use Rattle.user_rows.proofs.no_row.Reads as no-row-reads
 
--- src/pair.rt:47:19
-no-numbers-requires : tie.Need-no-numbers-requires
-no-numbers-requires c κs = search needs
+-- the mode's arrows
+wrote : (c : tie.After-take-mode) → let a = c .before .before .before .before .before .before .before .args in
+    Wrote (ownArrows (a .arrows .now) (a .mode)) (c .before .before .before .before .no-numbers .result) (c .take-mode .result) (c .take-mode .last .1 .1 .0)
+wrote c = (c .take-mode .ensures .0, c .take-mode .ensures .1 .0)
 
--- src/pair.rt:48:21
-no-heads-requires : tie.Need-no-heads-requires
-no-heads-requires c κs = search needs
-
--- src/pair.rt:49:41
-slice-aggregate-take-mode : tie.Need-slice-aggregate-take-mode
-slice-aggregate-take-mode c = search needs
-
--- src/pair.rt:49:51
-slice-aggregate-take-mode-2 : tie.Need-slice-aggregate-take-mode-2
-slice-aggregate-take-mode-2 c = search needs
-
--- src/pair.rt:49:9
-take-mode-requires : tie.Need-take-mode-requires
-take-mode-requires c κs = search needs
-
--- src/pair.rt:50:21
-no-row-requires : tie.Need-no-row-requires
-no-row-requires c κs = search needs
-
--- src/pair.rt:53:9
-slice-aggregate-answer-row : tie.Need-slice-aggregate-answer-row
-slice-aggregate-answer-row c = search needs
-
--- src/pair.rt:55:9
 array-share-prefix-own : tie.Need-array-share-prefix-own
-array-share-prefix-own c = search needs
+array-share-prefix-own c =
+    let start = c .before .before .before .before .before .before .before .before .before .before .before in
+    taken-within (start .args .arrows .now) (start .args .mode) _ _ _ (wrote (c .before .before .before .before)) (start .pre .1) (room 512 (c .before .before .before .before .before .before .before .before .no-numbers .ensures))
 
--- src/pair.rt:55:9
 slice-aggregate-answer-row-2 : tie.Need-slice-aggregate-answer-row-2
-slice-aggregate-answer-row-2 c = search needs
+slice-aggregate-answer-row-2 c = let a = c .before .before .before .before .before .before .before .before .before .before .before .before .args in taken-length (a .arrows .now) (a .mode) _ _ _ (wrote (c .before .before .before .before .before))
 
--- src/pair.rt:57:9
-single-requires : tie.Need-single-requires
-single-requires c κs = search needs
-
--- src/pair.rt:58:9
-slice-aggregate-answer-row-3 : tie.Need-slice-aggregate-answer-row-3
-slice-aggregate-answer-row-3 c = search needs
-
--- src/pair.rt:51:9
 answer-row-requires : tie.Need-answer-row-requires
-answer-row-requires c κs = search needs
+answer-row-requires c κs =
+    let start = c .before .before .before .before .before .before .before .before .before .before .before .before .before .before in
+    let a = start .args in (
+      taken-sized (a .arrows .now) (a .mode) _ _ _ (wrote (c .before .before .before .before .before .before .before)) (a .closure .now) _ (start .pre .0) (start .pre .1)
+          (c .before .before .before .before .before .before .before .take-mode .ensures .1 .1),
+      start .pre .2,
+      c .before .before .before .before .no-row .ensures,
+    )
 
--- src/pair.rt:60:48
 mul-entry-of : tie.Need-mul-entry-of
-mul-entry-of c = search needs
+mul-entry-of c = omega (arith, c .before .before .before .before .before .before .before .before .before .before .before .before .before .before .before .before .pre .3)
 
--- src/pair.rt:60:48
 array-read-entry-of : tie.Need-array-read-entry-of
-array-read-entry-of c = search needs
+array-read-entry-of c = c .before .before .before .before .before .before .before .before .before .before .before .before .before .before .before .before .pre .3
 
--- src/pair.rt:60:5
 entry-of-requires : tie.Need-entry-of-requires
-entry-of-requires c κs = search needs
+entry-of-requires c κs = c .before .before .before .before .before .before .before .before .before .before .before .before .before .before .before .before .pre
 
--- src/pair.rt:42:1
 returns : tie.Need-returns
-returns c = search needs
+returns c pic d e lu lf =
+    let taken = c .before .before .before .before .before .before .before .before .before .before in
+    let a = taken .before .before .before .before .before .before .before .args in
+    let one = c .before .before .before .before .single .result in
+    let asked : T (isIn one (a .f)) = subst T (sym (c .before .before .before .before .single .ensures (a .f))) (eqb-refl (a .f)) in
+    let moded = taken-moded (a .arrows .now) (a .mode) _ _ _ (wrote taken) pic _ e (taken .take-mode .ensures .1 .1) in
+    let row = c .before .before .answer-row .ensures pic (a .mode) d moded lu in
+    c .entry-of .ensures pic (isIn one) d e lu lf asked (row .0) (row .1 (a .f) asked)
 
 pub answer-pair-spec : {M : Type 1} → statement M
 answer-pair-spec =
-    tie.close
-    (tie.spec
-    no-numbers-requires
-    no-heads-requires
-    slice-aggregate-take-mode
-    slice-aggregate-take-mode-2
-    take-mode-requires
-    no-row-requires
-    slice-aggregate-answer-row
-    array-share-prefix-own
-    slice-aggregate-answer-row-2
-    single-requires
-    slice-aggregate-answer-row-3
-    answer-row-requires
-    mul-entry-of
-    array-read-entry-of
-    entry-of-requires
-    returns)
+    tie.close (tie.spec (λ c κs. search needs) (λ c κs. search needs) (search needs) (search needs) (λ c κs. search needs) (λ c κs. search needs) (search needs) array-share-prefix-own slice-aggregate-answer-row-2 (λ c κs. search needs) (search needs) answer-row-requires mul-entry-of
+    array-read-entry-of entry-of-requires returns)
