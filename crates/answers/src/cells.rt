@@ -110,5 +110,13 @@ pub fn fill_picture(
     let mut files = no_boxes();
     let u = atoms_of(boxes, rows, BoxRow::USER, &mut users);
     let f = atoms_of(boxes, rows, BoxRow::FILE, &mut files);
-    fill_matrix(closure, arrows, mode, &users[..u], &files[..f], bytes, numbers);
+    fill_matrix(
+        closure,
+        arrows,
+        mode,
+        &users[..u],
+        &files[..f],
+        bytes,
+        numbers,
+    );
 }

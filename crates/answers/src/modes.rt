@@ -90,5 +90,10 @@ pub fn judge_picture(boxes: &[u8], rows: &[u16], arrows: &[u16], closure: &[u64]
 {
     let mut users = no_boxes();
     let count = atoms_of(boxes, rows, BoxRow::USER, &mut users);
-    judge_modes(closure, arrows, &users[..count], atom_set(boxes, rows, BoxRow::FILE))
+    judge_modes(
+        closure,
+        arrows,
+        &users[..count],
+        atom_set(boxes, rows, BoxRow::FILE),
+    )
 }

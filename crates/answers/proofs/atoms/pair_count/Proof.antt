@@ -18,4 +18,6 @@ returns : tie.Need-returns
 returns c = rw (pairCount-is, c .before .before .before .before .atoms-of .ensures .0, c .before .atoms-of2 .ensures .0)
 
 pub pair-count-spec : {M : Type 1} → statement M
-pair-count-spec = tie.close (tie.spec (λ c κs. search needs) (search needs) (λ c κs. search needs) (search needs) (λ c κs. search needs) mul-result returns)
+pair-count-spec =
+    tie.close (tie.spec (λ c κs. search needs) (search needs) (λ c κs. search needs) (search needs) (λ c κs. search needs) mul-result
+    returns)
