@@ -15,7 +15,7 @@ use Rattle.meaning.specs.declared.Entry.{Entry}
 use Rattle.user_rows.specs.Steps.{Drawn}
 use Rattle.answers.specs.Calls.{askedFault, entryEarly}
 use Rattle.answers.specs.declared.Reply.the-variants.{Answered}
-use Rattle.answers.proofs.TakenLaws.{small-arrows}
+use Rattle.user_rows.proofs.CallerLaws.{small-arrows}
 use Rattle.answers.proofs.CallLaws.{entry-early, ready-asks, ready-drawn, asked-there}
 use Rattle.answers.proofs.CallLaws.{entryReady, entry-stopped, entry-not-asked, entry-answered}
 use Rattle.answers.proofs.one_entry.Statement.{statement}

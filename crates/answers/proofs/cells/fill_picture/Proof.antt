@@ -3,7 +3,8 @@ use mathlib.Core.Path.{_≡_, refl}
 use borrow.Author.Needs.{needs}
 use Rattle.tables.specs.Rows.{picture, user, file}
 use Rattle.tables.proofs.AtomPlaces.{pairCount-is}
-use Rattle.answers.proofs.TakenLaws.{room, small-arrows}
+use Rattle.user_rows.proofs.CallerLaws.{small-arrows}
+use Rattle.answers.proofs.TakenLaws.{room}
 use Rattle.answers.proofs.AtomLaws.{Listed, listed}
 use Rattle.answers.proofs.cells.fill_picture.Statement.{statement}
 use Rattle.answers.proofs.cells.fill_picture.Tie as tie

@@ -1,6 +1,6 @@
 -- `answers::modes::judge_mode` meets its contract: a sign that has no arrows, or the rows. Assumes nothing.
-use mathlib.Core.Logic.{inl, inr, ⊎-elim}
-use mathlib.Core.Path.{_≡_, refl, sym, ap, _∙_}
+use mathlib.Core.Logic.{⊎-elim}
+use mathlib.Core.Path.{_≡_, sym, ap, _∙_}
 use native.Mathlib.Omega.{arith}
 use borrow.Author.Needs.{needs}
 use Rattle.tables.specs.Refusals.{verdictOf}
@@ -24,9 +24,9 @@ returns c pic d e us fs =
     let sets = rw e at (mode (c .before .before .before .before .before .before) .sets) in
     sym (ap verdictOf
     (⊎-elim
-    (λ w. no-sign pic m _ sets 0 (inr refl) (omega arith)
+    (λ w. no-sign pic m _ sets 0 (omega arith)
     (rw (← c .before .before .set-at .ensures) (sym (c .before .is-empty .ensures) ∙ w .taken)))
-    (λ w. no-sign pic m _ sets 1 (inl refl) (omega arith) (rw (← w .2 .ensures) (sym (w .3 .ensures) ∙ w .4 .taken)))
+    (λ w. no-sign pic m _ sets 1 (omega arith) (rw (← w .2 .ensures) (sym (w .3 .ensures) ∙ w .4 .taken)))
     (c .if1 .came)))
 
 judge-rows-requires : tie.Need-judge-rows-requires

@@ -2,7 +2,8 @@
 use mathlib.Core.Path.{_≡_, refl}
 use borrow.Author.Needs.{needs}
 use Rattle.tables.specs.Rows.{picture, user}
-use Rattle.answers.proofs.TakenLaws.{room, small-arrows}
+use Rattle.user_rows.proofs.CallerLaws.{small-arrows}
+use Rattle.answers.proofs.TakenLaws.{room}
 use Rattle.answers.proofs.AtomLaws.{Listed, listed}
 use Rattle.answers.proofs.modes.judge_picture.Statement.{statement}
 use Rattle.answers.proofs.modes.judge_picture.Tie as tie

@@ -8,10 +8,10 @@ use borrow.Author.Tests.{not-true, not-false}
 use lib.ListN.{length, getD}
 use Rattle.tables.specs.Rows.{Picture, user, file}
 use Rattle.tables.specs.Atoms.{atom, atoms}
-use Rattle.tables.specs.Refusals.{unclearPair, verdictOf}
+use Rattle.tables.specs.Refusals.{verdictOf}
 use Rattle.boxsets.specs.Sets.{isIn}
 use Rattle.meaning.specs.Pairs.{users}
-use Rattle.meaning.proofs.JudgeLaws.{rows-start}
+use Rattle.meaning.proofs.RowPairs.{rows-start}
 use Rattle.user_rows.specs.Steps.{Drawn, Moded, Sorts}
 use Rattle.answers.proofs.AtomLaws.{atoms-there}
 use Rattle.answers.proofs.RowLaws.{unclear, Clear, clear-more, clear-found, clear-end}
@@ -30,7 +30,7 @@ abbrev μ-loop : tie.MeasureT-loop
 loop-holds : tie.Need-loop-holds Inv-loop μ-loop
 loop-holds c =
     let m = c .before .before .before .before .before .args .mode in
-    (search needs, λ pic d o us fs. rows-start pic (unclear pic m) (unclearPair m))
+    (search needs, λ pic d o us fs. rows-start pic (unclear pic m))
 
 sort-row-requires : tie.Need-sort-row-requires Inv-loop μ-loop
 sort-row-requires c κs =
