@@ -1,10 +1,11 @@
 -- The atomic boxes of a side as a list that was written, and as a set. Assumes nothing.
-use mathlib.Core.Path.{_≡_, subst, _∙_}
+use mathlib.Core.Path.{_≡_, subst}
 use mathlib.Core.List.{List}
 use Prim.Native.Nat.{ℕ, _<_, _≤_}
 use native.Mathlib.Omega.{arith}
 use lib.Dec.{T}
 use lib.ListN.{length, getD, take}
+use Rattle.base.specs.Buffers.{zeros}
 use Rattle.base.proofs.Tests.{T-same}
 use Rattle.base.proofs.PartLaws.{Wrote, part-is, part-length, part-within}
 use Rattle.tables.specs.Atoms.{atom, atoms}
@@ -12,6 +13,14 @@ use Rattle.tables.proofs.AtomPlaces.{atom-there, atoms-found, atoms-has, atoms-
 use Rattle.boxsets.specs.Sets.{among}
 use Rattle.boxsets.proofs.AmongLaws.{among-is, among-found}
 use Rattle.answers.specs.Steps.{Boxes}
+use Rattle.answers.proofs.TakenLaws.{room}
+
+-- the first `count` places of `out` are lent on: they hold the atomic boxes
+pub record Listed (boxes rows : List ℕ) (side count : ℕ) (out : List ℕ) : Type 0 where
+  pub within : count ≤ length out
+  pub len : count ≡ length (take count out)
+  pub are : take count out ≡ atoms boxes rows side
+  pub small : Boxes (take count out)
 
 module _ (boxes rows : List ℕ) (side : ℕ) where
   -- a box is one of them exactly if it is atomic
@@ -29,19 +38,15 @@ module _ (boxes rows : List ℕ) (side : ℕ) where
   pub atoms-there : (i : ℕ) → i < length (atoms boxes rows side) → getD (atoms boxes rows side) i 0 < length boxes
   atoms-there i l = atom-there boxes rows side (getD (atoms boxes rows side) i 0) (atoms-found boxes rows side i l)
 
-  module _ (few : length boxes ≤ 256) where
-    atoms-small : Boxes (atoms boxes rows side)
-    atoms-small i l = omega (arith, atoms-there i l)
-
-    module _ (old : List ℕ) (count : ℕ) (out : List ℕ) (w : Wrote (atoms boxes rows side) old count out) where
-      pub atoms-within : 256 ≤ length old → count ≤ length out
-      atoms-within room = part-within (atoms boxes rows side) old count out w (omega (arith, atoms-most boxes rows side))
-
-      pub atoms-length : count ≡ length (take count out)
-      atoms-length = part-length (atoms boxes rows side) old count out w
-
-      pub atoms-are : take count out ≡ atoms boxes rows side
-      atoms-are = part-is (atoms boxes rows side) old count out w
-
-      pub atoms-boxes : Boxes (take count out)
-      atoms-boxes = rw atoms-are atoms-small
+  -- by what `tables::atoms_of` promises
+  pub listed : length boxes ≤ 256 → (old : List ℕ) (count : ℕ) (out : List ℕ) → old ≡ zeros 256
+      → Wrote (atoms boxes rows side) old count out → Listed boxes rows side count out
+  listed few old count out e w =
+      let is = part-is (atoms boxes rows side) old count out w in
+      let all : Boxes (atoms boxes rows side) = λ i l. omega (arith, atoms-there i l) in
+      record {
+        within = part-within (atoms boxes rows side) old count out w (omega (arith, atoms-most boxes rows side, room 256 e));
+        len = part-length (atoms boxes rows side) old count out w;
+        are = is;
+        small = rw is all;
+      }

@@ -108,23 +108,25 @@ module _ (pic : Picture) (s : List ℕ) where
     abbrev pub entryReady : Option Refusal
     entryReady = orElse (entryEarly pic s m) (loopFault (pic .boxes) (pic .rows))
 
-    whole : entryFault pic s m u f ≡ orElse entryReady (askedFault (pic .boxes) (pic .rows) u f)
+    abbrev pub asked : Option Refusal
+    asked = askedFault (pic .boxes) (pic .rows) u f
+
+    whole : entryFault pic s m u f ≡ orElse entryReady asked
     unfolding entryFault
-    whole = sym (orElse-assoc (entryEarly pic s m) (loopFault (pic .boxes) (pic .rows)) (askedFault (pic .boxes) (pic .rows) u f))
+    whole = sym (orElse-assoc (entryEarly pic s m) (loopFault (pic .boxes) (pic .rows)) asked)
 
     pub entry-stopped : (r : Refusal) → verdictOf entryReady ≡ Stopped r → Refused r ≡ replyOf (entryFault pic s m u f) x
     unfolding replyOf orElse
     entry-stopped r e = rw (whole, refused entryReady r e)
 
     module _ (clear : verdictOf entryReady ≡ Passed) where
-      pub entry-not-asked : (r : Refusal) → verdictOf (askedFault (pic .boxes) (pic .rows) u f) ≡ Stopped r
-          → Refused r ≡ replyOf (entryFault pic s m u f) x
+      pub entry-not-asked : (r : Refusal) → verdictOf asked ≡ Stopped r → Refused r ≡ replyOf (entryFault pic s m u f) x
       unfolding replyOf
-      entry-not-asked r e = rw (whole, past entryReady (askedFault (pic .boxes) (pic .rows) u f) (passed entryReady clear), refused (askedFault (pic .boxes) (pic .rows) u f) r e)
+      entry-not-asked r e = rw (whole, past entryReady asked (passed entryReady clear), refused asked r e)
 
-      pub entry-answered : verdictOf (askedFault (pic .boxes) (pic .rows) u f) ≡ Passed → Answered x ≡ replyOf (entryFault pic s m u f) x
+      pub entry-answered : verdictOf asked ≡ Passed → Answered x ≡ replyOf (entryFault pic s m u f) x
       unfolding replyOf
-      entry-answered e = rw (whole, past entryReady (askedFault (pic .boxes) (pic .rows) u f) (passed entryReady clear), passed (askedFault (pic .boxes) (pic .rows) u f) e)
+      entry-answered e = rw (whole, past entryReady asked (passed entryReady clear), passed asked e)
 
   -- ---- the matrix, after that stage
 

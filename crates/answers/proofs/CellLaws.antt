@@ -13,11 +13,12 @@ use lib.Seq.{getD-set-same, getD-set-other, ext-getD}
 use Rattle.base.specs.Buffers.{build, written}
 use Rattle.base.proofs.Tests.{T-true}
 use Rattle.base.proofs.BufferLaws.{written-length, written-at, written-rest, build-length, build-at}
-use Rattle.base.proofs.Index.{at-div, at-mod, next-row}
+use Rattle.base.proofs.Index.{next-row}
 use Rattle.tables.specs.Rows.{Picture}
 use Rattle.tables.proofs.AtomPlaces.{pairCount-is}
 use Rattle.meaning.specs.Meaning.{answer, byteOf, numberOf, isGranted, isUnclear}
-use Rattle.meaning.specs.Pairs.{users, files, userAt, fileAt, answerAt, byteAt, numberAt, matrixBytes, matrixNumbers}
+use Rattle.meaning.specs.Pairs.{users, files, byteAt, numberAt, matrixBytes, matrixNumbers}
+use Rattle.meaning.proofs.RowPairs.{row-place}
 use Rattle.meaning.specs.declared.Entry.{Entry}
 use Rattle.meaning.specs.declared.Entry.the-variants.{Granted, Denied, Default, Unclear}
 use Rattle.user_rows.specs.Steps.{Sorts}
@@ -89,21 +90,15 @@ module _ (pic : Picture) (m : ℕ) where
   byte-said u f asked row s t =
       rw (s .granted-are f, s .unclear-are f, T-true (asked f) t) (byte-is (answer pic m u f))
 
-  -- the answer at the place of a row and a column
-  place-answer : (i j : ℕ) → j < length (files pic)
-      → answerAt pic m (i * length (files pic) + j) ≡ answer pic m (getD (users pic) i 0) (getD (files pic) j 0)
-  unfolding answerAt userAt fileAt
-  place-answer i j l = rw (at-div (length (files pic)) i j l, at-mod (length (files pic)) i j l)
-
   pub place-byte : (i j : ℕ) → j < length (files pic)
       → byteOf (answer pic m (getD (users pic) i 0) (getD (files pic) j 0)) ≡ byteAt pic m (i * length (files pic) + j)
   unfolding byteAt
-  place-byte i j l = sym (ap byteOf (place-answer i j l))
+  place-byte i j l = sym (ap byteOf (row-place pic m i j l))
 
   pub place-number : (i j : ℕ) → j < length (files pic)
       → numberOf (answer pic m (getD (users pic) i 0) (getD (files pic) j 0)) ≡ numberAt pic m (i * length (files pic) + j)
   unfolding numberAt
-  place-number i j l = sym (ap numberOf (place-answer i j l))
+  place-number i j l = sym (ap numberOf (row-place pic m i j l))
 
   -- row i of the matrix is written: u is its user, fs are the files
   module _ (i u : ℕ) (fs : List ℕ) (asked : ℕ → Bool) (row : Row) (is : u ≡ getD (users pic) i 0) (are : fs ≡ files pic)

@@ -21,7 +21,7 @@ use containment::prepare;
 use early::early_entry;
 use early::early_matrix;
 use early::early_picture;
-use meaning::Entry;
+pub use meaning::Entry;
 use modes::judge_picture;
 pub use pair::answer_pair;
 use pair::check_asked;

@@ -2,11 +2,10 @@
 -- which it does not override. Assumes nothing.
 use mathlib.Core.Path.{_≡_, refl, sym, ap, ap₂, subst, _∙_}
 use mathlib.Core.Bool.{Bool, true, false, not, _&&_, _||_, and-false}
-use Prim.Native.Nat.{ℕ, _<_}
+use Prim.Native.Nat.{ℕ}
 use lib.Dec.{T, eqb, eqb→eq}
-use lib.ListN.{length}
-use Rattle.base.specs.Search.{anyBelow, every}
-use Rattle.base.proofs.Tests.{and-T, T-true, true-T, not-false, false-not}
+use Rattle.base.specs.Search.{anyBelow}
+use Rattle.base.proofs.Tests.{and-T, T-true, true-T}
 use Rattle.base.proofs.SearchLaws.{every-same}
 use Rattle.base.proofs.AnyLaws.{any-within, any-same, any-or, any-and, not-any}
 use Rattle.tables.specs.Rows.{Picture, arrowCount, arrowAt}
@@ -15,7 +14,7 @@ use Rattle.tables.specs.declared.Arrow.{Arrow}
 use Rattle.containment.specs.Contains.{around}
 use Rattle.meaning.specs.Meaning.{hasMode, nests, overrides, hits, certifies}
 use Rattle.meaning.proofs.AnswerLaws.{overrides-is}
-use Rattle.user_rows.specs.Row.{leaves, headsBelow, headsOf, inOne, blocks, certified, reachedBy}
+use Rattle.user_rows.specs.Row.{leaves, headsBelow, inOne, blocks, certified, reachedBy}
 use Rattle.user_rows.proofs.HeadLaws.{hits-is, in-heads}
 
 -- ---- "does not override", by the four tests of nesting

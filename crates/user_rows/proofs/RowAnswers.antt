@@ -1,12 +1,12 @@
 -- The answer of a pair by its lowest certificate and by which signs reach it. Assumes nothing.
-use mathlib.Core.Path.{_≡_, refl, sym, ap, subst, _∙_}
+use mathlib.Core.Path.{_≡_, refl, sym, ap, _∙_}
 use mathlib.Core.Logic.{_⊎_, ⊎-elim}
-use mathlib.Core.Bool.{Bool, true, false, not, _&&_, _||_, cond}
+use mathlib.Core.Bool.{Bool, true, false, cond}
 use mathlib.Core.Option.{Option, none, some}
 use Prim.Native.Nat.{ℕ, _<_}
 use lib.Dec.{T, eqb}
-use Rattle.base.specs.Search.{lowest, anyBelow}
-use Rattle.base.proofs.Tests.{T?, or-T, T-true, not-false, false-not}
+use Rattle.base.specs.Search.{lowest}
+use Rattle.base.proofs.Tests.{T?, T-true, not-false}
 use Rattle.base.proofs.SearchLaws.{lowest-some, lowest-none}
 use Rattle.base.proofs.SelectLaws.{lowest-is, lowest-nothing}
 use Rattle.base.proofs.AnyLaws.{any-found, any-is}

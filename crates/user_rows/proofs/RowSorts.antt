@@ -4,30 +4,20 @@ use mathlib.Core.Logic.{_⊎_, inl, inr, ⊎-elim}
 use mathlib.Core.Bool.{Bool, true, false, not, _&&_, _||_}
 use mathlib.Core.List.{List}
 use Prim.Native.Nat.{ℕ, _<_}
-use native.Mathlib.Omega.{arith}
-use lib.Dec.{T, eqb}
-use lib.ListN.{length, getD, length-replicate, getD-replicate}
+use lib.Dec.{T}
+use lib.ListN.{length}
 use Rattle.base.proofs.Tests.{T?, or-T, T-or₁, T-or₂, and-T, T-and, T-true, not-false, false-not}
-use Rattle.tables.specs.Rows.{Picture, arrowAt}
+use Rattle.tables.specs.Rows.{Picture}
 use Rattle.meaning.specs.Meaning.{positive, negative, answer, isGranted, isUnclear, numberOf}
-use Rattle.meaning.specs.declared.Entry.the-variants.{Default}
 use Rattle.boxsets.specs.Sets.{isIn}
 use Rattle.boxsets.specs.declared.Set.{Set}
 use Rattle.boxsets.proofs.WalkLaws.{in-below}
 use Rattle.user_rows.specs.Row.{ownArrows, reachedBy}
-use Rattle.user_rows.specs.Steps.{Drawn, Moded, AroundBy, Walked, Sorts, blankRow}
+use Rattle.user_rows.specs.Steps.{Drawn, Moded, AroundBy, Walked, Sorts}
 use Rattle.user_rows.specs.declared.Around.{Around}
 use Rattle.user_rows.specs.declared.Row.{Row}
 use Rattle.user_rows.proofs.ShowLaws.{own-none}
 use Rattle.user_rows.proofs.RowAnswers.{reached-unclear, unreached, one-sided, shown-row}
-
-pub blank-length : length blankRow ≡ 256
-unfolding blankRow
-blank-length = length-replicate {A = ℕ} 256 65535
-
-pub blank-at : (f : ℕ) → f < 256 → getD blankRow f 0 ≡ 65535
-unfolding blankRow
-blank-at f l = getD-replicate 256 f 65535 0 l
 
 module _ (pic : Picture) (m u : ℕ) (files left granted : ℕ → Bool) (before after : ℕ → ℕ)
     (w : Walked pic m u files left granted before after (length (ownArrows (pic .arrows) m))) (f : ℕ) where

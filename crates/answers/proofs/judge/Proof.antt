@@ -29,7 +29,9 @@ prepared : (c : tie.After-prepare) →
     (c .prepare .result ≡ verdictOf (pictureFault (pic start) s))
     × (c .prepare .last .1 .1 .1 .0 ≡ scratchAfter (earlyFault (pic start) s) (start .args .boxes .now) (start .args .rows .now) s)
 unfolding pictureFault
-prepared c = c .prepare .ensures .0 (earlyFault (pic (c .before .before .before .before .before .before .before .before .before .before)) (c .before .before .before .before .before .before .before .before .before .before .args .scratch .now)) (c .before .before .before .early-picture .ensures)
+prepared c =
+    let start = c .before .before .before .before .before .before .before .before .before .before in
+    c .prepare .ensures .0 (earlyFault (pic start) (start .args .scratch .now)) (c .before .before .before .early-picture .ensures)
 
 returns : tie.Need-returns
 unfolding judgeFault
@@ -54,4 +56,5 @@ returns-2 c =
 
 pub judge-spec : {M : Type 1} → statement M
 judge-spec =
-    tie.close (tie.spec (λ c κs. search needs) (λ c κs. search needs) (search needs) prepare-requires (search needs) (search needs) returns (search needs) (search needs) judge-picture-requires (search needs) returns-2)
+    tie.close (tie.spec (λ c κs. search needs) (λ c κs. search needs) (search needs) prepare-requires (search needs) (search needs) returns
+    (search needs) (search needs) judge-picture-requires (search needs) returns-2)

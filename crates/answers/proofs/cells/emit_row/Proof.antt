@@ -28,7 +28,9 @@ loop-holds c =
 
 -- the file is a box
 small : (c : tie.After-wide Inv-loop μ-loop) → c .wide .result < 256
-small c = let at-loop = c .before .before .before in omega (arith, at-loop .before .before .before .before .before .pre .0 (at-loop .loop .j) (omega arith), c .wide .ensures)
+small c =
+    let at-loop = c .before .before .before in
+    omega (arith, at-loop .before .before .before .before .before .pre .0 (at-loop .loop .j) (omega arith), c .wide .ensures)
 
 slice-write-bytes : tie.Need-slice-write-bytes Inv-loop μ-loop
 slice-write-bytes c = let l = c .before .before .before .before .loop .inv .1 .len in omega arith
@@ -70,5 +72,6 @@ returns c =
 
 pub emit-row-spec : {M : Type 1} → statement M
 emit-row-spec =
-    tie.close (tie.spec Inv-loop μ-loop loop-holds (search needs) (search needs) (λ c κs. search needs) (λ c κs. small c) (search needs) slice-write-bytes mul-numbers shared-slice-read-numbers (search needs)
-    (search needs) slice-write-numbers (search needs) (search needs) loop-again same-length same-length-2 returns)
+    tie.close (tie.spec Inv-loop μ-loop loop-holds (search needs) (search needs) (λ c κs. search needs) (λ c κs. small c) (search needs)
+    slice-write-bytes mul-numbers shared-slice-read-numbers (search needs) (search needs) slice-write-numbers (search needs) (search needs)
+    loop-again same-length same-length-2 returns)

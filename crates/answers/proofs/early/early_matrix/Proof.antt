@@ -19,10 +19,13 @@ returns : tie.Need-returns
 unfolding matrixEarly
 returns c = refuses _ _ _ (sym (c .before .before .before .check .ensures) ∙ c .before .tables .given .1)
 
-sound : (c : tie.After-enum-told) → let a = c .before .before .before .before .before .before .before .before .before .args in SoundRows (a .boxes .now) (a .rows .now)
+sound : (c : tie.After-enum-told) →
+    let a = c .before .before .before .before .before .before .before .before .before .args in
+    SoundRows (a .boxes .now) (a .rows .now)
 sound c =
     let a = c .before .before .before .before .before .before .before .before .before .args in
-    sound-rows (a .boxes .now) (a .rows .now) (a .arrows .now) (passed _ (sym (c .before .before .check .ensures) ∙ c .enum-told .given .1))
+    sound-rows (a .boxes .now) (a .rows .now) (a .arrows .now)
+    (passed _ (sym (c .before .before .check .ensures) ∙ c .enum-told .given .1))
 
 pair-count-requires : tie.Need-pair-count-requires
 pair-count-requires c κs = sound c
@@ -52,4 +55,6 @@ returns-2 c =
 
 pub early-matrix-spec : {M : Type 1} → statement M
 early-matrix-spec =
-    tie.close (tie.spec (λ c κs. search needs) (search needs) returns (search needs) pair-count-requires (λ c κs. search needs) check-scratch-requires (λ c κs. search needs) (λ c κs. search needs) (λ c κs. search needs) (λ c κs. search needs) (λ c κs. search needs) returns-2)
+    tie.close (tie.spec (λ c κs. search needs) (search needs) returns (search needs) pair-count-requires (λ c κs. search needs)
+    check-scratch-requires (λ c κs. search needs) (λ c κs. search needs) (λ c κs. search needs) (λ c κs. search needs)
+    (λ c κs. search needs) returns-2)

@@ -14,11 +14,15 @@ returns : tie.Need-returns
 unfolding earlyFault
 returns c = refuses _ _ _ (sym (c .before .before .before .check .ensures) ∙ c .before .tables .given .1)
 
-tabled : (c : tie.After-enum-told) → let a = c .before .before .before .before .before .before .before .args in tableFault (picture (a .boxes .now) (a .rows .now) (a .arrows .now)) ≡ none
+tabled : (c : tie.After-enum-told) →
+    let a = c .before .before .before .before .before .before .before .args in
+    tableFault (picture (a .boxes .now) (a .rows .now) (a .arrows .now)) ≡ none
 tabled c = passed _ (sym (c .before .before .check .ensures) ∙ c .enum-told .given .1)
 
 check-scratch-requires : tie.Need-check-scratch-requires
-check-scratch-requires c κs = let a = c .before .before .before .before .before .before .before .args in sound-rows (a .boxes .now) (a .rows .now) (a .arrows .now) (tabled c) .few-boxes
+check-scratch-requires c κs =
+    let a = c .before .before .before .before .before .before .before .args in
+    sound-rows (a .boxes .now) (a .rows .now) (a .arrows .now) (tabled c) .few-boxes
 
 returns-2 : tie.Need-returns-2
 unfolding earlyFault

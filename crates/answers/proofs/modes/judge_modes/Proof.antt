@@ -34,7 +34,8 @@ returns c pic d o us fs =
     let l = c .before .before .before .before .before .loop in
     sym (ap verdictOf
     (first-here (unclearFault pic) 8 (l .m) _ (l .inv .1 pic d o us fs)
-    (refused _ _ (sym (c .before .before .before .judge-mode .ensures pic d o us fs) ∙ c .before .v .given .1)) (omega (arith, c .before .before .before .before .loop-test .taken))))
+    (refused _ _ (sym (c .before .before .before .judge-mode .ensures pic d o us fs) ∙ c .before .v .given .1))
+    (omega (arith, c .before .before .before .before .loop-test .taken))))
 
 loop-again : tie.Need-loop-again Inv-loop μ-loop
 loop-again c =
@@ -52,4 +53,5 @@ returns-2 c pic d o us fs =
 
 pub judge-modes-spec : {M : Type 1} → statement M
 judge-modes-spec =
-    tie.close (tie.spec Inv-loop μ-loop loop-holds (λ c κs. search needs) (search needs) returns (search needs) (search needs) (search needs) loop-again returns-2)
+    tie.close (tie.spec Inv-loop μ-loop loop-holds (λ c κs. search needs) (search needs) returns (search needs) (search needs)
+    (search needs) loop-again returns-2)

@@ -8,10 +8,10 @@ use borrow.Author.Tests.{not-true, not-false}
 use lib.ListN.{length, getD}
 use Rattle.tables.specs.Rows.{Picture, user, file}
 use Rattle.tables.specs.Atoms.{atom, atoms}
-use Rattle.tables.specs.Refusals.{unclearPair, verdictOf}
+use Rattle.tables.specs.Refusals.{verdictOf}
 use Rattle.boxsets.specs.Sets.{isIn}
 use Rattle.meaning.specs.Pairs.{users}
-use Rattle.meaning.proofs.JudgeLaws.{rows-start}
+use Rattle.meaning.proofs.RowPairs.{rows-start}
 use Rattle.user_rows.specs.Steps.{Drawn, Moded, Sorts}
 use Rattle.answers.proofs.AtomLaws.{atoms-there}
 use Rattle.answers.proofs.RowLaws.{unclear, Clear, clear-more, clear-found, clear-end}
@@ -30,7 +30,7 @@ abbrev μ-loop : tie.MeasureT-loop
 loop-holds : tie.Need-loop-holds Inv-loop μ-loop
 loop-holds c =
     let m = c .before .before .before .before .before .args .mode in
-    (search needs, λ pic d o us fs. rows-start pic (unclear pic m) (unclearPair m))
+    (search needs, λ pic d o us fs. rows-start pic (unclear pic m))
 
 sort-row-requires : tie.Need-sort-row-requires Inv-loop μ-loop
 sort-row-requires c κs =
@@ -50,29 +50,31 @@ row-sorts c pic d o us =
     let i = c .before .before .before .before .loop .i in
     let is = c .before .wide .ensures ∙ ap (λ (xs : List ℕ). getD xs i 0) us in
     let there : i < length (users pic) = omega (arith, c .before .before .before .loop-test .taken, ap length us) in
-    (is, there, c .sort-row .ensures pic (c .before .before .before .before .before .before .before .before .before .before .args .mode) d o (rw is (atoms-there (pic .boxes) (pic .rows) user i there)))
+    let m = c .before .before .before .before .before .before .before .before .before .before .args .mode in
+    (is, there, c .sort-row .ensures pic m d o (rw is (atoms-there (pic .boxes) (pic .rows) user i there)))
 
 returns : tie.Need-returns Inv-loop μ-loop
 returns c pic d o us fs =
     let sorted = c .before .before .before .before .before .before in
     let at-loop = sorted .before .before .before .before in
-    let m = sorted .before .before .before .before .before .before .before .before .before .before .args .mode in
+    let a = at-loop .before .before .before .before .before .before .args in
+    let empty = c .before .before .before .before .is-empty in
     let s = row-sorts sorted pic d o us in
     c .refused .ensures
     ∙ rw (c .before .before .wide2 .ensures)
-    (clear-found pic m (at-loop .loop .i) (sorted .before .wide .result) (sorted .before .before .before .before .before .before .before .before .before .before .args .files) (sorted .sort-row .result) (s .0) fs (s .2)
+    (clear-found pic (a .mode) (at-loop .loop .i) (sorted .before .wide .result) (a .files) (sorted .sort-row .result) (s .0) fs (s .2)
     (at-loop .loop .inv .1 pic d o us fs) (c .before .lowest .result) (s .1) (c .before .lowest .ensures)
-    (sym (c .before .before .before .before .is-empty .ensures) ∙ not-true (c .before .before .before .before .is-empty .result) (c .before .before .before .if1 .taken)))
+    (sym (empty .ensures) ∙ not-true (empty .result) (c .before .before .before .if1 .taken)))
 
 loop-again : tie.Need-loop-again Inv-loop μ-loop
 loop-again c =
     let sorted = c .before .before .before in
     let at-loop = sorted .before .before .before .before in
-    let m = sorted .before .before .before .before .before .before .before .before .before .before .args .mode in (
+    let a = at-loop .before .before .before .before .before .before .args in (
       search needs,
       λ pic d o us fs.
           let s = row-sorts sorted pic d o us in
-          clear-more pic m (at-loop .loop .i) (sorted .before .wide .result) (sorted .before .before .before .before .before .before .before .before .before .before .args .files) (sorted .sort-row .result) (s .0) fs
+          clear-more pic (a .mode) (at-loop .loop .i) (sorted .before .wide .result) (a .files) (sorted .sort-row .result) (s .0) fs
           (s .2) (at-loop .loop .inv .1 pic d o us fs)
           (sym (c .before .is-empty .ensures) ∙ not-false (c .before .is-empty .result) (c .if1 .left)),
     )
@@ -86,4 +88,6 @@ returns-2 c pic d o us fs =
 
 pub judge-rows-spec : {M : Type 1} → statement M
 judge-rows-spec =
-    tie.close (tie.spec Inv-loop μ-loop loop-holds (search needs) (search needs) (λ c κs. search needs) sort-row-requires (λ c κs. search needs) (λ c κs. search needs) (λ c κs. search needs) (λ c κs. search needs) returns (search needs) (search needs) loop-again returns-2)
+    tie.close (tie.spec Inv-loop μ-loop loop-holds (search needs) (search needs) (λ c κs. search needs) sort-row-requires
+    (λ c κs. search needs) (λ c κs. search needs) (λ c κs. search needs) (λ c κs. search needs) returns (search needs) (search needs)
+    loop-again returns-2)

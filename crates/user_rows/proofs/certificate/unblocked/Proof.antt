@@ -1,6 +1,6 @@
 -- `user_rows::certificate::unblocked` meets its contract, in three steps: each takes the files in one part of `blocks`. Assumes nothing.
 use mathlib.Core.Path.{_≡_, sym, _∙_}
-use mathlib.Core.Bool.{Bool, not, _&&_}
+use mathlib.Core.Bool.{not, _&&_}
 use Prim.Native.Nat.{ℕ}
 use borrow.Author.Needs.{needs}
 use Rattle.tables.specs.Rows.{Picture}

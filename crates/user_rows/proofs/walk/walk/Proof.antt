@@ -1,9 +1,9 @@
 -- `user_rows::walk::walk` meets its contract: at place i the walk stands as `Walking` says. Assumes nothing.
-use mathlib.Core.Path.{_≡_, sym, ap, _∙_}
-use Prim.Native.Nat.{ℕ, _-_, _<_}
+use mathlib.Core.Path.{_≡_, ap, _∙_}
+use Prim.Native.Nat.{_-_, _<_}
 use native.Mathlib.Omega.{arith}
 use borrow.Author.Needs.{needs}
-use lib.ListN.{length, getD}
+use lib.ListN.{length}
 use Rattle.tables.specs.Rows.{arrowCount, arrowAt}
 use Rattle.user_rows.proofs.SetLaws.{is-empty}
 use Rattle.user_rows.proofs.RowWalk.{Walking, walking-start, walking-turn, walking-empty}
