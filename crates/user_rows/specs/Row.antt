@@ -2,7 +2,6 @@
 -- tables say the same tests. Assumes nothing.
 use mathlib.Core.Bool.{Bool, not, _&&_, _||_, cond}
 use mathlib.Core.List.{List}
-use mathlib.Core.Option.{Option, none, some}
 use Prim.Native.Nat.{ℕ}
 use lib.Dec.{eqb}
 use lib.ListN.{length}
@@ -10,7 +9,7 @@ use Rattle.base.specs.Search.{anyBelow, select}
 use Rattle.tables.specs.Rows.{Picture, arrowCount, arrowAt}
 use Rattle.tables.specs.declared.Arrow.{Arrow}
 use Rattle.containment.specs.Contains.{around}
-use Rattle.meaning.specs.Meaning.{positive, negative, hasMode, nests, hits, certifies, settle}
+use Rattle.meaning.specs.Meaning.{positive, negative, hasMode, nests, hits, certifies}
 use Rattle.meaning.specs.declared.Entry.{Entry}
 use Rattle.meaning.specs.declared.Entry.the-variants.{Granted, Denied}
 
@@ -48,11 +47,6 @@ module _ (arrows : List ℕ) (mode : ℕ) where
 -- what an arrow of the sign says of the pair
 unfoldable pub saidBy : (sign k : ℕ) → Entry
 saidBy sign k = cond (eqb sign positive) (Granted k) (Denied k)
-
--- the answer, by the lowest certificate and the lowest arrow of each sign
-unfoldable pub said : (arrows : List ℕ) (shown positive negative : Option ℕ) → Entry
-said arrows (some k) p n = saidBy (arrowAt arrows k .sign) k
-said arrows none p n = settle none none p n
 
 module _ (pic : Picture) where
   -- file f is in one of the boxes: some box of the picture is one of them, and is f or contains it

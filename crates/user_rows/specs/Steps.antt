@@ -2,7 +2,7 @@
 use mathlib.Core.Path.{_≡_}
 use mathlib.Core.Bool.{Bool, false, not, cond, _&&_, _||_}
 use mathlib.Core.List.{List}
-use mathlib.Core.Option.{Option, none, some}
+use mathlib.Core.Option.{none, some}
 use Prim.Native.Nat.{ℕ, _+_, _*_, _<_, _≤_}
 use lib.Dec.{T, eqb}
 use lib.ListN.{length, getD, replicate}
@@ -13,7 +13,7 @@ use Rattle.tables.specs.Steps.{SoundRows, SoundArrows}
 use Rattle.tables.specs.declared.Arrow.{Arrow}
 use Rattle.containment.specs.Contains.{around, loopFault}
 use Rattle.containment.specs.Steps.{Closure}
-use Rattle.meaning.specs.Meaning.{positive, negative, answer, numberOf, isGranted, isUnclear}
+use Rattle.meaning.specs.Meaning.{positive, negative, answer, isGranted, isUnclear}
 use Rattle.boxsets.specs.Sets.{isIn, has}
 use Rattle.boxsets.specs.declared.Set.{Set}
 use Rattle.user_rows.specs.Row.{headsBelow, headsOf, tailsBelow, ownArrows, shows, reachedBy}

@@ -1,12 +1,14 @@
 -- `user_rows::certificate::unblocked` meets its contract, in three steps: each takes the files in one part of `blocks`. Assumes nothing.
 use mathlib.Core.Path.{_≡_, sym, _∙_}
-use mathlib.Core.Bool.{not, _&&_}
-use Prim.Native.Nat.{ℕ}
+use mathlib.Core.Bool.{Bool, not, _&&_}
+use Prim.Native.Nat.{ℕ, _<_}
 use borrow.Author.Needs.{needs}
+use lib.ListN.{length}
 use Rattle.tables.specs.Rows.{Picture}
 use Rattle.boxsets.specs.Sets.{isIn}
 use Rattle.boxsets.proofs.WalkLaws.{empty-none}
 use Rattle.user_rows.specs.Row.{inOne}
+use Rattle.user_rows.specs.Steps.{Drawn, ModeSets, NearBy}
 use Rattle.user_rows.proofs.BlockSteps.{Known, headBlocks, tailBlocks, levelBlocks, take-head, take-tail, take-level}
 use Rattle.user_rows.proofs.BlockSteps.{one-step, two-steps, three-steps}
 use Rattle.user_rows.proofs.certificate.unblocked.Statement.{statement}
@@ -28,6 +30,19 @@ second-done c = c .before .before .before .before .before .before .before .befor
 -- what is known of the picture at the start
 abbrev KnownAt : tie.Start → Picture → ℕ → ℕ → Type 0
 KnownAt c pic m u = Known pic m u (c .args .closure .now) (c .args .heads .now) (c .args .near) (c .args .a)
+
+known : (s : tie.Start) (pic : Picture) (m u : ℕ) (asked : ℕ → Bool) → Drawn pic (s .args .closure .now)
+    → ModeSets (pic .arrows) m (s .args .heads .now) → NearBy pic m (s .args .near .sign) u asked (s .args .near)
+    → (s .args .a .tail < length (pic .boxes)) × (s .args .a .head < length (pic .boxes)) × (u < length (pic .boxes)) → KnownAt s pic m u
+known s pic m u asked d sets near there = record {
+  drawn = d;
+  sets = sets;
+  small = s .pre .2;
+  asked = asked;
+  near = near;
+  tail-in = there .0;
+  head-in = there .1;
+}
 
 module _ (pic : Picture) (m u : ℕ) where
   by-head : (c : tie.After-outside-all) → KnownAt (start c) pic m u → (f : ℕ)
@@ -100,15 +115,7 @@ returns : tie.Need-returns
 returns c pic m u asked d sets near there f =
     let t = c .before .before in
     let s = start t in
-    let k : KnownAt s pic m u = record {
-      drawn = d;
-      sets = sets;
-      small = s .pre .2;
-      asked = asked;
-      near = near;
-      tail-in = there .0;
-      head-in = there .1;
-    } in
+    let k = known s pic m u asked d sets near there in
     one-step pic m (s .args .near .sign) u (s .args .a) f (isIn (s .args .files) f) (isIn (t .outside-all .result) f)
     (by-head pic m u t k f)
     (empty-none (t .outside-all .result) (sym (c .before .is-empty .ensures) ∙ c .if1 .taken) f)
@@ -118,15 +125,7 @@ returns-2 c pic m u asked d sets near there f =
     let t₂ = c .before .before in
     let t = first-done t₂ in
     let s = start t in
-    let k : KnownAt s pic m u = record {
-      drawn = d;
-      sets = sets;
-      small = s .pre .2;
-      asked = asked;
-      near = near;
-      tail-in = there .0;
-      head-in = there .1;
-    } in
+    let k = known s pic m u asked d sets near there in
     two-steps pic m (s .args .near .sign) u (s .args .a) f (isIn (s .args .files) f) (isIn (t .outside-all .result) f)
     (isIn (t₂ .outside-all2 .result) f) (by-head pic m u t k f) (by-tail pic m u t₂ k f)
     (empty-none (t₂ .outside-all2 .result) (sym (c .before .is-empty2 .ensures) ∙ c .if2 .taken) f)
@@ -136,15 +135,7 @@ returns-3 c pic m u asked d sets near there f =
     let t₂ = second-done c in
     let t = first-done t₂ in
     let s = start t in
-    let k : KnownAt s pic m u = record {
-      drawn = d;
-      sets = sets;
-      small = s .pre .2;
-      asked = asked;
-      near = near;
-      tail-in = there .0;
-      head-in = there .1;
-    } in
+    let k = known s pic m u asked d sets near there in
     three-steps pic m (s .args .near .sign) u (s .args .a) f (isIn (s .args .files) f) (isIn (t .outside-all .result) f)
     (isIn (t₂ .outside-all2 .result) f) (isIn (c .outside-all3 .result) f) (by-head pic m u t k f) (by-tail pic m u t₂ k f)
     (by-level pic m u c k f)
