@@ -8,7 +8,7 @@ use super::{refuse, Entry, Refusal, Tables, BOXES, NO_ARROW};
 
 /// Check 12 for a mode.
 fn judge_mode(t: Tables, closure: &Closure, m: u16, users: &[u8], files: Set) -> Result<(), Refusal> {
-    let mut mode = Mode::EMPTY;
+    let mut mode = Mode::new();
     mode.take(t.arrows, m);
     if !mode.has_both_signs() {
         return Ok(());
@@ -38,7 +38,7 @@ pub fn judge(t: Tables, scratch: &mut [u8]) -> Result<(), Refusal> {
 
 /// The answer for a pair: a row with one file.
 fn answer_pair(t: Tables, closure: &Closure, m: u16, user: u8, file: u8) -> Entry {
-    let mut mode = Mode::EMPTY;
+    let mut mode = Mode::new();
     mode.take(t.arrows, m);
     let rows = Rows {
         closure,
@@ -118,7 +118,7 @@ pub fn matrix(
     check_room(2, numbers.len(), users.len() * files.len())?;
     let mut closure = Closure::EMPTY;
     contain(t, scratch, &mut closure)?;
-    let mut own = Mode::EMPTY;
+    let mut own = Mode::new();
     own.take(t.arrows, mode);
     let rows = Rows {
         closure: &closure,

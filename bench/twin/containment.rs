@@ -72,7 +72,7 @@ fn fill_scratch(t: Tables, closure: &Closure, scratch: &mut [u8]) {
         return;
     }
     for (bytes, inner) in scratch.chunks_exact_mut(n).zip(&closure.within) {
-        inner.each(|b| bytes[b as usize] = 1);
+        inner.mark(bytes);
     }
     for row in t.rows.chunks_exact(2) {
         scratch[row[0] as usize * n + row[1] as usize] = 2;

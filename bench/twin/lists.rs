@@ -24,18 +24,17 @@ struct Order<'a> {
 
 impl Order<'_> {
     fn standing(&self, a: Arrow) -> Standing {
+        let users = self.closure.within[a.tail as usize];
         let files = self.closure.within[a.head as usize];
-        let mut fresh = false;
-        for u in self.closure.within[a.tail as usize] {
-            let open = files & self.left[u as usize];
-            let granted = self.granted[u as usize];
-            let wrong = if a.positive { open - granted } else { open & granted };
-            if !wrong.is_empty() {
-                return Standing::Blocked;
-            }
-            fresh |= !open.is_empty();
-        }
-        if fresh {
+        let open = |u: u8| files & self.left[u as usize];
+        let blocked = if a.positive {
+            users.any(|u| !(open(u) - self.granted[u as usize]).is_empty())
+        } else {
+            users.any(|u| !(open(u) & self.granted[u as usize]).is_empty())
+        };
+        if blocked {
+            Standing::Blocked
+        } else if users.any(|u| !open(u).is_empty()) {
             Standing::Free
         } else {
             Standing::Spent
@@ -93,7 +92,7 @@ pub fn list(
     let mut closure = Closure::EMPTY;
     contain(t, scratch, &mut closure)?;
 
-    let mut mode = Mode::EMPTY;
+    let mut mode = Mode::new();
     mode.take(t.arrows, m);
     let mut order = Order {
         closure: &closure,

@@ -4,20 +4,13 @@ use super::containment::Closure;
 use super::sets::Set;
 use super::{ARROWS, BOXES, NO_ARROW};
 
-#[derive(Clone, Copy)]
+#[derive(Clone, Copy, Default)]
 pub struct Arrow {
     pub number: u16,
     pub tail: u8,
     pub head: u8,
     pub positive: bool,
 }
-
-const NONE: Arrow = Arrow {
-    number: NO_ARROW,
-    tail: 0,
-    head: 0,
-    positive: false,
-};
 
 /// The arrows of a mode, rising, without those whose ends and sign an earlier one has: these change
 /// no answer. And as sets: of each sign the heads from each tail, and the tails.
@@ -29,31 +22,37 @@ pub struct Mode {
 }
 
 impl Mode {
-    pub const EMPTY: Mode = Mode {
-        own: [NONE; ARROWS],
-        count: 0,
-        heads: [[Set::EMPTY; BOXES]; 2],
-        tails: [Set::EMPTY; 2],
-    };
+    pub fn new() -> Mode {
+        Mode {
+            own: [Arrow::default(); ARROWS],
+            count: 0,
+            heads: [[Set::EMPTY; BOXES]; 2],
+            tails: [Set::EMPTY; 2],
+        }
+    }
 
     /// Takes a mode's arrows into the empty sets.
     pub fn take(&mut self, arrows: &[u16], mode: u16) {
-        let rows = arrows.chunks_exact(4).zip(0..).filter(|(row, _)| row[2] == mode);
-        for (row, number) in rows {
+        let mut own = self.own.iter_mut();
+        let rows = arrows.chunks_exact(4).zip(0..);
+        for (row, number) in rows.filter(|(row, _)| row[2] == mode) {
             let (tail, head, positive) = (row[0] as u8, row[1] as u8, row[3] == 1);
             let heads = &mut self.heads[positive as usize][tail as usize];
-            if !heads.has(head) {
-                heads.add(head);
-                self.tails[positive as usize].add(tail);
-                self.own[self.count] = Arrow {
+            if heads.has(head) {
+                continue;
+            }
+            heads.add(head);
+            self.tails[positive as usize].add(tail);
+            if let Some(place) = own.next() {
+                *place = Arrow {
                     number,
                     tail,
                     head,
                     positive,
                 };
-                self.count += 1;
             }
         }
+        self.count = ARROWS - own.len();
     }
 
     pub fn own(&self) -> &[Arrow] {
@@ -102,7 +101,8 @@ impl Rows<'_> {
     #[inline]
     fn outside_all(self, files: Set, boxes: Set) -> Set {
         let (mut left, mut rest) = (files, boxes);
-        while let Some(b) = rest.lowest().filter(|_| !left.is_empty()) {
+        while !left.is_empty() {
+            let Some(b) = rest.lowest() else { break };
             let gone = self.closure.within[b as usize];
             rest -= gone;
             left -= gone;
@@ -154,7 +154,7 @@ impl Rows<'_> {
     /// Takes from the files those of each arrow's certificate in turn, and answers what is left.
     #[inline]
     fn walk(self, user: u8, near: &[Near; 2], files: Set, mut take: impl FnMut(Arrow, Set)) -> Set {
-        let above = self.closure.above[user as usize];
+        let above = &self.closure.above[user as usize];
         let mut left = files;
         for &a in self.mode.own() {
             if left.is_empty() {
@@ -202,10 +202,7 @@ impl Rows<'_> {
 
     /// The lowest arrow of a sign that reaches the pair.
     pub fn first_hit(self, positive: bool, user: u8, file: u8) -> u16 {
-        let (users, files) = (
-            self.closure.above[user as usize],
-            self.closure.above[file as usize],
-        );
+        let [users, files] = [user, file].map(|b| &self.closure.above[b as usize]);
         let mut own = self.mode.own().iter();
         own.find(|a| a.positive == positive && users.has(a.tail) && files.has(a.head))
             .map_or(NO_ARROW, |a| a.number)

@@ -4,6 +4,7 @@ use std::ops::{BitAnd, BitOr, BitOrAssign, Sub, SubAssign};
 
 /// A set of numbers below 256: word q has those from 64 × q on, the lowest bit first.
 #[derive(Clone, Copy, PartialEq, Eq)]
+#[repr(align(32))]
 pub struct Set([u64; 4]);
 
 impl Set {
@@ -16,7 +17,7 @@ impl Set {
     }
 
     #[inline]
-    pub fn has(self, k: u8) -> bool {
+    pub fn has(&self, k: u8) -> bool {
         self.0[k as usize / 64] >> (k % 64) & 1 == 1
     }
 
@@ -27,19 +28,63 @@ impl Set {
 
     #[inline]
     pub fn lowest(self) -> Option<u8> {
-        self.into_iter().next()
+        for (q, word) in self.0.into_iter().enumerate() {
+            if word != 0 {
+                return Some((64 * q) as u8 + word.trailing_zeros() as u8);
+            }
+        }
+        None
     }
 
-    /// By the words, which needs no search for the next one.
-    #[inline]
+    /// Whether a number passes the test; they are tried in rising order.
+    #[inline(always)]
+    pub fn any(self, mut test: impl FnMut(u8) -> bool) -> bool {
+        for (q, word) in self.0.into_iter().enumerate() {
+            if any_bit(word, |bit| test((64 * q) as u8 + bit)) {
+                return true;
+            }
+        }
+        false
+    }
+
+    #[inline(always)]
     pub fn each(self, mut f: impl FnMut(u8)) {
-        for (q, mut word) in self.0.into_iter().enumerate() {
-            while word != 0 {
-                f((64 * q) as u8 + word.trailing_zeros() as u8);
-                word &= word - 1;
+        self.any(|k| {
+            f(k);
+            false
+        });
+    }
+
+    /// Sets the byte of each number to 1.
+    pub fn mark(self, bytes: &mut [u8]) {
+        for (part, word) in bytes.chunks_mut(64).zip(self.0) {
+            // in a whole part every bit has its place, and no index needs a check
+            match part.first_chunk_mut::<64>() {
+                Some(whole) => each_bit(word, |bit| whole[bit as usize] = 1),
+                None => each_bit(word, |bit| part[bit as usize] = 1),
             }
         }
     }
+}
+
+/// Whether a bit of the word passes the test; they are tried from the lowest on.
+#[inline(always)]
+fn any_bit(mut word: u64, mut test: impl FnMut(u8) -> bool) -> bool {
+    while word != 0 {
+        if test(word.trailing_zeros() as u8) {
+            return true;
+        }
+        word &= word - 1;
+    }
+    false
+}
+
+#[inline(always)]
+fn each_bit(word: u64, mut f: impl FnMut(u8)) {
+    any_bit(word, |bit| {
+        f(bit);
+        false
+    });
 }
 
 impl FromIterator<u8> for Set {
@@ -49,35 +94,6 @@ impl FromIterator<u8> for Set {
             set.add(k);
         }
         set
-    }
-}
-
-/// The numbers of a set, rising.
-pub struct Numbers(Set);
-
-impl Iterator for Numbers {
-    type Item = u8;
-
-    #[inline]
-    fn next(&mut self) -> Option<u8> {
-        for (q, word) in self.0 .0.iter_mut().enumerate() {
-            if *word != 0 {
-                let k = (64 * q) as u8 + word.trailing_zeros() as u8;
-                *word &= *word - 1;
-                return Some(k);
-            }
-        }
-        None
-    }
-}
-
-impl IntoIterator for Set {
-    type Item = u8;
-    type IntoIter = Numbers;
-
-    #[inline]
-    fn into_iter(self) -> Numbers {
-        Numbers(self)
     }
 }
 
