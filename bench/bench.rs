@@ -13,6 +13,7 @@
 //! would pick just those runs.)
 
 mod cases;
+mod files;
 mod limited;
 mod pictures;
 mod sides;
@@ -170,8 +171,15 @@ fn measure(only: &str, agree_only: bool) {
     }
     if !agree_only {
         println!();
-        let left = ["what grows", "call", "times of the proved library", "factors"];
-        print_head(&left, "---", |side| vec![format!("proved / {}", side.name())]);
+        let left = [
+            "what grows",
+            "call",
+            "times of the proved library",
+            "factors",
+        ];
+        print_head(&left, "---", |side| {
+            vec![format!("proved / {}", side.name())]
+        });
     }
     for series in GROWTH.iter().filter(|series| series.key.contains(only)) {
         let case = |&size: &usize| Case::new(series.key, (series.build)(size), 0);
@@ -187,7 +195,10 @@ fn measure(only: &str, agree_only: bool) {
         }
     }
     let names: Vec<&str> = yardsticks().iter().map(|side| side.name()).collect();
-    eprintln!("library and {} agree on {agreed} calls", names.join(" and "));
+    eprintln!(
+        "library and {} agree on {agreed} calls",
+        names.join(" and ")
+    );
 }
 
 /// What callgrind counts.
@@ -218,7 +229,9 @@ fn main() {
         ["--only", pattern] => measure(pattern, false),
         ["--once", call, key, side] if once(call, key, side).is_some() => {}
         _ => {
-            eprintln!("usage: bench [--only PATTERN | --agree | --once CALL KEY library|twin|limit]");
+            eprintln!(
+                "usage: bench [--only PATTERN | --agree | --once CALL KEY library|twin|limit]"
+            );
             std::process::exit(2);
         }
     }

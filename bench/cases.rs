@@ -64,12 +64,7 @@ pub const CASES: &[Line] = &[
         64,
         &[Fill, Entry, Judge, Matrix, Read, Pack],
     ),
-    (
-        "crowd",
-        || pictures::crowd(3, 8),
-        0,
-        &[Judge, Matrix, List],
-    ),
+    ("crowd", || pictures::crowd(3, 8), 0, &[Judge, Matrix, List]),
     (
         "crowd-1-mode",
         || pictures::crowd(4, 1),

@@ -24,7 +24,13 @@ impl Given {
     }
 
     /// A call that asks for a user, a file and a mode.
-    pub fn run(&mut self, p: &Picture, asked: (u16, u16, u16), call: Call, b: &mut Buffers) -> Outcome {
+    pub fn run(
+        &mut self,
+        p: &Picture,
+        asked: (u16, u16, u16),
+        call: Call,
+        b: &mut Buffers,
+    ) -> Outcome {
         let pic = limit::Pic {
             boxes: &self.sides,
             rows: &p.rows,

@@ -347,7 +347,7 @@ fn crowded(
 
 /// Each user and each file is in four groups, nearly each in others.
 pub fn crowd(seed: u64, modes: usize) -> Picture {
-    let name = format!("each user and file in other groups, 512 arrows over {modes} modes");
+    let name = format!("each user and file in other groups, modes of the 512 arrows: {modes}");
     crowded(name, Random(seed), modes, |random, _| {
         let mut next = random.below(31);
         let mut groups = Vec::new();
@@ -387,52 +387,4 @@ pub fn ring(size: usize) -> Picture {
         p.arrow(close + i, outer + i, 0);
     }
     p
-}
-
-/// A block file of the picture with so many blocks, each kind's rows spread over its blocks.
-pub fn block_file(p: &Picture, blocks: usize) -> Vec<u8> {
-    let records = [
-        p.boxes.iter().map(|&b| vec![b]).collect::<Vec<_>>(),
-        p.rows
-            .chunks(2)
-            .map(|r| r.iter().flat_map(|n| n.to_le_bytes()).collect())
-            .collect(),
-        p.arrows
-            .chunks(4)
-            .map(|a| {
-                let ends = a[..2].iter().flat_map(|n| n.to_le_bytes());
-                ends.chain([a[2] as u8, a[3] as u8]).collect()
-            })
-            .collect(),
-    ];
-    // The fewest blocks that hold each kind; what is left goes to the containments.
-    let mut share: Vec<usize> = (records.iter().zip([500, 125, 83]))
-        .map(|(rows, capacity)| rows.len().div_ceil(capacity))
-        .collect();
-    share[1] += blocks - share.iter().sum::<usize>();
-    let mut file = Vec::new();
-    for (kind, rows) in records.iter().enumerate() {
-        for part in 0..share[kind] {
-            let from = rows.len() * part / share[kind];
-            let to = rows.len() * (part + 1) / share[kind];
-            let number = (file.len() / 512) as u16;
-            let mut block = vec![kind as u8 + 1, 0];
-            block.extend(number.to_le_bytes());
-            block.extend(((to - from) as u16).to_le_bytes());
-            block.extend([0, 0]);
-            block.extend(rows[from..to].concat());
-            block.resize(508, 0);
-            let check = twin::block_check(&block);
-            block.extend(check.to_le_bytes());
-            file.extend(block);
-        }
-    }
-    file
-}
-
-/// The fewest blocks that hold the picture.
-pub fn fewest_blocks(p: &Picture) -> usize {
-    p.boxes.len().div_ceil(500)
-        + (p.rows.len() / 2).div_ceil(125)
-        + (p.arrows.len() / 4).div_ceil(83)
 }

@@ -1,7 +1,8 @@
 //! The calls on each side: the proved library, the twin, and the limit if one is given.
 
+use super::files;
 use super::limited;
-use super::pictures::{self, Picture};
+use super::pictures::Picture;
 use super::twin;
 use rights::lent;
 use std::collections::HashSet;
@@ -129,7 +130,7 @@ impl Case {
         Case {
             user: atomic(0),
             head: atomic(1),
-            file: pictures::block_file(&picture, blocks.max(pictures::fewest_blocks(&picture))),
+            file: files::block_file(&picture, blocks.max(files::fewest_blocks(&picture))),
             limited: limited::Given::new(&picture),
             key,
             picture,

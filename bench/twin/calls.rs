@@ -7,7 +7,13 @@ use super::tables::{atoms_of, check, check_mode, check_room, is_atom};
 use super::{refuse, Entry, Refusal, Tables, BOXES, NO_ARROW};
 
 /// Check 12 for a mode.
-fn judge_mode(t: Tables, closure: &Closure, m: u16, users: &[u8], files: Set) -> Result<(), Refusal> {
+fn judge_mode(
+    t: Tables,
+    closure: &Closure,
+    m: u16,
+    users: &[u8],
+    files: Set,
+) -> Result<(), Refusal> {
     let mut mode = Mode::new();
     mode.take(t.arrows, m);
     if !mode.has_both_signs() {
@@ -78,13 +84,7 @@ pub fn entry(
 }
 
 /// Writes the matrix of a mode, row by row.
-fn fill_matrix(
-    rows: Rows,
-    users: &[u8],
-    files: &[u8],
-    bytes: &mut [u8],
-    numbers: &mut [u16],
-) {
+fn fill_matrix(rows: Rows, users: &[u8], files: &[u8], bytes: &mut [u8], numbers: &mut [u16]) {
     if files.is_empty() {
         return;
     }

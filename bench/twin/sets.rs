@@ -2,7 +2,8 @@
 
 use std::ops::{BitAnd, BitOr, BitOrAssign, Sub, SubAssign};
 
-/// A set of numbers below 256: word q has those from 64 × q on, the lowest bit first.
+/// A set of numbers below 256: word q has those from 64 × q on, the lowest bit first. Aligned, so that
+/// no set lies across two lines of the cache.
 #[derive(Clone, Copy, PartialEq, Eq)]
 #[repr(align(32))]
 pub struct Set([u64; 4]);
@@ -36,7 +37,8 @@ impl Set {
         None
     }
 
-    /// Whether a number passes the test; they are tried in rising order.
+    /// Whether a number passes the test; they are tried in rising order. Always inlined, as `each`
+    /// is, so that what the closure changes stays in registers.
     #[inline(always)]
     pub fn any(self, mut test: impl FnMut(u8) -> bool) -> bool {
         for (q, word) in self.0.into_iter().enumerate() {
@@ -58,7 +60,7 @@ impl Set {
     /// Sets the byte of each number to 1.
     pub fn mark(self, bytes: &mut [u8]) {
         for (part, word) in bytes.chunks_mut(64).zip(self.0) {
-            // in a whole part every bit has its place, and no index needs a check
+            // in a whole part every bit has its place: no index is checked
             match part.first_chunk_mut::<64>() {
                 Some(whole) => each_bit(word, |bit| whole[bit as usize] = 1),
                 None => each_bit(word, |bit| part[bit as usize] = 1),
