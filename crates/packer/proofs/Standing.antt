@@ -1,6 +1,5 @@
 -- Document 02, P5, of the packed file: in which block, and at which place of it, the record of a row stands. Assumes nothing.
 use mathlib.Core.Path.{_≡_, _∙_}
-use mathlib.Core.List.{List}
 use Prim.Native.Nat.{ℕ, _+_, _*_, _/_, _%_, _<_, _≤_}
 use native.Mathlib.Omega.{arith}
 use native.Mathlib.Nat.{mul-comm, mod-lt, div-add-mod, div-lt-iff-lt-mul}

@@ -1,7 +1,6 @@
 -- What the functions inside packing ask of and promise each other: the blocks of a kind, and the walk over its rows. What `pack`
 -- promises does not speak of them. Assumes nothing.
 use mathlib.Core.Path.{_≡_}
-use mathlib.Core.List.{List}
 use Prim.Native.Nat.{ℕ, _+_, _*_, _/_, _%_, _^_, _<_, _≤_}
 use Rattle.tables.specs.Rows.{Picture}
 use Rattle.blocks.specs.Blocks.{capacity, recordSize}
