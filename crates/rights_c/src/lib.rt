@@ -249,10 +249,10 @@ pub extern "C" fn rights_read(
 
 #[no_mangle]
 pub extern "C" fn rights_pack(boxes: &[u8], rows: &[u16], arrows: &[u16], file: &mut [u8]) -> Reply
-    ensures { λ r. ⌜ r
-        ≡ packReply (packAnswer (now (boxes .entry)) (now (rows .entry)) (now (arrows .entry)) (now (file .entry))) ⌝ }
-    ensures { λ _. ⌜ now (file .exit)
-        ≡ fileAfter (now (boxes .entry)) (now (rows .entry)) (now (arrows .entry)) (now (file .entry)) ⌝ }
+    ensures { λ r. ⌜ (let pic = picture (now (boxes .entry)) (now (rows .entry)) (now (arrows .entry)) in
+        r ≡ packReply (packAnswer pic (now (file .entry)))) ⌝ }
+    ensures { λ _. ⌜ (let pic = picture (now (boxes .entry)) (now (rows .entry)) (now (arrows .entry)) in
+        now (file .exit) ≡ fileAfter pic (now (file .entry))) ⌝ }
 {
     of_packing(packer::pack(boxes, rows, arrows, file))
 }
