@@ -8,10 +8,11 @@ use lib.ListN.{length, getD, take}
 use lib.Seq.{getD-take}
 use Rattle.base.specs.Search.{first}
 use Rattle.base.proofs.Index.{next-row}
-use Rattle.tables.specs.Rows.{Picture}
+use Rattle.tables.specs.Rows.{Picture, user, file}
 use Rattle.tables.specs.Refusals.{verdictOf, either}
 use Rattle.tables.specs.declared.Verdict.{Verdict}
 use Rattle.tables.specs.declared.Verdict.the-variants.{Passed}
+use Rattle.tables.proofs.AtomPlaces.{atoms-found, atom-there}
 use Rattle.meaning.specs.Pairs.{users, files}
 use Rattle.meaning.proofs.PairLaws.{place-in}
 use Rattle.listing.specs.Numbered.{usedModes, lineRows, rowStart, seenBefore}
@@ -48,6 +49,18 @@ fits-small {us} {fs} {p} w hu hf =
     let row : p .row ≤ 2048 = omega (arith, w .within) in
     let lines : p .row * length fs ≤ 2048 * 256 = mul-le-mul row hf in
     (row, omega (arith, w .line-is))
+
+-- the users and the files are boxes of the picture
+module _ {pic : Picture} {closure arrows us fs : List ℕ} (d : Ready pic closure arrows us fs) (i : ℕ) where
+  pub user-in : i < length us → getD us i 0 < length (pic .boxes)
+  user-in l =
+      let there = atoms-found (pic .boxes) (pic .rows) user i (rw (d .users-are) at l) in
+      rw (d .users-are) (atom-there (pic .boxes) (pic .rows) user _ there)
+
+  pub file-in : i < length fs → getD fs i 0 < length (pic .boxes)
+  file-in l =
+      let there = atoms-found (pic .boxes) (pic .rows) file i (rw (d .files-are) at l) in
+      rw (d .files-are) (atom-there (pic .boxes) (pic .rows) file _ there)
 
 module _ {pic : Picture} {closure arrows us fs : List ℕ} (d : Ready pic closure arrows us fs) {p : Place} (s : Stands pic p) where
   pub rows-are : lineRows pic ≡ p .used * length us

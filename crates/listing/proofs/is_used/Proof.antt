@@ -24,18 +24,22 @@ returns c =
     let at-test = c .before .before in
     let at-loop = at-test .before .before in
     let a = at-loop .before .before .args in
-    let mode : arrowAt (a .arrows .now) (at-loop .loop .k) .mode ≡ a .mode = ? in
+    let read : at-test .at .result .mode ≡ arrowAt (a .arrows .now) (at-loop .loop .k) .mode = ap (λ (x : Arrow). x .mode) (at-test .at .ensures) in
+    let mode : arrowAt (a .arrows .now) (at-loop .loop .k) .mode ≡ a .mode = sym read ∙ c .if1 .taken in
     used-here (a .arrows .now) (a .mode) (at-loop .loop .k) (omega arith) mode
 
 loop-again : tie.Need-loop-again Inv-loop μ-loop
 loop-again c =
-    let at-loop = c .before .before .before .before in
-    (search needs, below-more _ _ (at-loop .loop .inv .1) ?)
+    let at-test = c .before .before in
+    let at-loop = at-test .before .before in
+    let a = at-loop .before .before .args in
+    let read : at-test .at .result .mode ≡ arrowAt (a .arrows .now) (at-loop .loop .k) .mode = ap (λ (x : Arrow). x .mode) (at-test .at .ensures) in
+    (search needs, below-more _ _ (at-loop .loop .inv .1) (λ e. c .if1 .left (read ∙ e)))
 
 returns-2 : tie.Need-returns-2 Inv-loop μ-loop
 returns-2 c =
-    let at-loop = c .before .before in
-    let a = at-loop .before .args in
+    let at-loop = c .before in
+    let a = at-loop .before .before .args in
     used-nowhere (a .arrows .now) (a .mode) (at-loop .loop .k) (omega arith) (at-loop .loop .inv .1)
 
 pub is-used-spec : {M : Type 1} → statement M
