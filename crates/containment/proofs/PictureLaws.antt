@@ -36,6 +36,18 @@ picture-prepared boxes rows arrows s e =
     let two = both-none (tableFault (picture boxes rows arrows)) (scratchFault (length boxes) s) early in
     (prepared boxes rows arrows s (two .0) (two .1), early)
 
+-- the checks before the closure found nothing
+pub early-prepared : (boxes rows arrows s : List ℕ) → earlyFault (picture boxes rows arrows) s ≡ none → Prepared boxes rows arrows s
+unfolding earlyFault
+early-prepared boxes rows arrows s e =
+    let two = both-none (tableFault (picture boxes rows arrows)) (scratchFault (length boxes) s) e in
+    prepared boxes rows arrows s (two .0) (two .1)
+
+-- all checks found nothing
+pub picture-clear : (boxes rows arrows s : List ℕ) → pictureFault (picture boxes rows arrows) s ≡ none → loopFault boxes rows ≡ none
+unfolding pictureFault
+picture-clear boxes rows arrows s e = both-none (earlyFault (picture boxes rows arrows) s) (loopFault boxes rows) e .1
+
 -- of the scratch, the checks read its length only
 pub picture-room : (boxes rows arrows s t : List ℕ) → length s ≡ length t
     → pictureFault (picture boxes rows arrows) s ≡ pictureFault (picture boxes rows arrows) t

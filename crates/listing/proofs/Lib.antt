@@ -2,6 +2,7 @@
 mod PutLaws
 mod DecimalLaws
 mod ModeLaws
+mod RowLaws
 pub mod LineLaws
 pub mod StandLaws
 pub mod WholeLaws
