@@ -6,3 +6,4 @@ pub mod EmptiedLaws
 pub mod GrantLaws
 pub mod ModeLaws
 pub mod SamePictures
+pub mod RowPairs

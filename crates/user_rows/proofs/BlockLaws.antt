@@ -2,11 +2,10 @@
 -- which it does not override. Assumes nothing.
 use mathlib.Core.Path.{_≡_, refl, sym, ap, ap₂, subst, _∙_}
 use mathlib.Core.Bool.{Bool, true, false, not, _&&_, _||_, and-false}
-use Prim.Native.Nat.{ℕ, _<_}
+use Prim.Native.Nat.{ℕ}
 use lib.Dec.{T, eqb, eqb→eq}
-use lib.ListN.{length}
-use Rattle.base.specs.Search.{anyBelow, every}
-use Rattle.base.proofs.Tests.{and-T, T-true, true-T, not-false, false-not}
+use Rattle.base.specs.Search.{anyBelow}
+use Rattle.base.proofs.Tests.{and-T, T-true, true-T}
 use Rattle.base.proofs.SearchLaws.{every-same}
 use Rattle.base.proofs.AnyLaws.{any-within, any-same, any-or, any-and, not-any}
 use Rattle.tables.specs.Rows.{Picture, arrowCount, arrowAt}
@@ -15,7 +14,7 @@ use Rattle.tables.specs.declared.Arrow.{Arrow}
 use Rattle.containment.specs.Contains.{around}
 use Rattle.meaning.specs.Meaning.{hasMode, nests, overrides, hits, certifies}
 use Rattle.meaning.proofs.AnswerLaws.{overrides-is}
-use Rattle.user_rows.specs.Row.{leaves, headsBelow, headsOf, inOne, blocks, certified, reachedBy}
+use Rattle.user_rows.specs.Row.{leaves, headsBelow, inOne, blocks, certified, reachedBy}
 use Rattle.user_rows.proofs.HeadLaws.{hits-is, in-heads}
 
 -- ---- "does not override", by the four tests of nesting
@@ -83,9 +82,9 @@ module _ (pic : Picture) (m o u : ℕ) (p : Arrow) where
       go false e = simp and-false
       go true e =
           let not-over = subst
-            (λ (z : ℕ). not (overrides pic p a)
-            ≡ (nests pic (p .head) z || (nests pic (p .tail) (a .tail) || (not (nests pic (a .tail) (p .tail)) && not (nests pic z (p .head))))))
-            (eqb→eq (a .head) g (true-T (eqb (a .head) g) e)) (not-overrides pic p a) in
+          (λ (z : ℕ). not (overrides pic p a)
+          ≡ (nests pic (p .head) z || (nests pic (p .tail) (a .tail) || (not (nests pic (a .tail) (p .tail)) && not (nests pic z (p .head))))))
+          (eqb→eq (a .head) g (true-T (eqb (a .head) g) e)) (not-overrides pic p a) in
           rw not-over
           (yes-part (hasMode (pic .arrows) m j) (eqb (a .sign) o) (around (pic .rows) (a .tail) u) (nests pic (p .head) g)
           (nests pic (p .tail) (a .tail)) (nests pic (a .tail) (p .tail)) (nests pic g (p .head)))

@@ -13,7 +13,7 @@ use Rattle.containment.specs.Contains.{around}
 use Rattle.meaning.specs.Meaning.{nests}
 use Rattle.boxsets.specs.Sets.{isIn, has}
 use Rattle.boxsets.specs.declared.Set.{Set}
-use Rattle.user_rows.specs.Row.{headsOf, headsBelow, inOne, blocks}
+use Rattle.user_rows.specs.Row.{headsOf, inOne, blocks}
 use Rattle.user_rows.specs.Steps.{Drawn, ModeSets, NearBy}
 use Rattle.user_rows.specs.declared.Near.{Near}
 use Rattle.user_rows.proofs.HeadLaws.{heads-bound}

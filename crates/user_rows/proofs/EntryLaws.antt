@@ -1,9 +1,10 @@
 -- The answer of a pair from its row and its number, as `entry_of` makes it. Assumes nothing.
-use mathlib.Core.Path.{_≡_, refl, sym, ap, ap₂, subst, _∙_}
-use mathlib.Core.Bool.{Bool, true, false, _&&_}
+use mathlib.Core.Path.{_≡_, refl, sym, ap, ap₂, _∙_}
+use mathlib.Core.Bool.{Bool, true, false}
 use mathlib.Core.Option.{Option, none, some}
 use Prim.Native.Nat.{ℕ, _<_, _≤_}
 use native.Mathlib.Omega.{arith}
+use native.Mathlib.Decide.{ℕ-discrete}
 use lib.Dec.{T}
 use Rattle.base.specs.Search.{lowest}
 use Rattle.base.proofs.Tests.{T-true, true-T, false-not}
@@ -47,6 +48,19 @@ module _ (pic : Picture) (m u f : ℕ) where
       go none none (some p) (some n) t = (p, n, refl, refl, refl)
       go none none (some p) none t = absurd t
       go none none none d t = absurd t
+
+  -- so it is hit by each sign
+  pub unclear-hits : T (isUnclear (answer pic m u f)) → (s : ℕ) → s ≤ 1 → (k : ℕ) × (k < count) × T (hits pic m s u f k)
+  unclear-hits t s small =
+      let (p, n, a, b, r) = entry-unclear t in
+      let i = lowest-some (hits pic m positive u f) count p a in
+      let j = lowest-some (hits pic m negative u f) count n b in
+      go (ℕ-discrete s positive) (p, i .0, i .1) (n, j .0, j .1)
+    where
+      go : Dec (s ≡ positive) → (k : ℕ) × (k < count) × T (hits pic m positive u f k) → (k : ℕ) × (k < count) × T (hits pic m negative u f k)
+          → (k : ℕ) × (k < count) × T (hits pic m s u f k)
+      go (yes e) p n = rw e p
+      go (no e) p n = let z : s ≡ negative = omega arith in rw z n
 
   -- what is neither granted nor unclear is denied by an arrow if its number is one, else by default
   entry-denied : count ≤ 512 → (T (isGranted (answer pic m u f)) → ⊥) → (T (isUnclear (answer pic m u f)) → ⊥)

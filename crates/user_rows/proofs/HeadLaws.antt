@@ -1,13 +1,13 @@
 -- The heads and the tails of a mode's arrows, and the files in some heads. Assumes nothing.
 use mathlib.Core.Path.{_≡_, refl, sym, ap, _∙_}
-use mathlib.Core.Bool.{Bool, true, false, _&&_, _||_}
+use mathlib.Core.Bool.{Bool, true, false, _&&_}
 use mathlib.Core.List.{List}
-use Prim.Native.Nat.{ℕ, _+_, _*_, _<_, _≤_}
+use Prim.Native.Nat.{ℕ, _<_}
 use lib.Dec.{T, eqb, eqb→eq}
 use lib.ListN.{length}
 use Rattle.base.specs.Search.{anyBelow}
-use Rattle.base.proofs.Tests.{and-T, T-and}
-use Rattle.base.proofs.AnyLaws.{any-found, any-is, any-same, any-or, any-and, any-image}
+use Rattle.base.proofs.Tests.{and-T}
+use Rattle.base.proofs.AnyLaws.{any-found, any-is, any-same, any-and, any-image}
 use Rattle.tables.specs.Rows.{Picture, user, file, arrowCount, arrowAt}
 use Rattle.tables.specs.Steps.{SoundArrows}
 use Rattle.tables.proofs.GroupLaws.{onSide-there}

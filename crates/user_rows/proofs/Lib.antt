@@ -9,9 +9,10 @@ mod SetLaws
 mod OutsideWalk
 mod NearLaws
 mod BlockSteps
-mod OwnLaws
+pub mod OwnLaws
 mod ShowLaws
 mod RowAnswers
 mod RowWalk
 mod RowSorts
 mod EntryLaws
+pub mod CallerLaws

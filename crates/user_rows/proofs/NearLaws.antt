@@ -11,13 +11,13 @@ use lib.ListN.{length}
 use Rattle.base.specs.Search.{anyBelow}
 use Rattle.base.proofs.Tests.{and-T, T-and, T-same}
 use Rattle.base.proofs.AnyLaws.{any-same}
-use Rattle.tables.specs.Rows.{Picture, arrowCount, arrowAt}
+use Rattle.tables.specs.Rows.{Picture, arrowCount}
 use Rattle.containment.specs.Contains.{contains, around}
 use Rattle.containment.proofs.ContainsLaws.{around-cases, around-self, contains-around, contains-trans, irreflexive}
 use Rattle.meaning.specs.Meaning.{nests}
 use Rattle.boxsets.specs.Sets.{isIn, has}
 use Rattle.boxsets.specs.declared.Set.{Set}
-use Rattle.user_rows.specs.Row.{headsOf, headsBelow, tailsBelow, inOne, reachedBy}
+use Rattle.user_rows.specs.Row.{headsOf, tailsBelow, inOne}
 use Rattle.user_rows.specs.Steps.{Drawn, ModeSets, NearBy}
 use Rattle.user_rows.specs.declared.Near.{Near}
 use Rattle.user_rows.proofs.HeadLaws.{tail-there, heads-bound, heads-by-tail, reached-is}

@@ -9,7 +9,7 @@ use lib.ListN.{length}
 use Rattle.base.proofs.Tests.{T?, or-T, T-or₁, T-or₂, and-T, T-and, T-same, not-false, false-not}
 use Rattle.base.proofs.AnyLaws.{any-found, any-is, any-same, any-or}
 use Rattle.tables.specs.Rows.{Picture}
-use Rattle.containment.specs.Contains.{around, contains}
+use Rattle.containment.specs.Contains.{around}
 use Rattle.containment.proofs.ContainsLaws.{around-cases, around-self, contains-around, contains-trans}
 use Rattle.user_rows.specs.Row.{inOne}
 

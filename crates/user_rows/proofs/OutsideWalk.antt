@@ -1,5 +1,5 @@
 -- The walk of `outside_all`: the lowest box is taken from the boxes with all that is in it. Assumes nothing.
-use mathlib.Core.Path.{_≡_, refl, sym, ap, ap₂, subst, _∙_}
+use mathlib.Core.Path.{_≡_, refl, sym, ap, subst, _∙_}
 use mathlib.Core.Bool.{Bool, true, false, not, _&&_}
 use mathlib.Core.List.{List}
 use Prim.Native.Nat.{ℕ, _-_, _<_}
@@ -8,7 +8,7 @@ use native.Mathlib.Decide.{decLt}
 use lib.Dec.{T, T-not, eqb}
 use lib.ListN.{length}
 use Rattle.base.proofs.Tests.{and-T, T-eqb}
-use Rattle.boxsets.specs.Sets.{isIn, low, setAt, has}
+use Rattle.boxsets.specs.Sets.{isIn, low, setAt}
 use Rattle.boxsets.specs.declared.Set.{Set}
 use Rattle.boxsets.proofs.TableLaws.{has-in}
 use Rattle.boxsets.proofs.LowLaws.{low-in, low-least}

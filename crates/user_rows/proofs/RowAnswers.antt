@@ -1,12 +1,12 @@
 -- The answer of a pair by its lowest certificate and by which signs reach it. Assumes nothing.
-use mathlib.Core.Path.{_≡_, refl, sym, ap, subst, _∙_}
+use mathlib.Core.Path.{_≡_, refl, sym, ap, _∙_}
 use mathlib.Core.Logic.{_⊎_, ⊎-elim}
-use mathlib.Core.Bool.{Bool, true, false, not, _&&_, _||_, cond}
+use mathlib.Core.Bool.{Bool, true, false, cond}
 use mathlib.Core.Option.{Option, none, some}
 use Prim.Native.Nat.{ℕ, _<_}
 use lib.Dec.{T, eqb}
-use Rattle.base.specs.Search.{lowest, anyBelow}
-use Rattle.base.proofs.Tests.{T?, or-T, T-true, not-false, false-not}
+use Rattle.base.specs.Search.{lowest}
+use Rattle.base.proofs.Tests.{T?, T-true, not-false}
 use Rattle.base.proofs.SearchLaws.{lowest-some, lowest-none}
 use Rattle.base.proofs.SelectLaws.{lowest-is, lowest-nothing}
 use Rattle.base.proofs.AnyLaws.{any-found, any-is}
@@ -120,10 +120,11 @@ module _ (pic : Picture) (m u f : ℕ) where
   pub unreached : (T (reachedBy pic m positive u f) → ⊥) → (T (reachedBy pic m negative u f) → ⊥) → answer pic m u f ≡ Default
   unfolding answer settle
   unreached p n =
-      rw
-      (lowest-nothing (certifies pic m positive negative u f) count (λ k l t. none-hits positive p k l (certifies-hits pic m u f positive negative k t)),
-      lowest-nothing (certifies pic m negative positive u f) count (λ k l t. none-hits negative n k l (certifies-hits pic m u f negative positive k t)),
-      lowest-nothing (hits pic m positive u f) count (none-hits positive p))
+      rw (
+        lowest-nothing (certifies pic m positive negative u f) count (λ k l t. none-hits positive p k l (certifies-hits pic m u f positive negative k t)),
+        lowest-nothing (certifies pic m negative positive u f) count (λ k l t. none-hits negative n k l (certifies-hits pic m u f negative positive k t)),
+        lowest-nothing (hits pic m positive u f) count (none-hits positive p),
+      )
 
   -- a pair that not both signs reach is granted exactly if the positive one does, and it is clear
   pub one-sided : (T (reachedBy pic m positive u f) → T (reachedBy pic m negative u f) → ⊥)

@@ -1,10 +1,10 @@
 -- Walks over a set, by what `is_empty`, `lowest` and `dropped` promise, and sets that are read from a table. Assumes nothing.
-use mathlib.Core.Path.{_≡_, refl, sym, ap, ap₂, _∙_}
+use mathlib.Core.Path.{_≡_, refl, sym, _∙_}
 use mathlib.Core.Bool.{Bool, true, false, not, _&&_, _||_}
 use Prim.Native.Nat.{ℕ, _<_}
 use lib.Dec.{T, eqb}
 use Rattle.base.specs.Search.{anyBelow}
-use Rattle.base.proofs.AnyLaws.{any-same, any-none, any-found, any-take}
+use Rattle.base.proofs.AnyLaws.{any-found, any-take}
 use Rattle.base.proofs.Tests.{not-false, false-not, and-T}
 use Rattle.boxsets.specs.Sets.{isIn, low}
 use Rattle.boxsets.specs.declared.Set.{Set}

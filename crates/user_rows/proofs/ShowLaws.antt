@@ -1,7 +1,7 @@
 -- One test for certificates of both signs: what it is for an arrow around the user, and the lowest of them. Assumes nothing.
-use mathlib.Core.Path.{_≡_, refl, sym, ap, ap₂, subst, _∙_}
-use mathlib.Core.Logic.{_⊎_, inl, inr, ⊎-elim}
-use mathlib.Core.Bool.{Bool, true, false, not, _&&_, _||_, or-false}
+use mathlib.Core.Path.{_≡_, sym, ap, subst, _∙_}
+use mathlib.Core.Logic.{_⊎_, ⊎-elim, ⊎-map}
+use mathlib.Core.Bool.{Bool, false, not, _&&_, _||_, or-false}
 use mathlib.Core.List.{List}
 use mathlib.Core.Option.{none, some}
 use Prim.Native.Nat.{ℕ, _+_, _<_, _≤_}
@@ -44,7 +44,8 @@ module _ (pic : Picture) (m u f : ℕ) where
   certifies-sign s o k t = hit-sign pic m u f s k (certifies-hits pic m u f s o k t)
 
   pub shows-hits : (k : ℕ) → T (shows pic m u f k) → T (hits pic m positive u f k) ⊎ T (hits pic m negative u f k)
-  shows-hits k t = ⊎-elim (λ p. inl (certifies-hits pic m u f positive negative k p)) (λ n. inr (certifies-hits pic m u f negative positive k n)) (shows-parts k t)
+  shows-hits k t =
+      ⊎-map (certifies-hits pic m u f positive negative k) (certifies-hits pic m u f negative positive k) (shows-parts k t)
 
   shows-mode : (k : ℕ) → T (shows pic m u f k) → T (hasMode (pic .arrows) m k)
   unfolding hasMode

@@ -1,11 +1,12 @@
 -- `user_rows::walk::answer_row` meets its contract. Assumes nothing.
-use mathlib.Core.Path.{_≡_, ap, _∙_}
+use mathlib.Core.Path.{ap, _∙_}
 use mathlib.Core.List.{List}
 use Prim.Native.Nat.{ℕ}
 use native.Mathlib.Omega.{arith}
 use borrow.Author.Needs.{needs}
 use lib.ListN.{length, getD}
-use Rattle.user_rows.proofs.RowSorts.{blank-length, blank-at, answered}
+use Rattle.user_rows.proofs.RowSorts.{answered}
+use Rattle.user_rows.proofs.CallerLaws.{blank-length, blank-at}
 use Rattle.user_rows.proofs.walk.answer_row.Statement.{statement}
 use Rattle.user_rows.proofs.walk.answer_row.Tie as tie
 

@@ -1,11 +1,6 @@
 -- `user_rows::walk::entry_of` meets its contract. Assumes nothing.
-use mathlib.Core.Path.{_≡_, sym, ap, _∙_}
-use mathlib.Core.Bool.{true, false}
-use Prim.Native.Nat.{ℕ, _≤_}
-use native.Mathlib.Omega.{arith}
+use mathlib.Core.Path.{sym, _∙_}
 use borrow.Author.Needs.{needs}
-use Rattle.tables.specs.Rows.{Picture, arrowCount}
-use Rattle.boxsets.specs.Sets.{isIn}
 use Rattle.user_rows.proofs.EntryLaws.{give-granted, give-unclear, give-denied, give-default}
 use Rattle.user_rows.proofs.walk.entry_of.Statement.{statement}
 use Rattle.user_rows.proofs.walk.entry_of.Tie as tie

@@ -1,12 +1,12 @@
 -- `user_rows::walk::sort_row` meets its contract. Assumes nothing.
-use mathlib.Core.Path.{_≡_, ap, _∙_}
+use mathlib.Core.Path.{ap, _∙_}
 use mathlib.Core.Bool.{Bool, _||_}
-use Prim.Native.Nat.{ℕ}
 use native.Mathlib.Omega.{arith}
 use borrow.Author.Needs.{needs}
 use lib.ListN.{length, getD}
 use Rattle.boxsets.specs.Sets.{isIn}
-use Rattle.user_rows.proofs.RowSorts.{blank-length, sorted}
+use Rattle.user_rows.proofs.RowSorts.{sorted}
+use Rattle.user_rows.proofs.CallerLaws.{blank-length}
 use Rattle.user_rows.proofs.walk.sort_row.Statement.{statement}
 use Rattle.user_rows.proofs.walk.sort_row.Tie as tie
 

@@ -1,9 +1,9 @@
 -- `user_rows::walk::walk` meets its contract: at place i the walk stands as `Walking` says. Assumes nothing.
-use mathlib.Core.Path.{_≡_, sym, ap, _∙_}
-use Prim.Native.Nat.{ℕ, _-_, _<_}
+use mathlib.Core.Path.{_≡_, ap, _∙_}
+use Prim.Native.Nat.{_-_, _<_}
 use native.Mathlib.Omega.{arith}
 use borrow.Author.Needs.{needs}
-use lib.ListN.{length, getD}
+use lib.ListN.{length}
 use Rattle.tables.specs.Rows.{arrowCount, arrowAt}
 use Rattle.user_rows.proofs.SetLaws.{is-empty}
 use Rattle.user_rows.proofs.RowWalk.{Walking, walking-start, walking-turn, walking-empty}
@@ -107,10 +107,12 @@ returns : tie.Need-returns Inv-loop μ-loop
 returns c =
     let at = c .before .before .before in
     let l = at .loop in
-    let a = start at .args in
-    (l .inv .len, walking-empty (a .closure .now) (a .heads .now) (a .arrows .now) (a .own .now) (a .x) (a .files) (a .numbers .now)
-    (l .numbers) (l .granted) (l .left) (l .i) (l .inv)
-    (is-empty (l .left) (c .before .is-empty .result) (c .before .is-empty .ensures) (c .if1 .left)) (length (a .own .now)))
+    let a = start at .args in (
+      l .inv .len,
+      walking-empty (a .closure .now) (a .heads .now) (a .arrows .now) (a .own .now) (a .x) (a .files) (a .numbers .now)
+          (l .numbers) (l .granted) (l .left) (l .i) (l .inv)
+          (is-empty (l .left) (c .before .is-empty .result) (c .before .is-empty .ensures) (c .if1 .left)) (length (a .own .now)),
+    )
 
 same-length-2 : tie.Need-same-length-2 Inv-loop μ-loop
 same-length-2 c = c .before .loop .inv .len
