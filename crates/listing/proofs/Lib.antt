@@ -3,6 +3,7 @@ mod PutLaws
 mod DecimalLaws
 mod ModeLaws
 mod RowLaws
+mod AskLaws
 pub mod LineLaws
 pub mod StandLaws
 pub mod WholeLaws

@@ -15,9 +15,15 @@ use Rattle.base.proofs.Index.{next-row}
 use Rattle.base.proofs.SearchLaws.{first-is, first-nothing, given-true, given-false}
 use Rattle.base.proofs.Tests.{T-and, and-T, T-true, not-false, false-not}
 use Rattle.tables.specs.Rows.{Picture, file}
+use Rattle.tables.specs.Refusals.{unclearPair, verdictOf}
 use Rattle.tables.specs.declared.Refusal.{Refusal}
+use Rattle.tables.specs.declared.Verdict.{Verdict}
 use Rattle.tables.proofs.AtomPlaces.{atoms-before, atoms-same}
+use Rattle.meaning.specs.Meaning.{answer, isUnclear}
 use Rattle.meaning.specs.Pairs.{files}
+use Rattle.meaning.specs.declared.Entry.{Entry}
+use Rattle.user_rows.specs.Steps.{Sorts}
+use Rattle.user_rows.specs.declared.Row.{Row}
 use Rattle.boxsets.specs.Sets.{isIn, low, among}
 use Rattle.boxsets.specs.declared.Set.{Set}
 use Rattle.boxsets.proofs.AmongLaws.{among-is, among-found}
@@ -25,7 +31,9 @@ use Rattle.boxsets.proofs.LowLaws.{low-in, low-least, none-in}
 use Rattle.boxsets.proofs.WalkLaws.{low-most}
 use Rattle.blocks.specs.Blocks.{joined}
 use Rattle.blocks.proofs.JoinedLaws.{joined-none, joined-more}
-use Rattle.listing.specs.Steps.{Put}
+use Rattle.listing.specs.Lines.{lineText}
+use Rattle.listing.specs.Steps.{Put, userLine, userUnclear, rowText}
+use Rattle.listing.specs.declared.Line.the-variants.{Pair}
 use Rattle.listing.proofs.PutLaws.{chain}
 
 -- ---- lines
@@ -37,6 +45,15 @@ module _ {old : List ℕ} {at : ℕ} (f : ℕ → List ℕ) where
   pub row-more : {out new : List ℕ} {i x y : ℕ} → Put old at (joined f i) (i * 111) out x → Put out x (f i) 111 new y
       → Put old at (joined f (i + 1)) ((i + 1) * 111) new y
   row-more {out} {new} {i} p q = rw (joined-more f i, next-row 111 i) (chain p q)
+
+-- one line more, whose answer is the pair's
+pub line-more : (pic : Picture) (m u : ℕ) (fs : List ℕ) (i : ℕ) {old out new : List ℕ} {at x y : ℕ} (v f : ℕ) (e : Entry)
+    → Put old at (rowText pic m u fs i) (i * 111) out x → e ≡ answer pic m v f → v ≡ u → f ≡ getD fs i 0
+    → Put out x (lineText (Pair m u (getD fs i 0) e)) 111 new y
+    → Put old at (rowText pic m u fs (i + 1)) ((i + 1) * 111) new y
+unfolding userLine
+line-more pic m u fs i v f e p ea ev ef q =
+    row-more (λ c. lineText (userLine pic m u (getD fs c 0))) p (rw (ea, ev, ef) at q)
 
 -- ---- the first unclear file
 
@@ -83,3 +100,13 @@ module _ (t : ℕ → Bool) (r : ℕ → Refusal) (pic : Picture) (x : Set) (is 
           λ j k.
           given-false _ _ (not-false _ (λ h.
           low-least x (getD fs j 0) (subst (λ (z : ℕ). getD fs j 0 < z) (c .2) (files-rise pic j (c .0) k (c .1))) (held j (omega arith) h)))))
+
+-- it is the row's first unclear pair
+pub row-unclear : (pic : Picture) (m u : ℕ) (fs : List ℕ) (row : Row) (r : Verdict) (w v f : ℕ)
+    → r ≡ verdictOf (given (ltb f 256) (unclearPair w v f)) → w ≡ m → v ≡ u → f ≡ low (row .unclear) → fs ≡ files pic
+    → Sorts pic m v (among fs) row → r ≡ verdictOf (first (λ c. userUnclear pic m u (getD fs c 0)) (length fs))
+unfolding userUnclear
+row-unclear pic m u fs row r w v f er ew ev ef efs s =
+    let sorts : Sorts pic m u (among (files pic)) row = rw (ev, efs) at s in
+    er ∙ rw (ew, ev, ef, efs)
+    (ap verdictOf (first-low (λ f. isUnclear (answer pic m u f)) (unclearPair m u) pic (row .unclear) (sorts .unclear-are)))

@@ -12,11 +12,13 @@ use Rattle.tables.specs.Rows.{Picture, user, file}
 use Rattle.tables.specs.Refusals.{verdictOf, either}
 use Rattle.tables.specs.declared.Verdict.{Verdict}
 use Rattle.tables.specs.declared.Verdict.the-variants.{Passed}
-use Rattle.tables.proofs.AtomPlaces.{atoms-found, atom-there}
+use Rattle.tables.specs.Atoms.{atoms}
+use Rattle.tables.proofs.AtomPlaces.{atoms-found, atom-there, atoms-most}
 use Rattle.meaning.specs.Pairs.{users, files}
 use Rattle.meaning.proofs.PairLaws.{place-in}
+use Rattle.user_rows.proofs.CallerLaws.{small-arrows}
 use Rattle.listing.specs.Numbered.{usedModes, lineRows, rowStart, seenBefore}
-use Rattle.listing.specs.Steps.{Fits, Ready, Stands, userUnclear}
+use Rattle.listing.specs.Steps.{Sized, Fits, Ready, Stands, userUnclear}
 use Rattle.listing.specs.declared.Place.{Place}
 use Rattle.listing.proofs.LineLaws.{row-next, row-seen, seen-none}
 use Rattle.listing.proofs.ModeLaws.{few-modes}
@@ -50,17 +52,26 @@ fits-small {us} {fs} {p} w hu hf =
     let lines : p .row * length fs ≤ 2048 * 256 = mul-le-mul row hf in
     (row, omega (arith, w .line-is))
 
--- the users and the files are boxes of the picture
-module _ {pic : Picture} {closure arrows us fs : List ℕ} (d : Ready pic closure arrows us fs) (i : ℕ) where
-  pub user-in : i < length us → getD us i 0 < length (pic .boxes)
-  user-in l =
-      let there = atoms-found (pic .boxes) (pic .rows) user i (rw (d .users-are) at l) in
-      rw (d .users-are) (atom-there (pic .boxes) (pic .rows) user _ there)
+-- ---- a picture and its tables
 
-  pub file-in : i < length fs → getD fs i 0 < length (pic .boxes)
-  file-in l =
-      let there = atoms-found (pic .boxes) (pic .rows) file i (rw (d .files-are) at l) in
-      rw (d .files-are) (atom-there (pic .boxes) (pic .rows) file _ there)
+-- an atomic box is a box of the picture
+pub atom-in : (pic : Picture) (side : ℕ) {xs : List ℕ} → xs ≡ atoms (pic .boxes) (pic .rows) side → (i : ℕ) → i < length xs
+    → getD xs i 0 < length (pic .boxes)
+atom-in pic side e i l = rw e (atom-there (pic .boxes) (pic .rows) side _ (atoms-found (pic .boxes) (pic .rows) side i (rw e at l)))
+
+pub ready-sized : {pic : Picture} {closure arrows us fs : List ℕ} → Ready pic closure arrows us fs → Sized closure arrows us fs
+ready-sized {pic} {closure} {arrows} {us} {fs} d =
+    let few = d .drawn .rows-sound .few-boxes in
+    record {
+      closure-len = d .drawn .closed .len;
+      small = rw (d .arrows-are) (small-arrows (pic .boxes) (pic .arrows) (d .drawn .arrows-sound) few);
+      users-small = λ i l. omega (arith, atom-in pic user (d .users-are) i l);
+      files-small = λ i l. omega (arith, atom-in pic file (d .files-are) i l);
+      few-users = rw (d .users-are) (omega (arith, atoms-most (pic .boxes) (pic .rows) user));
+      few-files = rw (d .files-are) (omega (arith, atoms-most (pic .boxes) (pic .rows) file));
+    }
+
+-- ---- a place in it
 
 module _ {pic : Picture} {closure arrows us fs : List ℕ} (d : Ready pic closure arrows us fs) {p : Place} (s : Stands pic p) where
   pub rows-are : lineRows pic ≡ p .used * length us

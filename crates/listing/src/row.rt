@@ -15,6 +15,28 @@ use base::wide;
 use tables::Verdict;
 use user_rows::Row;
 
+// The answers of a user for the files in a mode, and the number of the arrow of each file, by box number.
+fn answers_of(
+    closure: &[u64],
+    arrows: &[u16],
+    mode: u16,
+    user: usize,
+    files: &[u16],
+    numbers: &mut [u16],
+) -> Row
+    requires { ⌜ (length (now closure) ≡ 2048) × Small (now arrows) × (user < 256) × Bytes (now files) × (now numbers ≡ blankRow) ⌝ }
+    ensures { λ r. ⌜ ((pic : Picture) → Drawn pic (now (closure .entry)) → now (arrows .entry) ≡ pic .arrows
+        → user < length (pic .boxes) → Sorts pic mode user (among (now (files .entry))) r
+        × ((i : ℕ) → i < length (now (files .entry)) → getD (now (numbers .exit)) (getD (now (files .entry)) i 0) 0
+            ≡ numberOf (answer pic mode user (getD (now (files .entry)) i 0)))) ⌝ }
+{
+    let mut own = user_rows::no_numbers();
+    let mut heads = user_rows::no_heads();
+    let count = user_rows::take_mode(arrows, mode, &mut own, &mut heads);
+    let asked = boxsets::set_of(files);
+    user_rows::answer_row(closure, &heads, arrows, &own[..count], user, asked, numbers)
+}
+
 // Puts the row of a mode and a user.
 pub fn put_row(
     closure: &[u64],
@@ -32,8 +54,20 @@ pub fn put_row(
         → user < length (pic .boxes) → now (files .entry) ≡ filesOf pic
         → RowPut pic mode user (now (files .entry)) (now (out .entry)) at (now (out .exit)) r) ⌝ }
 {
+    let u = wide(user);
+    let mut numbers = user_rows::no_row();
+    let row = answers_of(closure, arrows, mode, u, files, &mut numbers);
+    let mut next = at;
+    for i in 0..files.len() {
+        let file = files[i];
+        let f = wide(file);
+        let e = user_rows::entry_of(closure, arrows, mode, row, u, f, numbers[f]);
+        next = put_line(out, next, Line::Pair(mode, user, file, e));
+    }
+    let unclear = row.unclear;
+    let f = boxsets::lowest(unclear);
     Told {
-        next: at,
-        unclear: Verdict::Passed,
+        next,
+        unclear: Verdict::refused_if(f < 256, 12, wide(mode), u, f),
     }
 }

@@ -7,11 +7,11 @@ use native.Mathlib.Omega.{arith}
 use native.Mathlib.Nat.{eq-or-lt-of-le}
 use borrow.Author.Tests.{leb-true, leb-false}
 use lib.ListN.{length}
-use Rattle.tables.specs.Rows.{Picture}
+use Rattle.tables.specs.Rows.{Picture, user}
 use Rattle.listing.specs.Steps.{Fits, Ready, Stands}
 use Rattle.listing.specs.declared.Place.{Place}
 use Rattle.listing.proofs.ChunkLaws.{Filling, filling-none, filling-more, filling-done}
-use Rattle.listing.proofs.StandLaws.{row-there, fits-next, fits-small, rows-are, user-in}
+use Rattle.listing.proofs.StandLaws.{row-there, fits-next, fits-small, rows-are, atom-in}
 use borrow.Author.Needs.{needs}
 use Rattle.listing.proofs.fill.Statement.{statement}
 use Rattle.listing.proofs.fill.Tie as tie
@@ -110,7 +110,7 @@ loop-again c =
       at-put .put-row .ensures .0 ∙ inv .2,
       λ pic d s.
           let w = inv .3 pic d s in
-          let row = at-put .put-row .ensures .1 pic (d .drawn) (d .arrows-are) (user-in d _ (there at-test .2)) (d .files-are) in
+          let row = at-put .put-row .ensures .1 pic (d .drawn) (d .arrows-are) (atom-in pic user (d .users-are) _ (there at-test .2)) (d .files-are) in
           filling-more d w (rw (rows-are d (w .stands)) (there at-test .0)) refl refl row (room at-test),
     )
 
