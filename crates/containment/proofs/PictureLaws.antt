@@ -1,10 +1,11 @@
 -- What holds of a picture that passes checks 1 to 7, 9 for the scratch, and 10. Assumes nothing.
-use mathlib.Core.Path.{_≡_}
+use mathlib.Core.Path.{_≡_, refl}
 use mathlib.Core.List.{List}
 use mathlib.Core.Option.{Option, none}
 use Rattle.tables.specs.declared.Refusal.{Refusal}
 use Prim.Native.Nat.{ℕ, _*_, _≤_}
 use lib.ListN.{length}
+use Rattle.base.specs.Search.{orElse}
 use Rattle.tables.specs.Rows.{picture}
 use Rattle.tables.specs.Faults.{tableFault}
 use Rattle.tables.specs.Steps.{SoundRows, SoundArrows}
@@ -42,6 +43,12 @@ unfolding earlyFault
 early-prepared boxes rows arrows s e =
     let two = both-none (tableFault (picture boxes rows arrows)) (scratchFault (length boxes) s) e in
     prepared boxes rows arrows s (two .0) (two .1)
+
+-- the checks before the closure, then the loops, are all checks
+pub picture-stages : (boxes rows arrows s : List ℕ)
+    → orElse (earlyFault (picture boxes rows arrows) s) (loopFault boxes rows) ≡ pictureFault (picture boxes rows arrows) s
+unfolding pictureFault
+picture-stages boxes rows arrows s = refl
 
 -- all checks found nothing
 pub picture-clear : (boxes rows arrows s : List ℕ) → pictureFault (picture boxes rows arrows) s ≡ none → loopFault boxes rows ≡ none

@@ -9,7 +9,7 @@ use Rattle.base.specs.Buffers.{zeros}
 use Rattle.base.proofs.BufferLaws.{zeros-length}
 use Rattle.base.proofs.Options.{past, stop}
 use Rattle.base.proofs.PartLaws.{part-is}
-use Rattle.tables.specs.Rows.{Picture, picture}
+use Rattle.tables.specs.Rows.{Picture, picture, rowCount, arrowCount}
 use Rattle.tables.specs.Refusals.{verdictOf}
 use Rattle.tables.specs.declared.Refusal.{Refusal}
 use Rattle.tables.specs.declared.Verdict.{Verdict}
@@ -20,7 +20,7 @@ use Rattle.containment.proofs.PictureLaws.{picture-room}
 use Rattle.meaning.specs.Cases.{picture-B}
 use Rattle.blocks.specs.Files.{boxesOf, containmentsOf, arrowsOf}
 use Rattle.blocks.specs.Reads.{readFault, ReadDone}
-use Rattle.blocks.specs.declared.Counts.{Counts}
+use Rattle.blocks.specs.declared.Counts.{Counts as Three}
 use Rattle.blocks.specs.declared.Reading.the-variants.{Tables, Refused as Stops}
 use Rattle.blocks.proofs.Made.{joined-same}
 use Rattle.blocks.proofs.JoinedLaws.{joined-none, joined-more}
@@ -33,7 +33,7 @@ use Rattle.listing.specs.Numbered.{pairLines, lineCount, lineAt, lineRow
 use Rattle.listing.specs.Steps.{Holds, Stands, Filled, Read, Good}
 use Rattle.listing.specs.Cases.{case-B}
 use Rattle.listing.specs.declared.Line.{Line}
-use Rattle.listing.specs.declared.Line.the-variants.{Last, Stopped}
+use Rattle.listing.specs.declared.Line.the-variants.{Counts, Last, Stopped}
 use Rattle.listing.specs.declared.Place.{Place}
 use Rattle.listing.specs.declared.Chunk.{Chunk}
 use Rattle.listing.proofs.WholeLaws.{joined-one, picture-whole, last-is}
@@ -116,6 +116,11 @@ pub document-listing : (file : List ℕ) → Good file picture-B
     → fileListing file ≡ text "boxes 4 containments 2 arrows 2\n0 0 3 pos 0\n0 1 3 neg 1\naccepted\n"
 document-listing file g = good-listing g ∙ case-B
 
+-- the first line, by the tables
+pub counts-are : (boxes rows arrows : List ℕ) → countsLine (picture boxes rows arrows) ≡ Counts (length boxes) (rowCount rows) (arrowCount arrows)
+unfolding countsLine
+counts-are boxes rows arrows = refl
+
 -- ---- from the checks of the picture
 module _ {file boxes rows arrows : List ℕ} (s : List ℕ) (d : Read file (picture boxes rows arrows)) (len : 65536 ≡ length s) where
   picture-is : pictureFault (picture boxes rows arrows) s ≡ pictureRefusal file
@@ -146,7 +151,7 @@ module _ (file boxes rows arrows boxesEnd rowsEnd arrowsEnd : List ℕ)
   unfolding fileRefusal
   read-refused d = stop (readRefusal file) (pictureRefusal file) (sym fault-is ∙ read-stopped d)
 
-  pub read-good : {c : Counts} → ReadDone file boxes rows arrows boxesEnd rowsEnd arrowsEnd (Tables c)
+  pub read-good : {c : Three} → ReadDone file boxes rows arrows boxesEnd rowsEnd arrowsEnd (Tables c)
       → Read file (picture (take (c .boxes) boxesEnd) (take (2 * c .containments) rowsEnd) (take (4 * c .arrows) arrowsEnd))
   unfolding filePicture
   read-good d =
