@@ -2,25 +2,12 @@
 ghost use mathlib.Core.Path.{_≡_};
 ghost use Rattle.tables.specs.Rows.{picture};
 ghost use Rattle.tables.specs.Refusals.{verdictOf};
-ghost use Rattle.containment.specs.Scratch.{earlyFault};
 ghost use Rattle.answers.specs.Calls.{entryEarly, matrixEarly};
 use containment::check_scratch;
 use tables::Verdict;
 use tables::check_mode;
 use tables::check_room;
 use tables::pair_count;
-
-// Of the judge: 1 to 7 and 9.
-pub fn early_picture(boxes: &[u8], rows: &[u16], arrows: &[u16], scratch: &[u8]) -> Verdict
-    ensures { λ r. ⌜ r ≡ verdictOf (earlyFault (picture (now (boxes .entry)) (now (rows .entry)) (now (arrows .entry)))
-        (now (scratch .entry))) ⌝ }
-{
-    let tables = tables::check(boxes, rows, arrows);
-    if let Verdict::Refused(r) = tables {
-        return Verdict::Refused(r);
-    }
-    check_scratch(boxes, scratch)
-}
 
 // Of one entry: 1 to 9.
 pub fn early_entry(boxes: &[u8], rows: &[u16], arrows: &[u16], scratch: &[u8], mode: u16) -> Verdict

@@ -16,11 +16,11 @@ ghost use Rattle.answers.specs.Calls.{matrixEarly, matrixFault, bytesAft
 pub use atoms::atom_set;
 use base::wide;
 use cells::fill_picture;
+use containment::early_picture;
 use containment::no_closure;
 use containment::prepare;
 use early::early_entry;
 use early::early_matrix;
-use early::early_picture;
 pub use meaning::Entry;
 use modes::judge_picture;
 pub use pair::answer_pair;

@@ -1,10 +1,11 @@
 -- What holds of a picture that passes checks 1 to 7, 9 for the scratch, and 10. Assumes nothing.
-use mathlib.Core.Path.{_≡_}
+use mathlib.Core.Path.{_≡_, refl}
 use mathlib.Core.List.{List}
 use mathlib.Core.Option.{Option, none}
 use Rattle.tables.specs.declared.Refusal.{Refusal}
 use Prim.Native.Nat.{ℕ, _*_, _≤_}
 use lib.ListN.{length}
+use Rattle.base.specs.Search.{orElse}
 use Rattle.tables.specs.Rows.{picture}
 use Rattle.tables.specs.Faults.{tableFault}
 use Rattle.tables.specs.Steps.{SoundRows, SoundArrows}
@@ -35,6 +36,24 @@ picture-prepared boxes rows arrows s e =
     let early = both-none (earlyFault (picture boxes rows arrows) s) (loopFault boxes rows) e .0 in
     let two = both-none (tableFault (picture boxes rows arrows)) (scratchFault (length boxes) s) early in
     (prepared boxes rows arrows s (two .0) (two .1), early)
+
+-- the checks before the closure found nothing
+pub early-prepared : (boxes rows arrows s : List ℕ) → earlyFault (picture boxes rows arrows) s ≡ none → Prepared boxes rows arrows s
+unfolding earlyFault
+early-prepared boxes rows arrows s e =
+    let two = both-none (tableFault (picture boxes rows arrows)) (scratchFault (length boxes) s) e in
+    prepared boxes rows arrows s (two .0) (two .1)
+
+-- the checks before the closure, then the loops, are all checks
+pub picture-stages : (boxes rows arrows s : List ℕ)
+    → orElse (earlyFault (picture boxes rows arrows) s) (loopFault boxes rows) ≡ pictureFault (picture boxes rows arrows) s
+unfolding pictureFault
+picture-stages boxes rows arrows s = refl
+
+-- all checks found nothing
+pub picture-clear : (boxes rows arrows s : List ℕ) → pictureFault (picture boxes rows arrows) s ≡ none → loopFault boxes rows ≡ none
+unfolding pictureFault
+picture-clear boxes rows arrows s e = both-none (earlyFault (picture boxes rows arrows) s) (loopFault boxes rows) e .1
 
 -- of the scratch, the checks read its length only
 pub picture-room : (boxes rows arrows s t : List ℕ) → length s ≡ length t

@@ -8,11 +8,12 @@ ghost use Prim.Native.Nat.{_*_, _≤_};
 ghost use lib.ListN.{length};
 ghost use Rattle.base.specs.Buffers.{zeros};
 ghost use Rattle.base.specs.Search.{orElse};
+ghost use Rattle.tables.specs.Rows.{picture};
 ghost use Rattle.tables.specs.Refusals.{verdictOf};
 ghost use Rattle.tables.specs.declared.Refusal.{Refusal};
 ghost use Rattle.tables.specs.Steps.{SoundRows};
 ghost use Rattle.containment.specs.Contains.{loopFault};
-ghost use Rattle.containment.specs.Scratch.{filled, scratchFault, scratchAfter};
+ghost use Rattle.containment.specs.Scratch.{filled, scratchFault, scratchAfter, earlyFault};
 ghost use Rattle.containment.specs.Steps.{ownFault, Closure};
 use closing::add_selves;
 use closing::close;
@@ -66,6 +67,18 @@ pub fn check_scratch(boxes: &[u8], scratch: &[u8]) -> Verdict
 {
     let n = boxes.len();
     tables::check_room(0, scratch.len(), n * n)
+}
+
+// What comes before the stage below where a call has no other checks: checks 1 to 7 of a picture, 9 for the scratch.
+pub fn early_picture(boxes: &[u8], rows: &[u16], arrows: &[u16], scratch: &[u8]) -> Verdict
+    ensures { λ r. ⌜ r ≡ verdictOf (earlyFault (picture (now (boxes .entry)) (now (rows .entry)) (now (arrows .entry)))
+        (now (scratch .entry))) ⌝ }
+{
+    let tables = tables::check(boxes, rows, arrows);
+    if let Verdict::Refused(r) = tables {
+        return Verdict::Refused(r);
+    }
+    check_scratch(boxes, scratch)
 }
 
 // The stage that every call shares: unless an earlier check refused, the closure and the scratch, and check 10.

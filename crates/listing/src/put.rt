@@ -6,7 +6,7 @@ ghost use Rattle.listing.specs.Text.{text, decimal, line};
 ghost use Rattle.listing.specs.Lines.{answerFields, threeFields, lineText};
 ghost use Rattle.listing.specs.Steps.{Put};
 use super::Line;
-use answers::Entry;
+use meaning::Entry;
 use base::wide;
 use tables::Refusal;
 use tables::Verdict;

@@ -3,9 +3,16 @@
 use mathlib.Core.Path.{_≡_, refl}
 use mathlib.Core.Bool.{_&&_}
 use mathlib.Core.List.{List}
-use Prim.Native.Nat.{ℕ}
+use Prim.Native.Nat.{ℕ, _<_, _≤_}
+use native.Mathlib.Omega.{arith}
+use native.Mathlib.Nat.{eq-zero-or-pos}
+use mathlib.Core.Logic.{⊎-elim}
+use lib.Dec.{eqb→eq}
+use lib.ListN.{length, getD}
 use Rattle.base.specs.Search.{select}
-use Rattle.tables.specs.Rows.{Picture, arrowCount}
+use Rattle.base.proofs.SelectLaws.{select-found, select-has}
+use Rattle.base.proofs.Tests.{T-eqb}
+use Rattle.tables.specs.Rows.{Picture, arrowCount, arrowAt}
 use Rattle.tables.specs.declared.Arrow.{Arrow}
 use Rattle.containment.specs.Contains.{around}
 use Rattle.meaning.specs.Meaning.{reaches, answer, hasMode, modeArrows}
@@ -14,6 +21,22 @@ use Rattle.meaning.specs.Pairs.{userAt, fileAt, answerAt}
 pub mode-select : (arrows : List ℕ) (m : ℕ) → modeArrows arrows m ≡ select (hasMode arrows m) (arrowCount arrows)
 unfolding modeArrows
 mode-select arrows m = refl
+
+module _ (arrows : List ℕ) (m : ℕ) where
+  -- a mode with an arrow has some, and one without has none
+  pub mode-some : (k : ℕ) → k < arrowCount arrows → arrowAt arrows k .mode ≡ m → 0 < length (modeArrows arrows m)
+  unfolding hasMode
+  mode-some k l e = let there = select-has (hasMode arrows m) (arrowCount arrows) k l (T-eqb e) in rw mode-select (omega (arith, there .1))
+
+  pub mode-none : ((k : ℕ) → k < arrowCount arrows → arrowAt arrows k .mode ≡ m → ⊥) → length (modeArrows arrows m) ≤ 0
+  unfolding hasMode
+  mode-none none =
+      ⊎-elim
+      (λ e. omega arith)
+      (λ l.
+      let there = select-found (hasMode arrows m) (arrowCount arrows) 0 (rw mode-select at l) in
+      absurd (none _ (there .0) (eqb→eq _ m (there .1))))
+      (eq-zero-or-pos (length (modeArrows arrows m)))
 
 module _ (pic : Picture) (m : ℕ) where
   pub answer-at : (p : ℕ) → answerAt pic m p ≡ answer pic m (userAt pic p) (fileAt pic p)
