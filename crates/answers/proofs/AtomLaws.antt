@@ -1,5 +1,5 @@
 -- The atomic boxes of a side as a list that was written, and as a set. Assumes nothing.
-use mathlib.Core.Path.{_≡_, subst}
+use mathlib.Core.Path.{_≡_, ap, subst, _∙_}
 use mathlib.Core.List.{List}
 use Prim.Native.Nat.{ℕ, _<_, _≤_}
 use native.Mathlib.Omega.{arith}
@@ -35,8 +35,16 @@ module _ (boxes rows : List ℕ) (side : ℕ) where
       subst (λ (z : ℕ). T (among (atoms boxes rows side) z)) (h .2) (among-is (atoms boxes rows side) (h .0) (h .1)))
 
   -- each is a box of the picture
-  pub atoms-there : (i : ℕ) → i < length (atoms boxes rows side) → getD (atoms boxes rows side) i 0 < length boxes
+  atoms-there : (i : ℕ) → i < length (atoms boxes rows side) → getD (atoms boxes rows side) i 0 < length boxes
   atoms-there i l = atom-there boxes rows side (getD (atoms boxes rows side) i 0) (atoms-found boxes rows side i l)
+
+  -- place i of the list, as read by a loop
+  pub listed-at : (xs : List ℕ) → xs ≡ atoms boxes rows side → (i b : ℕ) → i < length xs → b ≡ getD xs i 0
+      → (b ≡ getD (atoms boxes rows side) i 0) × (i < length (atoms boxes rows side)) × (b < length boxes)
+  listed-at xs e i b l is =
+      let at = is ∙ ap (λ (ys : List ℕ). getD ys i 0) e in
+      let there : i < length (atoms boxes rows side) = omega (arith, ap length e) in
+      (at, there, rw at (atoms-there i there))
 
   -- by what `tables::atoms_of` promises
   pub listed : length boxes ≤ 256 → (old : List ℕ) (count : ℕ) (out : List ℕ) → old ≡ zeros 256

@@ -3,7 +3,7 @@
 use mathlib.Core.Path.{_≡_, sym, _∙_}
 use mathlib.Core.Bool.{not, _&&_}
 use mathlib.Core.List.{List}
-use mathlib.Core.Option.{Option, none, some}
+use mathlib.Core.Option.{Option, none}
 use Prim.Native.Nat.{ℕ, _*_, _<_, _≤_}
 use lib.ListN.{length}
 use Rattle.base.specs.Search.{orElse}
@@ -14,7 +14,7 @@ use Rattle.base.proofs.SearchLaws.{given-none}
 use Rattle.tables.specs.Rows.{Picture, user, file}
 use Rattle.tables.specs.Atoms.{atom, pairCount}
 use Rattle.tables.specs.Faults.{tableFault, modeFault, roomFault}
-use Rattle.tables.specs.Refusals.{notAtomic, verdictOf, unlessRefused, either}
+use Rattle.tables.specs.Refusals.{notAtomic, verdictOf, either}
 use Rattle.tables.specs.Steps.{SoundRows}
 use Rattle.tables.specs.declared.Refusal.{Refusal}
 use Rattle.tables.specs.declared.Verdict.{Verdict}

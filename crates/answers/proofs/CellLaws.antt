@@ -5,7 +5,7 @@ use mathlib.Core.Bool.{Bool, cond}
 use mathlib.Core.List.{List}
 use Prim.Native.Nat.{ℕ, _+_, _*_, _-_, _<_, _≤_}
 use native.Mathlib.Decide.{decLt}
-use native.Mathlib.Nat.{eq-or-lt-of-le, le-of-suc-le-suc}
+use native.Mathlib.Nat.{eq-or-lt-of-le, le-of-suc-le-suc, zero-mul}
 use native.Mathlib.Omega.{arith}
 use lib.Dec.{T}
 use lib.ListN.{length, getD, set, length-set}
@@ -13,6 +13,7 @@ use lib.Seq.{getD-set-same, getD-set-other, ext-getD}
 use Rattle.base.specs.Buffers.{build, written}
 use Rattle.base.proofs.Tests.{T-true}
 use Rattle.base.proofs.BufferLaws.{written-length, written-at, written-rest, build-length, build-at}
+use Rattle.base.proofs.PartLaws.{built-none}
 use Rattle.base.proofs.Index.{next-row}
 use Rattle.tables.specs.Rows.{Picture}
 use Rattle.tables.proofs.AtomPlaces.{pairCount-is}
@@ -47,7 +48,7 @@ module _ (g : ℕ → ℕ) (at : ℕ) (old : List ℕ) where
 
 -- ---- one row after another: h says what stands at each place
 
-pub emitted-written : (g h : ℕ → ℕ) (at n : ℕ) (old mid new : List ℕ) → at + n ≤ length old → mid ≡ written (build h at) old
+emitted-written : (g h : ℕ → ℕ) (at n : ℕ) (old mid new : List ℕ) → at + n ≤ length old → mid ≡ written (build h at) old
     → Emitted g at n mid new → ((j : ℕ) → j < n → g j ≡ h (at + j)) → new ≡ written (build h (at + n)) old
 emitted-written g h at n old mid new room e m same =
     ext-getD 0 new (written (build h (at + n)) old) (m .len ∙ mid-length ∙ sym last-length) (λ p l. go p (decLt p at) (decLt p (at + n)))
@@ -85,51 +86,54 @@ byte-is Default = refl
 byte-is (Unclear p n) = refl
 
 module _ (pic : Picture) (m : ℕ) where
-  pub byte-said : (u f : ℕ) (asked : ℕ → Bool) (row : Row) → Sorts pic m u asked row → T (asked f) → byteIn row f ≡ byteOf (answer pic m u f)
+  byte-said : (u f : ℕ) (asked : ℕ → Bool) (row : Row) → Sorts pic m u asked row → T (asked f) → byteIn row f ≡ byteOf (answer pic m u f)
   unfolding byteIn
   byte-said u f asked row s t =
       rw (s .granted-are f, s .unclear-are f, T-true (asked f) t) (byte-is (answer pic m u f))
 
-  pub place-byte : (i j : ℕ) → j < length (files pic)
+  place-byte : (i j : ℕ) → j < length (files pic)
       → byteOf (answer pic m (getD (users pic) i 0) (getD (files pic) j 0)) ≡ byteAt pic m (i * length (files pic) + j)
   unfolding byteAt
   place-byte i j l = sym (ap byteOf (row-place pic m i j l))
 
-  pub place-number : (i j : ℕ) → j < length (files pic)
+  place-number : (i j : ℕ) → j < length (files pic)
       → numberOf (answer pic m (getD (users pic) i 0) (getD (files pic) j 0)) ≡ numberAt pic m (i * length (files pic) + j)
   unfolding numberAt
   place-number i j l = sym (ap numberOf (row-place pic m i j l))
 
-  -- row i of the matrix is written: u is its user, fs are the files
-  module _ (i u : ℕ) (fs : List ℕ) (asked : ℕ → Bool) (row : Row) (is : u ≡ getD (users pic) i 0) (are : fs ≡ files pic)
-      (all : (j : ℕ) → j < length fs → T (asked (getD fs j 0))) (old mid new : List ℕ) (room : i * length fs + length fs ≤ length old) where
-    pub bytes-turn : Sorts pic m u asked row → mid ≡ written (build (byteAt pic m) (i * length fs)) old
-        → Emitted (λ j. byteIn row (getD fs j 0)) (i * length fs) (length fs) mid new
-        → new ≡ written (build (byteAt pic m) ((i + 1) * length fs)) old
-    bytes-turn sorts e w =
-        rw next-row
-        (emitted-written (λ j. byteIn row (getD fs j 0)) (byteAt pic m) (i * length fs) (length fs) old mid new room e w
-        (λ j l.
-        byte-said u (getD fs j 0) asked row sorts (all j l)
-        ∙ rw (is, are) (place-byte i j (rw are at l))))
+  -- the bytes and numbers of the places before k are written
+  abbrev pub Filled : (k : ℕ) (bytes numbers bytes′ numbers′ : List ℕ) → Type 0
+  Filled k bytes numbers bytes′ numbers′ =
+      (bytes′ ≡ written (build (byteAt pic m) k) bytes) × (numbers′ ≡ written (build (numberAt pic m) k) numbers)
 
-    pub numbers-turn : (found : List ℕ) → ((f : ℕ) → T (asked f) → getD found f 0 ≡ numberOf (answer pic m u f))
-        → mid ≡ written (build (numberAt pic m) (i * length fs)) old
-        → Emitted (λ j. getD found (getD fs j 0) 0) (i * length fs) (length fs) mid new
-        → new ≡ written (build (numberAt pic m) ((i + 1) * length fs)) old
-    numbers-turn found says e w =
-        rw next-row
-        (emitted-written (λ j. getD found (getD fs j 0) 0) (numberAt pic m) (i * length fs) (length fs) old mid new room e w
-        (λ j l.
-        says (getD fs j 0) (all j l)
-        ∙ rw (is, are) (place-number i j (rw are at l))))
+  pub filled-none : (fs bytes numbers : List ℕ) → Filled (0 * length fs) bytes numbers bytes numbers
+  filled-none fs bytes numbers = rw zero-mul (built-none (byteAt pic m) bytes, built-none (numberAt pic m) numbers)
 
-  -- all rows
-  module _ (us fs old new : List ℕ) (users-are : us ≡ users pic) (files-are : fs ≡ files pic) where
-    pub bytes-end : new ≡ written (build (byteAt pic m) (length us * length fs)) old → new ≡ written (matrixBytes pic m) old
-    unfolding matrixBytes
-    bytes-end e = e ∙ rw (users-are, files-are, pairCount-is)
+  -- row i is written: u is its user, fs are the files
+  module _ (i u : ℕ) (fs : List ℕ) (asked : ℕ → Bool) (row : Row) (found : List ℕ) (is : u ≡ getD (users pic) i 0) (are : fs ≡ files pic)
+      (all : (j : ℕ) → j < length fs → T (asked (getD fs j 0))) where
+    cell-byte : Sorts pic m u asked row → (j : ℕ) → j < length fs → byteIn row (getD fs j 0) ≡ byteAt pic m (i * length fs + j)
+    cell-byte sorts j l = byte-said u (getD fs j 0) asked row sorts (all j l) ∙ rw (is, are) (place-byte i j (rw are at l))
 
-    pub numbers-end : new ≡ written (build (numberAt pic m) (length us * length fs)) old → new ≡ written (matrixNumbers pic m) old
-    unfolding matrixNumbers
-    numbers-end e = e ∙ rw (users-are, files-are, pairCount-is)
+    cell-number : ((f : ℕ) → T (asked f) → getD found f 0 ≡ numberOf (answer pic m u f))
+        → (j : ℕ) → j < length fs → getD found (getD fs j 0) 0 ≡ numberAt pic m (i * length fs + j)
+    cell-number says j l = says (getD fs j 0) (all j l) ∙ rw (is, are) (place-number i j (rw are at l))
+
+    pub filled-row : (bytes numbers b n b′ n′ : List ℕ) → i * length fs + length fs ≤ length bytes → i * length fs + length fs ≤ length numbers
+        → Sorts pic m u asked row × ((f : ℕ) → T (asked f) → getD found f 0 ≡ numberOf (answer pic m u f))
+        → Emitted (λ j. byteIn row (getD fs j 0)) (i * length fs) (length fs) b b′
+        × Emitted (λ j. getD found (getD fs j 0) 0) (i * length fs) (length fs) n n′
+        → Filled (i * length fs) bytes numbers b n → Filled ((i + 1) * length fs) bytes numbers b′ n′
+    filled-row bytes numbers b n b′ n′ room-b room-n said w e =
+        rw next-row (
+          emitted-written (λ j. byteIn row (getD fs j 0)) (byteAt pic m) (i * length fs) (length fs) bytes b b′ room-b (e .0) (w .0)
+              (cell-byte (said .0)),
+          emitted-written (λ j. getD found (getD fs j 0) 0) (numberAt pic m) (i * length fs) (length fs) numbers n n′ room-n (e .1) (w .1)
+              (cell-number (said .1)),
+        )
+
+  -- all rows are
+  pub filled-all : (us fs bytes numbers b n : List ℕ) → us ≡ users pic → fs ≡ files pic → Filled (length us * length fs) bytes numbers b n
+      → (b ≡ written (matrixBytes pic m) bytes) × (n ≡ written (matrixNumbers pic m) numbers)
+  unfolding matrixBytes matrixNumbers
+  filled-all us fs bytes numbers b n eu ef e = (e .0 ∙ rw (eu, ef, pairCount-is), e .1 ∙ rw (eu, ef, pairCount-is))

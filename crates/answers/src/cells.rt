@@ -1,6 +1,6 @@
 // The matrix of a mode, row by row.
 ghost use mathlib.Core.Path.{_≡_};
-ghost use Prim.Native.Nat.{ℕ, _+_, _*_, _<_, _≤_};
+ghost use Prim.Native.Nat.{_+_, _*_, _<_, _≤_};
 ghost use lib.ListN.{length, getD};
 ghost use Rattle.base.specs.Buffers.{written};
 ghost use Rattle.tables.specs.Rows.{Picture, picture, user, file};

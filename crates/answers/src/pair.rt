@@ -1,7 +1,7 @@
 // One pair.
 ghost use mathlib.Core.Path.{_≡_};
 ghost use mathlib.Core.Bool.{_&&_};
-ghost use Prim.Native.Nat.{ℕ, _%_, _<_};
+ghost use Prim.Native.Nat.{_%_, _<_};
 ghost use lib.ListN.{length};
 ghost use Rattle.tables.specs.Rows.{Picture, user, file};
 ghost use Rattle.tables.specs.Atoms.{atom};

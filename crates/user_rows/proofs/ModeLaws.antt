@@ -10,18 +10,18 @@ use native.Mathlib.Omega.{arith}
 use borrow.Author.Tests.{ne-eqb}
 use lib.Dec.{T, eqb, eqb→eq}
 use lib.ListN.{length, set}
-use Rattle.base.specs.Search.{anyBelow, select}
+use Rattle.base.specs.Search.{anyBelow}
 use Rattle.base.specs.Buffers.{written, zeros}
-use Rattle.base.proofs.Tests.{T?, or-T, T-or₁, T-or₂, and-T, T-and, T-eqb, T-same, T-true, true-T, not-false, false-not}
+use Rattle.base.proofs.Tests.{T?, or-T, T-or₁, and-T, T-and, T-eqb, T-same, T-true, true-T, not-false, false-not}
 use Rattle.base.proofs.AnyLaws.{any-found, any-is}
 use Rattle.base.proofs.BufferLaws.{zeros-length, Selected, selected-yes, selected-no}
-use Rattle.tables.specs.Rows.{arrowCount, arrowAt}
+use Rattle.tables.specs.Rows.{arrowAt}
 use Rattle.tables.specs.declared.Arrow.{Arrow}
 use Rattle.boxsets.specs.Sets.{has, Added}
 use Rattle.boxsets.proofs.TableLaws.{zeros-has}
 use Rattle.boxsets.proofs.WordLaws.{eqb-turned, eqb-shifted}
 use Rattle.meaning.specs.Meaning.{hasMode}
-use Rattle.user_rows.specs.Row.{same, leaves, headsBelow, tailsBelow, isOwn, ownArrows}
+use Rattle.user_rows.specs.Row.{same, leaves, headsBelow, tailsBelow, isOwn}
 use Rattle.user_rows.specs.Steps.{SetsBelow, Took}
 use Rattle.user_rows.proofs.SameLaws.{same-parts, same-is}
 

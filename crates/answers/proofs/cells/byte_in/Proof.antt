@@ -1,5 +1,4 @@
 -- `answers::cells::byte_in` meets its contract, by the two sets. Assumes nothing.
-use mathlib.Core.Path.{sym, _∙_}
 use borrow.Author.Needs.{needs}
 use Rattle.answers.specs.Steps.{byteIn}
 use Rattle.answers.proofs.cells.byte_in.Statement.{statement}

@@ -1,25 +1,19 @@
 -- `answers::cells::fill_matrix` meets its contract: the rows of the users before i are written. Assumes nothing.
-use mathlib.Core.Path.{_≡_, refl, sym, ap, subst, _∙_}
-use mathlib.Core.List.{List}
+use mathlib.Core.Path.{_≡_, refl, sym, subst, _∙_}
 use Prim.Native.Nat.{ℕ, _+_, _*_, _-_, _<_, _≤_}
-use native.Mathlib.Nat.{zero-mul}
 use native.Mathlib.Omega.{arith}
 use borrow.Author.Needs.{needs}
 use lib.Dec.{T}
 use lib.ListN.{length, getD}
-use Rattle.base.specs.Buffers.{build, written}
 use Rattle.base.proofs.Index.{row-step}
-use Rattle.base.proofs.PartLaws.{built-none}
 use Rattle.tables.specs.Rows.{Picture, user, file}
 use Rattle.tables.specs.Atoms.{atoms}
 use Rattle.boxsets.specs.Sets.{isIn}
 use Rattle.boxsets.proofs.AmongLaws.{among-is}
-use Rattle.meaning.specs.Meaning.{answer, numberOf}
-use Rattle.meaning.specs.Pairs.{users, byteAt, numberAt}
-use Rattle.user_rows.specs.Steps.{Drawn, Sorts}
-use Rattle.answers.proofs.AtomLaws.{atoms-there}
+use Rattle.user_rows.specs.Steps.{Drawn}
+use Rattle.answers.proofs.AtomLaws.{listed-at}
 use Rattle.answers.proofs.TakenLaws.{Taken, taken}
-use Rattle.answers.proofs.CellLaws.{bytes-turn, numbers-turn, bytes-end, numbers-end}
+use Rattle.answers.proofs.CellLaws.{Filled, filled-none, filled-row, filled-all}
 use Rattle.answers.proofs.cells.fill_matrix.Statement.{statement}
 use Rattle.answers.proofs.cells.fill_matrix.Tie as tie
 
@@ -27,9 +21,7 @@ abbrev Inv-loop : tie.InvT-loop
 Inv-loop closure arrows mode users files bytes₀ numbers₀ own heads count asked i₀ i-end bytes numbers i =
     (i ≤ length users) × (length bytes ≡ length bytes₀) × (length numbers ≡ length numbers₀)
     × ((pic : Picture) → Drawn pic closure → arrows ≡ pic .arrows → users ≡ atoms (pic .boxes) (pic .rows) user
-    → files ≡ atoms (pic .boxes) (pic .rows) file
-    → (bytes ≡ written (build (byteAt pic mode) (i * length files)) bytes₀)
-    × (numbers ≡ written (build (numberAt pic mode) (i * length files)) numbers₀))
+    → files ≡ atoms (pic .boxes) (pic .rows) file → Filled pic mode (i * length files) bytes₀ numbers₀ bytes numbers)
 
 abbrev μ-loop : tie.MeasureT-loop
 μ-loop closure arrows mode users files bytes₀ numbers₀ own heads count asked i₀ i-end bytes numbers i = length users - i
@@ -76,26 +68,6 @@ all-asked : (c : tie.After-set-of Inv-loop μ-loop) →
 all-asked c j l =
     let fs = start (c .before .before .before) .args .files .now in
     subst T (sym (c .set-of .ensures (getD fs j 0))) (among-is fs j l)
-
--- its user, and what was found for it
-row-said : (c : tie.After-answer-row Inv-loop μ-loop) →
-    let read = read-of c in
-    let turn = turn-of read in
-    let a = start (take turn) .args in
-    let u = read .wide .result in
-    let asked = isIn (turn .before .set-of .result) in
-    (pic : Picture) → Drawn pic (a .closure .now) → a .arrows .now ≡ pic .arrows → a .users .now ≡ atoms (pic .boxes) (pic .rows) user
-    → (u ≡ getD (users pic) (turn .loop .i) 0)
-    × (Sorts pic (a .mode) u asked (c .answer-row .result)
-    × ((f : ℕ) → T (asked f) → getD (c .answer-row .last .1 .1 .1 .1 .1 .1 .0) f 0 ≡ numberOf (answer pic (a .mode) u f)))
-row-said c pic d e us =
-    let read = read-of c in
-    let taken = take (turn-of read) in
-    let i = turn-of read .loop .i in
-    let a = start taken .args in
-    let is = read .wide .ensures ∙ ap (λ (xs : List ℕ). getD xs i 0) us in
-    let there : i < length (users pic) = omega (arith, read .before .before .before .loop-test .taken, ap length us) in
-    (is, c .answer-row .ensures pic (a .mode) d (mode taken .moded pic e) (rw is (atoms-there (pic .boxes) (pic .rows) user i there)))
 
 -- its places are there
 rooms : (c : tie.In-loop Inv-loop μ-loop) →
@@ -145,20 +117,17 @@ loop-again c =
     let a = start (take turn) .args in
     let pre = start (take turn) .pre in
     let there = rooms (read .before .before .before) in
-    let row = answered .answer-row .result in
-    let asked = isIn (turn .before .set-of .result) in
-    let all = all-asked (turn .before) in (
+    let row = answered .answer-row in
+    let u = read .wide .result in (
       omega (arith, read .before .before .before .loop-test .taken),
       emit .ensures .0 .len ∙ l .inv .1,
       emit .ensures .1 .len ∙ l .inv .2,
       λ pic d e us fs.
-          let s = row-said answered pic d e us in
-          let done = l .inv .3 pic d e us fs in (
-            bytes-turn pic (a .mode) (l .i) (read .wide .result) (a .files .now) asked row (s .0) fs all (a .bytes .now) (l .bytes) _
-                (omega (arith, there, pre .4)) (s .1 .0) (done .0) (emit .ensures .0),
-            numbers-turn pic (a .mode) (l .i) (read .wide .result) (a .files .now) asked row (s .0) fs all (a .numbers .now) (l .numbers) _
-                (omega (arith, there, pre .5)) (answered .answer-row .last .1 .1 .1 .1 .1 .1 .0) (s .1 .1) (done .1) (emit .ensures .1),
-          ),
+          let at = listed-at (pic .boxes) (pic .rows) user (a .users .now) us (l .i) u (read .before .before .before .loop-test .taken) (read .wide .ensures) in
+          let said = row .ensures pic (a .mode) d (mode (take turn) .moded pic e) (at .2) in
+          filled-row pic (a .mode) (l .i) u (a .files .now) (isIn (turn .before .set-of .result)) (row .result) (row .last .1 .1 .1 .1 .1 .1 .0)
+          (at .0) fs (all-asked (turn .before)) (a .bytes .now) (a .numbers .now) (l .bytes) (l .numbers) _ _ (omega (arith, there, pre .4))
+          (omega (arith, there, pre .5)) said (emit .ensures) (l .inv .3 pic d e us fs),
     )
 
 -- ---- before the first row, and after the last
@@ -169,8 +138,7 @@ loop-holds c =
       search needs,
       refl,
       refl,
-      λ pic d e us fs.
-          rw zero-mul (built-none (byteAt pic (a .mode)) (a .bytes .now), built-none (numberAt pic (a .mode)) (a .numbers .now)),
+      λ pic d e us fs. filled-none pic (a .mode) (a .files .now) (a .bytes .now) (a .numbers .now),
     )
 
 same-length : tie.Need-same-length Inv-loop μ-loop
@@ -184,10 +152,8 @@ returns c pic d e us fs =
     let l = c .before .loop in
     let a = start (take (c .before)) .args in
     let i : l .i ≡ length (a .users .now) = omega (arith, c .loop-test .left, l .inv .0) in
-    let done = l .inv .3 pic d e us fs in (
-      bytes-end pic (a .mode) (a .users .now) (a .files .now) (a .bytes .now) (l .bytes) us fs (rw i at (done .0)),
-      numbers-end pic (a .mode) (a .users .now) (a .files .now) (a .numbers .now) (l .numbers) us fs (rw i at (done .1)),
-    )
+    filled-all pic (a .mode) (a .users .now) (a .files .now) (a .bytes .now) (a .numbers .now) (l .bytes) (l .numbers) us fs
+    (rw i at (l .inv .3 pic d e us fs))
 
 pub fill-matrix-spec : {M : Type 1} → statement M
 fill-matrix-spec =

@@ -1,5 +1,5 @@
 -- `answers::cells::fill_picture` meets its contract: the local arrays hold the atomic users and files. Assumes nothing.
-use mathlib.Core.Path.{_≡_, refl}
+use mathlib.Core.Path.{refl}
 use borrow.Author.Needs.{needs}
 use Rattle.tables.specs.Rows.{picture, user, file}
 use Rattle.tables.proofs.AtomPlaces.{pairCount-is}

@@ -1,9 +1,7 @@
 -- `answers::early::early_matrix` meets its contract: checks 1 to 7 refuse, or leave 8 and 9 their facts. Assumes nothing.
-use mathlib.Core.Path.{_≡_, sym, _∙_}
-use mathlib.Core.Option.{none}
+use mathlib.Core.Path.{sym, _∙_}
 use borrow.Author.Needs.{needs}
-use Rattle.tables.specs.Rows.{picture}
-use Rattle.tables.specs.Faults.{tableFault, modeFault, roomFault}
+use Rattle.tables.specs.Faults.{modeFault, roomFault}
 use Rattle.tables.proofs.TableLaws.{sound-rows}
 use Rattle.tables.proofs.Verdicts.{passed, refuses, passes}
 use Rattle.tables.specs.Atoms.{pairCount}

@@ -1,6 +1,6 @@
 -- `answers::modes::judge_mode` meets its contract: a sign that has no arrows, or the rows. Assumes nothing.
 use mathlib.Core.Logic.{⊎-elim}
-use mathlib.Core.Path.{_≡_, sym, ap, _∙_}
+use mathlib.Core.Path.{sym, ap, _∙_}
 use native.Mathlib.Omega.{arith}
 use borrow.Author.Needs.{needs}
 use Rattle.tables.specs.Refusals.{verdictOf}

@@ -1,5 +1,5 @@
 -- `answers::modes::judge_picture` meets its contract: the local array holds the atomic users. Assumes nothing.
-use mathlib.Core.Path.{_≡_, refl}
+use mathlib.Core.Path.{refl}
 use borrow.Author.Needs.{needs}
 use Rattle.tables.specs.Rows.{picture, user}
 use Rattle.user_rows.proofs.CallerLaws.{small-arrows}

@@ -1,6 +1,5 @@
 -- `answers::modes::judge_rows` meets its contract: no file of the users before i is unclear. Assumes nothing.
 use mathlib.Core.Path.{_≡_, sym, ap, _∙_}
-use mathlib.Core.List.{List}
 use Prim.Native.Nat.{ℕ, _-_, _<_, _≤_}
 use native.Mathlib.Omega.{arith}
 use borrow.Author.Needs.{needs}
@@ -13,7 +12,7 @@ use Rattle.boxsets.specs.Sets.{isIn}
 use Rattle.meaning.specs.Pairs.{users}
 use Rattle.meaning.proofs.RowPairs.{rows-start}
 use Rattle.user_rows.specs.Steps.{Drawn, Moded, Sorts}
-use Rattle.answers.proofs.AtomLaws.{atoms-there}
+use Rattle.answers.proofs.AtomLaws.{listed-at}
 use Rattle.answers.proofs.RowLaws.{unclear, Clear, clear-more, clear-found, clear-end}
 use Rattle.answers.proofs.modes.judge_rows.Statement.{statement}
 use Rattle.answers.proofs.modes.judge_rows.Tie as tie
@@ -47,11 +46,10 @@ row-sorts : (c : tie.After-sort-row Inv-loop μ-loop) →
     → (c .before .wide .result ≡ getD (users pic) i 0) × (i < length (users pic))
     × Sorts pic (a .mode) (c .before .wide .result) (isIn (a .files)) (c .sort-row .result)
 row-sorts c pic d o us =
-    let i = c .before .before .before .before .loop .i in
-    let is = c .before .wide .ensures ∙ ap (λ (xs : List ℕ). getD xs i 0) us in
-    let there : i < length (users pic) = omega (arith, c .before .before .before .loop-test .taken, ap length us) in
-    let m = c .before .before .before .before .before .before .before .before .before .before .args .mode in
-    (is, there, c .sort-row .ensures pic m d o (rw is (atoms-there (pic .boxes) (pic .rows) user i there)))
+    let a = c .before .before .before .before .before .before .before .before .before .before .args in
+    let at = listed-at (pic .boxes) (pic .rows) user (a .users .now) us (c .before .before .before .before .loop .i) (c .before .wide .result)
+    (c .before .before .before .loop-test .taken) (c .before .wide .ensures) in
+    (at .0, at .1, c .sort-row .ensures pic (a .mode) d o (at .2))
 
 returns : tie.Need-returns Inv-loop μ-loop
 returns c pic d o us fs =

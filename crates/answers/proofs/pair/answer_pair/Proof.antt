@@ -1,5 +1,5 @@
 -- `answers::pair::answer_pair` meets its contract: the local arrays hold the mode's arrows, and the row has one file. Assumes nothing.
-use mathlib.Core.Path.{_≡_, sym, subst}
+use mathlib.Core.Path.{sym, subst}
 use native.Mathlib.Omega.{arith}
 use borrow.Author.Needs.{needs}
 use lib.Dec.{T, eqb-refl}
