@@ -95,11 +95,14 @@ module _ (t : ℕ → Bool) (r : ℕ → Refusal) (pic : Picture) (x : Set) (is 
           let both = and-T (among fs (low x)) (t (low x)) (subst T (is (low x)) (low-in x l)) in
           let c = among-found fs (low x) (both .0) in
           given-true (ltb (low x) 256) (r (low x)) (lt-ltb (low x) 256 l)
-          ∙ sym (first-is at (length fs) (r (low x))
-          (c .0, c .1, rw (c .2) (given-true _ _ (T-true _ (both .1))),
-          λ j k.
-          given-false _ _ (not-false _ (λ h.
-          low-least x (getD fs j 0) (subst (λ (z : ℕ). getD fs j 0 < z) (c .2) (files-rise pic j (c .0) k (c .1))) (held j (omega arith) h)))))
+          ∙ sym (first-is at (length fs) (r (low x)) (
+            c .0,
+            c .1,
+            rw (c .2) (given-true _ _ (T-true _ (both .1))),
+            λ j k.
+                given-false _ _ (not-false _ (λ h.
+                low-least x (getD fs j 0) (subst (λ (z : ℕ). getD fs j 0 < z) (c .2) (files-rise pic j (c .0) k (c .1))) (held j (omega arith) h))),
+          ))
 
 -- it is the row's first unclear pair
 pub row-unclear : (pic : Picture) (m u : ℕ) (fs : List ℕ) (row : Row) (r : Verdict) (w v f : ℕ)

@@ -88,7 +88,11 @@ impl Place {
     fn after(self, lines: usize, unclear: Verdict) -> Self
         requires { ⌜ (self .row < 65536) × (self .line < 1000000) × (lines ≤ 256) ⌝ }
         ensures { λ r. ⌜ r ≡ record {
-            modes = self .modes; used = self .used; row = self .row + 1; line = self .line + lines; seen = either (self .seen) unclear
+          modes = self .modes;
+          used = self .used;
+          row = self .row + 1;
+          line = self .line + lines;
+          seen = either (self .seen) unclear;
         } ⌝ }
     {
         let modes = self.modes;

@@ -158,3 +158,30 @@ module _ (pic : Picture) (m u : ℕ) (closure heads arrows own : List ℕ) (d : 
           (done (λ f t. or-T (isIn (x .negative .files) f) (isIn (x .positive .files) f) (subst T (files-are f) t)))
           f (isIn asked f)
           (files-are f ∙ ap₂ _||_ (near .denying .files-are f) (near .granting .files-are f))
+
+-- where both signs reach none of the asked files, nothing is left to the walk
+module _ (pic : Picture) (m u : ℕ) (x : Around) (asked clash : Set) (near : AroundBy pic m u (isIn asked) x)
+    (none-in : (f : ℕ) → isIn clash f ≡ false) where
+  pub sorted-clear : ((f : ℕ) → isIn clash f ≡ (isIn (x .negative .files) f && isIn (x .positive .files) f))
+      → Sorts pic m u (isIn asked) (record { granted = x .positive .files; unclear = clash })
+  sorted-clear clash-is = record { granted-are = λ f. at f .0; unclear-are = λ f. at f .1 }
+    where
+      never : (f : ℕ) → T (isIn clash f) → ⊥
+      never f t = subst T (none-in f) t
+
+      plain : (b : Bool) (f : ℕ) → b ≡ ((b && not (isIn clash f)) || isIn clash f)
+      plain true f = rw (none-in f)
+      plain false f = rw (none-in f)
+
+      at : (f : ℕ) → (isIn (x .positive .files) f ≡ (isIn asked f && isGranted (answer pic m u f)))
+          × (isIn clash f ≡ (isIn asked f && isUnclear (answer pic m u f)))
+      at f =
+          sort-file pic m u (isIn clash) (isIn clash) (isIn clash) (λ k. 0) (λ k. 0)
+          (record {
+            left-open = λ g t. absurd (never g t);
+            gone-shown = λ g t. absurd (never g t);
+            others = λ g k. (none-in g, refl);
+          })
+          f (isIn asked f) (isIn (x .positive .files) f)
+          (clash-is f ∙ ap₂ _&&_ (near .denying .files-are f) (near .granting .files-are f))
+          (plain (isIn (x .positive .files) f) f ∙ ap (λ (b : Bool). (b && not (isIn clash f)) || isIn clash f) (near .granting .files-are f))

@@ -5,7 +5,7 @@ use mathlib.Core.Logic.{⊎-elim}
 use mathlib.Core.Bool.{Bool, true, false, not, cond, _&&_, _||_}
 use mathlib.Core.List.{List}
 use mathlib.Core.Option.{some}
-use Prim.Native.Nat.{ℕ, _+_, _<_, _≤_}
+use Prim.Native.Nat.{ℕ, _+_, _*_, _<_, _≤_}
 use native.Mathlib.Decide.{ℕ-discrete}
 use native.Mathlib.Omega.{arith}
 use native.Mathlib.Nat.{eq-or-lt-of-le, le-of-suc-le-suc}
@@ -20,11 +20,12 @@ use Rattle.base.proofs.SearchLaws.{lowest-some}
 use Rattle.base.proofs.SelectLaws.{lowest-is}
 use Rattle.tables.specs.Rows.{Picture, arrowCount, arrowAt}
 use Rattle.tables.specs.declared.Arrow.{Arrow}
-use Rattle.boxsets.specs.Sets.{isIn, has, low}
+use Rattle.boxsets.specs.Words.{bitAt}
+use Rattle.boxsets.specs.Sets.{isIn, inWord, has}
 use Rattle.boxsets.specs.declared.Set.{Set}
-use Rattle.boxsets.proofs.WalkLaws.{empty-none, some-low, walk-next, walk-gone}
+use Rattle.boxsets.proofs.JoinLaws.{word-next, word-none, words-in}
 use Rattle.meaning.specs.Meaning.{hasMode, reaches, hits}
-use Rattle.user_rows.specs.Steps.{Drawn, NextNear, Numbered}
+use Rattle.user_rows.specs.Steps.{Drawn, NextNear, NumberedAt, Numbered}
 
 -- ---- the next arrow around a user
 
@@ -73,39 +74,70 @@ module _ (closure arrows own : List ℕ) (user from : ℕ) where
 
 -- ---- the numbers of a set of files
 
--- the number still has to be written for the rest of the files
-pub record Numbering (hit : Set) (number : ℕ) (old : List ℕ) (rest : Set) (new : List ℕ) : Type 0 where
+-- the number still has to be written for the rest of a word
+pub record Numbering (q word number : ℕ) (old : List ℕ) (rest : ℕ) (new : List ℕ) : Type 0 where
   pub len : length new ≡ length old
-  pub each : (f : ℕ) → cond (isIn rest f) number (getD new f 0) ≡ cond (isIn hit f) number (getD old f 0)
+  pub each : (f : ℕ) → cond (inWord q rest f) number (getD new f 0) ≡ cond (inWord q word f) number (getD old f 0)
 
-module _ (hit : Set) (number : ℕ) (old : List ℕ) where
-  pub numbers-none : Numbering hit number old hit old
+-- a number that is there for one of two tests
+cond-or : (e v : Bool) (number z : ℕ) → cond v number (cond e number z) ≡ cond (e || v) number z
+cond-or true true number z = refl
+cond-or true false number z = refl
+cond-or false v number z = refl
+
+module _ (q word number : ℕ) (old : List ℕ) where
+  pub numbers-none : Numbering q word number old word old
   numbers-none = record { len = refl; each = λ f. refl }
 
-  pub numbers-more : (rest next : Set) (new : List ℕ) (at : ℕ) → 256 ≤ length old → at ≡ low rest → eqb (low rest) 256 ≡ false
-      → ((k : ℕ) → isIn next k ≡ (isIn rest k && not (eqb k (low rest)))) → Numbering hit number old rest new
-      → Numbering hit number old next (set new at number)
-  numbers-more rest next new at room e full drop n = record {
-    len = length-set new at number ∙ n .len;
-    each = λ f. rw e (go f (ℕ-discrete f (low rest))) ∙ n .each f;
-  }
-    where
-      there : (low rest < 256) × T (isIn rest (low rest))
-      there = some-low rest full
+  -- the file of the lowest bit that is left
+  module _ (rest next l : ℕ) (new : List ℕ) (found : lowest (bitAt rest) 64 ≡ some l)
+      (bits : (b : ℕ) → bitAt next b ≡ (bitAt rest b && not (eqb b l))) (small : q < 4) (room : 256 ≤ length old)
+      (n : Numbering q word number old rest new) where
+    pub number-there : 64 * q + l < length new
+    number-there = omega (arith, n .len, lowest-some (bitAt rest) 64 l found .0)
 
-      go : (f : ℕ) → Dec (f ≡ low rest) → cond (isIn next f) number (getD (set new (low rest) number) f 0) ≡ cond (isIn rest f) number (getD new f 0)
-      go f (yes i) =
-          let l : low rest < length new = omega (arith, n .len, there .0) in
-          rw (i, walk-gone rest next drop (there .0), T-true (isIn rest (low rest)) (there .1)) (getD-set-same new (low rest) number 0 l)
-      go f (no d) =
-          rw (walk-next rest next drop (there .0) f, ne-eqb f (low rest) d)
-          (ap (λ (x : ℕ). cond (isIn next f) number x) (getD-set-other new (low rest) f number 0 d))
+    pub numbers-more : Numbering q word number old next (set new (64 * q + l) number)
+    numbers-more = record {
+      len = length-set new (64 * q + l) number ∙ n .len;
+      each = λ f.
+          ap (λ (z : ℕ). cond (inWord q next f) number z) (at f (ℕ-discrete f (64 * q + l)))
+          ∙ cond-or (eqb f (64 * q + l)) (inWord q next f) number (getD new f 0)
+          ∙ ap (λ (b : Bool). cond b number (getD new f 0)) (sym (word-next q rest next l found bits f))
+          ∙ n .each f;
+    }
+      where
+        at : (f : ℕ) → Dec (f ≡ 64 * q + l)
+            → getD (set new (64 * q + l) number) f 0 ≡ cond (eqb f (64 * q + l)) number (getD new f 0)
+        at f (yes e) = rw (eq-eqb f (64 * q + l) e, e) (getD-set-same new (64 * q + l) number 0 number-there)
+        at f (no d) = rw (ne-eqb f (64 * q + l) d) (getD-set-other new (64 * q + l) f number 0 d)
 
-  pub numbers-end : (rest : Set) (new : List ℕ) → eqb (low rest) 256 ≡ true → Numbering hit number old rest new → Numbered hit number old new
-  numbers-end rest new e n = record {
+  pub numbers-end : (new : List ℕ) → Numbering q word number old 0 new → NumberedAt (inWord q word) number old new
+  numbers-end new n = record {
     len = n .len;
-    each = λ f. rw (empty-none rest e f) at (n .each f);
+    each = λ f. ap (λ (b : Bool). cond b number (getD new f 0)) (sym (word-none q f)) ∙ n .each f;
   }
+
+-- one set of files after another
+numbered-both : (p r : ℕ → Bool) (number : ℕ) (s t u : List ℕ) → NumberedAt p number s t → NumberedAt r number t u
+    → NumberedAt (λ f. p f || r f) number s u
+numbered-both p r number s t u h g = record {
+  len = g .len ∙ h .len;
+  each = λ f. g .each f ∙ ap (λ (z : ℕ). cond (r f) number z) (h .each f) ∙ cond-or (p f) (r f) number (getD s f 0);
+}
+
+-- the four words of a set
+pub numbered-words : (x : Set) (number : ℕ) (s t u v w : List ℕ)
+    → NumberedAt (inWord 0 (x .a)) number s t → NumberedAt (inWord 1 (x .b)) number t u
+    → NumberedAt (inWord 2 (x .c)) number u v → NumberedAt (inWord 3 (x .d)) number v w → Numbered x number s w
+numbered-words x number s t u v w h₀ h₁ h₂ h₃ =
+    let all =
+    numbered-both (inWord 0 (x .a)) (λ f. inWord 1 (x .b) f || (inWord 2 (x .c) f || inWord 3 (x .d) f)) number s t w h₀
+    (numbered-both (inWord 1 (x .b)) (λ f. inWord 2 (x .c) f || inWord 3 (x .d) f) number t u w h₁
+    (numbered-both (inWord 2 (x .c)) (inWord 3 (x .d)) number u v w h₂ h₃)) in
+    record {
+      len = all .len;
+      each = λ f. all .each f ∙ ap (λ (b : Bool). cond b number (getD s f 0)) (sym (words-in x f));
+    }
 
 -- ---- the granted files, with those of a certificate
 

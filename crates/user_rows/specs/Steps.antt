@@ -118,10 +118,14 @@ pub record NextNear (closure arrows own : List ℕ) (user from r : ℕ) : Type 0
   pub none-between : (i : ℕ) → from ≤ i → i < r → T (has closure (256 + user) (arrowAt arrows (getD own i 0) .tail)) → ⊥
   pub holds : r < length own → T (has closure (256 + user) (arrowAt arrows (getD own r 0) .tail))
 
--- the number stands at each place of the set, and others are as they were
-pub record Numbered (hit : Set) (number : ℕ) (old new : List ℕ) : Type 0 where
+-- the number stands at each place for which the test holds, and others are as they were
+pub record NumberedAt (test : ℕ → Bool) (number : ℕ) (old new : List ℕ) : Type 0 where
   pub len : length new ≡ length old
-  pub each : (f : ℕ) → getD new f 0 ≡ cond (isIn hit f) number (getD old f 0)
+  pub each : (f : ℕ) → getD new f 0 ≡ cond (test f) number (getD old f 0)
+
+-- at each place of the set
+abbrev pub Numbered : (hit : Set) (number : ℕ) (old new : List ℕ) → Type 0
+Numbered hit number old new = NumberedAt (isIn hit) number old new
 
 -- 256 times 65,535
 unfoldable pub blankRow : List ℕ

@@ -8,10 +8,10 @@ ghost use lib.ListN.{length, getD};
 ghost use Rattle.base.specs.Search.{lowest};
 ghost use Rattle.tables.specs.Rows.{Picture, arrowAt, arrowCount};
 ghost use Rattle.meaning.specs.Meaning.{hasMode, hits, answer, numberOf};
-ghost use Rattle.boxsets.specs.Sets.{isIn, has};
+ghost use Rattle.boxsets.specs.Sets.{isIn, inWord, has};
 ghost use Rattle.user_rows.specs.Row.{shows};
 ghost use Rattle.user_rows.specs.Steps.{Small, Numbers, Sized, Drawn, ModeSets, Moded, AroundBy, Walked};
-ghost use Rattle.user_rows.specs.Steps.{Sorts, NextNear, Numbered, blankRow};
+ghost use Rattle.user_rows.specs.Steps.{Sorts, NextNear, NumberedAt, Numbered, blankRow};
 use super::Around;
 use super::Row;
 use super::certificate::arrows_near;
@@ -19,17 +19,18 @@ use super::certificate::certified;
 use base::narrow;
 use base::wide;
 use boxsets::Set;
-use boxsets::dropped;
+use boxsets::drop_bit;
 use boxsets::has;
 use boxsets::is_empty;
 use boxsets::is_in;
 use boxsets::joined;
-use boxsets::lowest;
+use boxsets::low_bit;
 use boxsets::minus;
 use boxsets::nothing;
 use boxsets::shared;
 use meaning::Entry;
 use tables::Arrow;
+use tables::no_boxes;
 
 fn around_user(closure: &[u64], heads: &[u64], user: usize, asked: Set) -> Around
     requires { ⌜ (length (now closure) ≡ 2048) × (length (now heads) ≡ 2056) × (user < 256) ⌝ }
@@ -89,17 +90,28 @@ fn with_granted(granted: Set, hit: Set, sign: u16) -> Set
     granted
 }
 
+// Writes an arrow's number for each file of word q of a set.
+fn put_word(word: u64, q: usize, number: u16, numbers: &mut [u16])
+    requires { ⌜ (q < 4) × (256 ≤ length (now numbers)) ⌝ }
+    ensures { λ _. ⌜ NumberedAt (inWord q word) number (now (numbers .entry)) (now (numbers .exit)) ⌝ }
+{
+    let mut rest = word;
+    while rest != 0 {
+        let f = 64 * q + low_bit(rest);
+        rest = drop_bit(rest);
+        numbers[f] = number;
+    }
+}
+
 // Writes an arrow's number for each file of a set.
 fn put_number(hit: Set, number: u16, numbers: &mut [u16])
     requires { ⌜ 256 ≤ length (now numbers) ⌝ }
     ensures { λ _. ⌜ Numbered hit number (now (numbers .entry)) (now (numbers .exit)) ⌝ }
 {
-    let mut rest = hit;
-    while !is_empty(rest) {
-        let f = lowest(rest);
-        rest = dropped(rest);
-        numbers[f] = number;
-    }
+    put_word(hit.a, 0, number, numbers);
+    put_word(hit.b, 1, number, numbers);
+    put_word(hit.c, 2, number, numbers);
+    put_word(hit.d, 3, number, numbers);
 }
 
 // Walks the mode's arrows around the user in rising order, and takes from the files those at which the arrow is a certificate: it is their
@@ -165,7 +177,13 @@ pub fn sort_row(
     let denied = negative.files;
     let granted = positive.files;
     let clash = shared(denied, granted);
-    let mut numbers = no_row();
+    if is_empty(clash) {
+        return Row {
+            granted,
+            unclear: clash,
+        };
+    }
+    let mut numbers = no_boxes();
     let found = walk(closure, heads, arrows, own, x, clash, &mut numbers);
     let won = found.granted;
     let unclear = found.unclear;
