@@ -1,10 +1,10 @@
 -- One row: its lines one after the other, and its first unclear file as the lowest number of a set. Assumes nothing.
 use mathlib.Core.Path.{_≡_, refl, sym, ap, subst, _∙_}
-use mathlib.Core.Bool.{Bool, true, false, _&&_}
+use mathlib.Core.Bool.{Bool, _&&_}
 use mathlib.Core.List.{List}
 use mathlib.Core.Logic.{⊎-elim}
 use mathlib.Core.Option.{Option}
-use Prim.Native.Nat.{ℕ, _+_, _-_, _*_, _<_, _≤_}
+use Prim.Native.Nat.{ℕ, _+_, _-_, _*_, _<_}
 use native.Mathlib.Omega.{arith}
 use native.Mathlib.Nat.{eq-or-lt-of-le, eq-zero-or-pos}
 use borrow.Author.Tests.{lt-ltb, le-ltb}
@@ -95,11 +95,14 @@ module _ (t : ℕ → Bool) (r : ℕ → Refusal) (pic : Picture) (x : Set) (is 
           let both = and-T (among fs (low x)) (t (low x)) (subst T (is (low x)) (low-in x l)) in
           let c = among-found fs (low x) (both .0) in
           given-true (ltb (low x) 256) (r (low x)) (lt-ltb (low x) 256 l)
-          ∙ sym (first-is at (length fs) (r (low x))
-          (c .0, c .1, rw (c .2) (given-true _ _ (T-true _ (both .1))),
-          λ j k.
-          given-false _ _ (not-false _ (λ h.
-          low-least x (getD fs j 0) (subst (λ (z : ℕ). getD fs j 0 < z) (c .2) (files-rise pic j (c .0) k (c .1))) (held j (omega arith) h)))))
+          ∙ sym (first-is at (length fs) (r (low x)) (
+            c .0,
+            c .1,
+            rw (c .2) (given-true _ _ (T-true _ (both .1))),
+            λ j k.
+                given-false _ _ (not-false _ (λ h.
+                low-least x (getD fs j 0) (subst (λ (z : ℕ). getD fs j 0 < z) (c .2) (files-rise pic j (c .0) k (c .1))) (held j (omega arith) h))),
+          ))
 
 -- it is the row's first unclear pair
 pub row-unclear : (pic : Picture) (m u : ℕ) (fs : List ℕ) (row : Row) (r : Verdict) (w v f : ℕ)

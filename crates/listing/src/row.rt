@@ -28,7 +28,7 @@ fn answers_of(
     ensures { λ r. ⌜ ((pic : Picture) → Drawn pic (now (closure .entry)) → now (arrows .entry) ≡ pic .arrows
         → user < length (pic .boxes) → Sorts pic mode user (among (now (files .entry))) r
         × ((i : ℕ) → i < length (now (files .entry)) → getD (now (numbers .exit)) (getD (now (files .entry)) i 0) 0
-            ≡ numberOf (answer pic mode user (getD (now (files .entry)) i 0)))) ⌝ }
+        ≡ numberOf (answer pic mode user (getD (now (files .entry)) i 0)))) ⌝ }
 {
     let mut own = user_rows::no_numbers();
     let mut heads = user_rows::no_heads();

@@ -1,7 +1,6 @@
 -- What the program hands on: the atomic boxes as parts of buffers, and a picture that passed all checks. Assumes nothing.
 use mathlib.Core.Path.{_≡_, refl, sym, ap, _∙_}
 use mathlib.Core.List.{List}
-use mathlib.Core.Option.{Option}
 use Prim.Native.Nat.{ℕ, _*_, _≤_}
 use native.Mathlib.Omega.{arith}
 use lib.ListN.{length, take}
@@ -9,7 +8,7 @@ use Rattle.base.specs.Buffers.{zeros}
 use Rattle.base.specs.Search.{orElse}
 use Rattle.base.proofs.BufferLaws.{zeros-length}
 use Rattle.base.proofs.PartLaws.{Wrote, part-is, part-length, part-within}
-use Rattle.tables.specs.Rows.{Picture, picture, user, file}
+use Rattle.tables.specs.Rows.{picture, user, file}
 use Rattle.tables.specs.Atoms.{atoms}
 use Rattle.tables.specs.Refusals.{verdictOf}
 use Rattle.tables.specs.Steps.{SoundRows}

@@ -34,7 +34,6 @@ loop-holds c =
     let start = c .before .before .before .before .before .before in
     (start .pre .0 .1, c .row-count .ensures, refl, λ pic d s. filling-none s)
 
-
 -- there is a mode and a user for the row
 there : (c : tie.Then1 Inv-loop μ-loop) → let p = c .before .before .loop .place in
     let us = c .before .before .before .before .before .before .before .before .before .args .users .now in

@@ -19,13 +19,15 @@ module _ (early : tie.After-early-picture) where
 prepare-requires : tie.Need-prepare-requires
 prepare-requires c κs =
     let early = c .before .before in
-    let a = start early .args in
-    (early-passed (a .boxes .now) (a .rows .now) (a .arrows .now) (scratch early .large-buffer .result) (early .early-picture .ensures),
-    early .before .before .no-closure .ensures)
+    let a = start early .args in (
+      early-passed (a .boxes .now) (a .rows .now) (a .arrows .now) (scratch early .large-buffer .result) (early .early-picture .ensures),
+      early .before .before .no-closure .ensures,
+    )
 
 -- the verdict is by all checks
-told : (c : tie.After-prepare) → let a = start (c .before .before .before) .args in
-    c .prepare .result ≡ verdictOf (pictureFault (picture (a .boxes .now) (a .rows .now) (a .arrows .now)) (scratch (c .before .before .before) .large-buffer .result))
+told : (c : tie.After-prepare) → let early = c .before .before .before in let a = start early .args in
+    c .prepare .result
+    ≡ verdictOf (pictureFault (picture (a .boxes .now) (a .rows .now) (a .arrows .now)) (scratch early .large-buffer .result))
 told c =
     let early = c .before .before .before in
     let a = start early .args in
@@ -44,9 +46,10 @@ list-picture-requires c κs =
     let prepared = c .before .before .before .before .before in
     let early = prepared .before .before .before in
     let a = start early .args in
-    let pass = c .before .enum-told .given .1 in
-    (picture-good _ (start early .pre) (scratch early .large-buffer .ensures) (told prepared) pass,
-    drawn (a .boxes .now) (a .rows .now) (a .arrows .now) _ (told prepared) pass (prepared .prepare .ensures .1 pass))
+    let pass = c .before .enum-told .given .1 in (
+      picture-good _ (start early .pre) (scratch early .large-buffer .ensures) (told prepared) pass,
+      drawn (a .boxes .now) (a .rows .now) (a .arrows .now) _ (told prepared) pass (prepared .prepare .ensures .1 pass),
+    )
 
 pub list-tables-spec : {M : Type 1} → statement M
 list-tables-spec =

@@ -1,6 +1,5 @@
 -- `rights::send_lines` meets its contract: the first line, the rows and the last line are all lines. Assumes nothing.
-use mathlib.Core.Path.{_≡_, sym}
-use mathlib.Core.Bool.{false}
+use mathlib.Core.Path.{_≡_}
 use Prim.Native.Nat.{ℕ}
 use native.Mathlib.Omega.{arith}
 use Rattle.listing.specs.Files.{filePicture}
