@@ -6,7 +6,7 @@ use Prim.Native.Nat.{ℕ, _<_, _≤_}
 use native.Mathlib.Omega.{arith}
 use lib.Dec.{T}
 use lib.ListN.{length, getD, take}
-use Rattle.base.specs.Buffers.{written, zeros}
+use Rattle.base.specs.Buffers.{zeros}
 use Rattle.base.proofs.BufferLaws.{zeros-length}
 use Rattle.base.proofs.PartLaws.{Wrote, part-is, part-length, part-within}
 use Rattle.tables.specs.Rows.{Picture}

@@ -1,6 +1,6 @@
 -- Whole rows one after the other in a buffer. Assumes nothing.
 use mathlib.Core.Path.{_≡_, refl, _∙_}
-use mathlib.Core.List.{List, [], _++_}
+use mathlib.Core.List.{List, []}
 use Prim.Native.Nat.{ℕ, _+_, _-_, _*_, _/_, _%_, _<_, _≤_}
 use native.Mathlib.Omega.{arith}
 use lib.ListN.{length, getD}
@@ -9,7 +9,7 @@ use Rattle.tables.specs.Refusals.{either}
 use Rattle.meaning.specs.Pairs.{users, files}
 use Rattle.blocks.proofs.JoinedLaws.{joined-none}
 use Rattle.listing.specs.Lines.{lineText}
-use Rattle.listing.specs.Numbered.{usedModes, lineRows, rowStart, lineAt, linesFrom}
+use Rattle.listing.specs.Numbered.{usedModes, lineRows, lineAt, linesFrom}
 use Rattle.listing.specs.Steps.{Put, Ready, Stands, RowPut, Filled, rowText}
 use Rattle.listing.specs.declared.Line.{Line}
 use Rattle.listing.specs.declared.Place.{Place}

@@ -18,18 +18,16 @@ use Rattle.tables.proofs.Verdicts.{passed, refused}
 use Rattle.containment.specs.Scratch.{pictureFault}
 use Rattle.containment.proofs.PictureLaws.{picture-room}
 use Rattle.meaning.specs.Cases.{picture-B}
-use Rattle.blocks.specs.Files.{boxesOf, containmentsOf, arrowsOf}
 use Rattle.blocks.specs.Reads.{readFault, ReadDone}
 use Rattle.blocks.specs.declared.Counts.{Counts as Three}
 use Rattle.blocks.specs.declared.Reading.the-variants.{Tables, Refused as Stops}
 use Rattle.blocks.proofs.Made.{joined-same}
-use Rattle.blocks.proofs.JoinedLaws.{joined-none, joined-more}
 use Rattle.blocks.proofs.Rooms.{read-stopped, read-tables}
 use Rattle.listing.specs.Text.{text}
 use Rattle.listing.specs.Lines.{lineText}
 use Rattle.listing.specs.Listing.{countsLine, pictureListing}
 use Rattle.listing.specs.Files.{filePicture, readRefusal, pictureRefusal, fileRefusal, refusedOr, fileListing}
-use Rattle.listing.specs.Numbered.{pairLines, lineCount, lineAt, lineRows, linesFrom, stoppedOr, oneOr, fileLineCount, fileLine}
+use Rattle.listing.specs.Numbered.{lineCount, lineAt, lineRows, linesFrom, stoppedOr, oneOr, fileLineCount, fileLine}
 use Rattle.listing.specs.Steps.{Holds, Stands, Filled, Read, Good}
 use Rattle.listing.specs.Cases.{case-B}
 use Rattle.listing.specs.declared.Line.{Line}

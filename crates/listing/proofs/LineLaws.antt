@@ -2,7 +2,7 @@
 use mathlib.Core.Path.{_≡_, refl, sym, ap, _∙_}
 use mathlib.Core.List.{List}
 use mathlib.Core.Option.{Option, none}
-use Prim.Native.Nat.{ℕ, zero, suc, _+_, _-_, _*_, _/_, _%_, _<_, _≤_}
+use Prim.Native.Nat.{ℕ, zero, suc, _+_, _-_, _*_, _/_, _%_, _<_}
 use native.Mathlib.Omega.{arith}
 use native.Mathlib.Nat.{add-mul, mul-assoc}
 use native.Mathlib.Numerals.{add-one}
@@ -17,8 +17,7 @@ use Rattle.tables.specs.Refusals.{verdictOf, either}
 use Rattle.tables.specs.declared.Refusal.{Refusal}
 use Rattle.tables.specs.declared.Verdict.the-variants.{Passed}
 use Rattle.tables.proofs.Verdicts.{either-verdict}
-use Rattle.meaning.specs.Meaning.{answer}
-use Rattle.meaning.specs.Pairs.{users, files, pairs, userAt, fileAt, answerAt, anyUnclear}
+use Rattle.meaning.specs.Pairs.{users, files, pairs, userAt, fileAt, anyUnclear}
 use Rattle.meaning.proofs.ModeLaws.{answer-at}
 use Rattle.meaning.proofs.PairLaws.{place-in, pairs-are, user-read, file-read}
 use Rattle.blocks.proofs.Made.{joined-same}

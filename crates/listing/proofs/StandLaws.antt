@@ -1,5 +1,5 @@
 -- A place among the rows: the first, and what it says of a row. Assumes nothing.
-use mathlib.Core.Path.{_≡_, refl, sym, ap, _∙_}
+use mathlib.Core.Path.{_≡_, sym, _∙_}
 use mathlib.Core.List.{List}
 use Prim.Native.Nat.{ℕ, _+_, _*_, _/_, _%_, _<_, _≤_}
 use native.Mathlib.Omega.{arith}
@@ -17,7 +17,7 @@ use Rattle.tables.proofs.AtomPlaces.{atoms-found, atom-there, atoms-most}
 use Rattle.meaning.specs.Pairs.{users, files}
 use Rattle.meaning.proofs.PairLaws.{place-in}
 use Rattle.user_rows.proofs.CallerLaws.{small-arrows}
-use Rattle.listing.specs.Numbered.{usedModes, lineRows, rowStart, seenBefore}
+use Rattle.listing.specs.Numbered.{usedModes, lineRows, rowStart}
 use Rattle.listing.specs.Steps.{Sized, Fits, Ready, Stands, userUnclear}
 use Rattle.listing.specs.declared.Place.{Place}
 use Rattle.listing.proofs.LineLaws.{row-next, row-seen, seen-none}

@@ -2,8 +2,8 @@
 use mathlib.Core.Path.{_≡_, refl, sym, ap, ap₂, _∙_}
 use mathlib.Core.Bool.{Bool, true, false, cond}
 use mathlib.Core.List.{List, [], _++_}
-use mathlib.Core.Option.{Option, none}
-use Prim.Native.Nat.{ℕ, _+_, _-_, _*_, _/_, _%_, _<_, _≤_}
+use mathlib.Core.Option.{none}
+use Prim.Native.Nat.{ℕ, _+_, _-_, _*_, _/_, _%_}
 use native.Mathlib.Omega.{arith}
 use native.Mathlib.Nat.{zero-add, add-assoc}
 use borrow.Author.Tests.{ltb-false}
@@ -11,7 +11,6 @@ use lib.ListN.{length, getD}
 use Rattle.tables.specs.Rows.{Picture}
 use Rattle.base.specs.Search.{first, orElse, select}
 use Rattle.tables.specs.Refusals.{verdictOf}
-use Rattle.tables.specs.declared.Refusal.{Refusal}
 use Rattle.base.proofs.FoldLaws.{fold, fold-same, fold-add, fold-grid, fold-select, first-fold, orElse-chains}
 use Rattle.meaning.specs.Pairs.{files, pairs, unclearFault, anyUnclear}
 use Rattle.meaning.specs.Meaning.{modeArrows}
@@ -21,7 +20,7 @@ use Rattle.blocks.specs.Blocks.{joined}
 use Rattle.blocks.proofs.Made.{joined-same}
 use Rattle.blocks.proofs.JoinedLaws.{joined-none, joined-more, joined-fold, append-chains}
 use Rattle.listing.specs.Lines.{lineText}
-use Rattle.listing.specs.Listing.{used, countsLine, pairLine, modeText, pictureListing}
+use Rattle.listing.specs.Listing.{used, pairLine, modeText, pictureListing}
 use Rattle.listing.specs.Numbered.{usedModes, pairLines, modeOf, pairOf, unclearIn, unclearOf, seenBefore}
 use Rattle.listing.specs.Numbered.{lineCount, lineAt, lineRows, rowStart, linesFrom}
 use Rattle.listing.specs.Steps.{Stands}

@@ -1,6 +1,5 @@
 -- What the functions ask of and promise each other. Assumes nothing.
 use mathlib.Core.Path.{_≡_}
-use mathlib.Core.Bool.{Bool}
 use mathlib.Core.List.{List}
 use mathlib.Core.Option.{Option, none}
 use Prim.Native.Nat.{ℕ, _+_, _*_, _-_, _<_, _≤_}
@@ -42,6 +41,7 @@ pub record Holds (text old new : List ℕ) (count : ℕ) : Type 0 where
 
 -- ---- what keeps every index in range
 
+-- each number is below 256
 abbrev pub Bytes : List ℕ → Type 0
 Bytes xs = (i : ℕ) → i < length xs → getD xs i 0 < 256
 

@@ -4,12 +4,11 @@ mod put;
 mod row;
 
 ghost use mathlib.Core.Path.{_≡_};
-ghost use mathlib.Core.List.{List};
-ghost use Prim.Native.Nat.{ℕ, _+_, _*_, _<_, _≤_};
+ghost use Prim.Native.Nat.{_+_, _*_, _<_, _≤_};
 ghost use lib.ListN.{length};
 ghost use Rattle.base.specs.Buffers.{written};
 ghost use Rattle.tables.specs.Refusals.{either};
-ghost use Rattle.tables.specs.Rows.{Picture, arrowCount};
+ghost use Rattle.tables.specs.Rows.{Picture};
 ghost use Rattle.listing.specs.Lines.{lineText};
 ghost use Rattle.listing.specs.Listing.{used};
 ghost use Rattle.listing.specs.Numbered.{usedModes};

@@ -8,7 +8,7 @@ use native.Mathlib.Omega.{arith}
 use native.Mathlib.Nat.{eq-zero-or-pos}
 use mathlib.Core.Logic.{⊎-elim}
 use lib.Dec.{eqb→eq}
-use lib.ListN.{length, getD}
+use lib.ListN.{length}
 use Rattle.base.specs.Search.{select}
 use Rattle.base.proofs.SelectLaws.{select-found, select-has}
 use Rattle.base.proofs.Tests.{T-eqb}

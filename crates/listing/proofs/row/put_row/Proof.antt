@@ -1,5 +1,5 @@
 -- `listing::row::put_row` meets its contract: the lines of the files so far stand behind each other. Assumes nothing.
-use mathlib.Core.Path.{_≡_, refl, sym, _∙_}
+use mathlib.Core.Path.{_≡_, refl, _∙_}
 use Prim.Native.Nat.{ℕ, _+_, _*_, _-_, _<_, _≤_}
 use native.Mathlib.Omega.{arith}
 use lib.ListN.{length, getD}
@@ -131,5 +131,5 @@ returns c =
 pub put-row-spec : {M : Type 1} → statement M
 put-row-spec =
     tie.close (tie.spec Inv-loop μ-loop (λ c κs. search needs) (λ c κs. search needs) (λ c. search needs) answers-of-requires loop-holds
-    (λ c. search needs) (λ c. search needs) (λ c κs. search needs) mul-entry-of file-small entry-of-requires put-line-requires add-i (λ c. search needs) loop-again (λ c κs. search needs) (λ c κs. search needs)
-    (λ c κs. search needs) same-length returns)
+    (λ c. search needs) (λ c. search needs) (λ c κs. search needs) mul-entry-of file-small entry-of-requires put-line-requires add-i
+    (λ c. search needs) loop-again (λ c κs. search needs) (λ c κs. search needs) (λ c κs. search needs) same-length returns)
