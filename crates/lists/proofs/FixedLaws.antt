@@ -13,10 +13,9 @@ use lib.Dec.{T, eqb, eqb→eq}
 use lib.ListN.{length, getD, take, length-append, List·getD-append}
 use lib.Seq.{take-suc, take-length, take-append-le, take-at, getD-append-seam}
 use Rattle.tables.specs.Rows.{Picture, arrowCount, arrowAt}
-use Rattle.tables.specs.Atoms.{pairCount}
 use Rattle.tables.specs.declared.Arrow.{Arrow}
 use Rattle.tables.specs.declared.Refusal.{Refusal}
-use Rattle.meaning.specs.Pairs.{userAt, fileAt}
+use Rattle.meaning.specs.Pairs.{pairs, userAt, fileAt}
 use Rattle.lists.specs.Order.{anyOf, ofMode, meets, right}
 use Rattle.lists.specs.Greedy.{next, addable, listTo, greedy, orderFault}
 use Rattle.lists.specs.Condition.{Reaches}

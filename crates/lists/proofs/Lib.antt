@@ -4,3 +4,7 @@ pub mod MatchLaws
 pub mod GreedyLaws
 pub mod NextLaws
 pub mod OrderLaws
+pub mod CallLaws
+pub mod ConditionLaws
+pub mod FixedLaws
+pub mod SameLists

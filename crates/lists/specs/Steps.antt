@@ -1,6 +1,6 @@
 -- What the functions ask of and promise each other: how the list is found. Assumes nothing.
 use mathlib.Core.Path.{_≡_}
-use mathlib.Core.Bool.{Bool, true, false, not, _&&_}
+use mathlib.Core.Bool.{Bool, true, false, not, cond, _&&_}
 use mathlib.Core.List.{List}
 use mathlib.Core.Option.{Option, none}
 use Prim.Native.Nat.{ℕ, _*_, _<_, _≤_}
@@ -26,11 +26,7 @@ someIn users files test = anyBelow (λ u. isIn users u && anyBelow (λ f. isIn f
 
 -- the pair is left, and an arrow of the sign would give it the wrong answer
 unfoldable pub wrongAt : (left granted : List ℕ) (sign u f : ℕ) → Bool
-wrongAt left granted sign u f = has left u f && not (eqbBool (has granted u f) (eqb sign positive))
-  where
-    eqbBool : Bool → Bool → Bool
-    eqbBool true b = b
-    eqbBool false b = not b
+wrongAt left granted sign u f = has left u f && cond (eqb sign positive) (not (has granted u f)) (has granted u f)
 
 -- an arrow is blocked if it would give a pair that is left the wrong answer, spent if it reaches no pair that is left, else free
 unfoldable pub standingOf : (wrong new : Bool) → Standing
@@ -44,7 +40,13 @@ standingBy closure left granted a =
     standingOf (someIn (setAt closure (a .tail)) (setAt closure (a .head)) (wrongAt left granted (a .sign)))
     (someIn (setAt closure (a .tail)) (setAt closure (a .head)) (has left))
 
--- a place of the numbers that is done is that of a spent arrow
+-- the mark of a place of the numbers: 1 if its arrow is spent, 2 if it is free
+unfoldable pub markOf : Standing → ℕ
+markOf Blocked = 0
+markOf Spent = 1
+markOf Free = 2
+
+-- a place that is marked is that of a spent arrow
 abbrev pub Done : (closure arrows own left granted done : List ℕ) → Type 0
 Done closure arrows own left granted done =
     (i : ℕ) → i < length own → (getD done i 0 ≡ 0 → ⊥) → standingBy closure left granted (arrowAt arrows (getD own i 0)) ≡ Spent
