@@ -8,3 +8,6 @@ pub mod CallLaws
 pub mod ConditionLaws
 pub mod FixedLaws
 pub mod SameLists
+pub mod StandLaws
+pub mod FreeLaws
+pub mod GrowLaws
