@@ -9,7 +9,8 @@ use native.Mathlib.Omega.{arith}
 use lib.Dec.{T, T-not, not-T, ltb, ltb→lt}
 use lib.ListN.{length}
 use Rattle.base.specs.Search.{every, lowest, select}
-use Rattle.tables.specs.Rows.{Picture, arrowCount}
+use Rattle.tables.specs.Rows.{Picture, arrowCount, arrowAt}
+use Rattle.tables.specs.declared.Arrow.{Arrow}
 use Rattle.meaning.specs.Meaning.{hasMode, modeArrows}
 use Rattle.meaning.specs.Pairs.{pairs}
 use Rattle.lists.specs.Order.{anyOf, allOf, passes, distinct, firstOf, ofMode, meets, reached, right, honest}
@@ -136,6 +137,14 @@ module _ (pic : Picture) (m : ℕ) where
   addable-is l k o f p b r n =
       T-and (ofMode (pic .arrows) m k) _ o
       (T-and (fits pic m l k) _ (fits-is l k f) (not-nowhere (new pic l k) (pairs pic) p b (is-new l k p r n)))
+
+  -- an arrow with the same ends, mode and sign can be added too
+  pub addable-same : (l : List ℕ) (j k : ℕ) → arrowAt (pic .arrows) j ≡ arrowAt (pic .arrows) k → T (ofMode (pic .arrows) m j)
+      → T (addable pic m l k) → T (addable pic m l j)
+  unfolding meets right
+  addable-same l j k e o t =
+      let n = adds-new l k t in
+      addable-is l j o (rw (e, ap (λ (a : Arrow). a .sign) e) (adds l k t .1)) (n .0) (n .1) (rw e (n .2)) (n .3)
 
   -- no arrow can be added: the list is full
   pub full : (l : List ℕ) → ((k : ℕ) → T (addable pic m l k) → ⊥) → Full (pairs pic) R Right (ofMode (pic .arrows) m) l

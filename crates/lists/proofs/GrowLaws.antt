@@ -208,7 +208,8 @@ module _ (pic : Picture) (closure : List ℕ) (drawn : Drawn pic closure) where
       each = λ u f b.
           t .each u f
           ∙ rw (tl .each u f b, ends-in k there u f, anyOf-snoc)
-          (regroup (atom (pic .boxes) (pic .rows) user u && atom (pic .boxes) (pic .rows) file f) _ (reaches pic (arrowAt (pic .arrows) k) u f));
+          (regroup (atom (pic .boxes) (pic .rows) user u && atom (pic .boxes) (pic .rows) file f)
+          (anyOf (λ j. reaches pic (arrowAt (pic .arrows) j) u f) l) (reaches pic (arrowAt (pic .arrows) k) u f));
     }
       where
         regroup : (a r t : Bool) → ((a && not r) && not t) ≡ (a && not (r || t))

@@ -11,3 +11,5 @@ pub mod SameLists
 pub mod StandLaws
 pub mod FreeLaws
 pub mod GrowLaws
+pub mod OwnLaws
+pub mod TurnLaws

@@ -14,7 +14,11 @@ use Rattle.tables.specs.declared.Arrow.{Arrow}
 use Rattle.meaning.specs.Meaning.{positive, reaches, answer, isGranted}
 use Rattle.boxsets.specs.Sets.{isIn, setAt, has}
 use Rattle.boxsets.specs.declared.Set.{Set}
+use Rattle.meaning.specs.Pairs.{unclearFault}
+use Rattle.user_rows.specs.Row.{ownArrows}
+use Rattle.user_rows.specs.Steps.{Drawn}
 use Rattle.lists.specs.Order.{anyOf}
+use Rattle.lists.specs.Greedy.{greedy}
 use Rattle.lists.specs.declared.Standing.{Standing}
 use Rattle.lists.specs.declared.Standing.the-variants.{Blocked, Spent, Free}
 
@@ -81,3 +85,17 @@ unreached pic l u f = not (anyOf (λ k. reaches pic (arrowAt (pic .arrows) k) u 
 -- the pair is granted
 abbrev pub grantedTo : (pic : Picture) (mode u f : ℕ) → Bool
 grantedTo pic mode u f = isGranted (answer pic mode u f)
+
+-- a picture with no unclear pair in the mode, its closure, the mode's arrows without repeats, and the granted files
+pub record Clear (pic : Picture) (mode : ℕ) (closure arrows own granted : List ℕ) : Type 0 where
+  pub drawn : Drawn pic closure
+  pub arrows-are : arrows ≡ pic .arrows
+  pub own-are : own ≡ ownArrows (pic .arrows) mode
+  pub clear : unclearFault pic mode ≡ none
+  pub says : Table pic (grantedTo pic mode) granted
+
+-- the list stands in the first places, and what is left is what it does not reach
+pub record Ordered (pic : Picture) (mode : ℕ) (old : List ℕ) (count : ℕ) (out left : List ℕ) : Type 0 where
+  pub counted : count ≡ length (greedy pic mode)
+  pub listed : out ≡ written (greedy pic mode) old
+  pub shown : Table pic (unreached pic (greedy pic mode)) left

@@ -3,18 +3,15 @@
 ghost use mathlib.Core.Path.{_≡_};
 ghost use mathlib.Core.Bool.{not, cond, _&&_};
 ghost use mathlib.Core.List.{[]};
-ghost use mathlib.Core.Option.{none};
 ghost use Prim.Native.Nat.{ℕ, _≤_, _<_};
 ghost use lib.Dec.{eqb};
 ghost use lib.ListN.{length};
-ghost use Rattle.base.specs.Buffers.{written, zeros};
+ghost use Rattle.base.specs.Buffers.{zeros};
 ghost use Rattle.tables.specs.Rows.{Picture, arrowCount, arrowAt};
-ghost use Rattle.boxsets.specs.Sets.{isIn, has};
-ghost use Rattle.user_rows.specs.Row.{ownArrows};
-ghost use Rattle.user_rows.specs.Steps.{Small, Numbers, Drawn};
-ghost use Rattle.meaning.specs.Pairs.{unclearFault};
-ghost use Rattle.lists.specs.Greedy.{greedy};
-ghost use Rattle.lists.specs.Steps.{someIn, wrongAt, standingOf, standingBy, markOf, Done, NextFree, Takes, Table, unreached, grantedTo};
+ghost use Rattle.boxsets.specs.Sets.{isIn, setAt, has};
+ghost use Rattle.user_rows.specs.Steps.{Small, Numbers};
+ghost use Rattle.lists.specs.Steps.{someIn, wrongAt, standingOf, standingBy, markOf, Done, NextFree, Takes, Table};
+ghost use Rattle.lists.specs.Steps.{unreached, Clear, Ordered};
 use super::Standing;
 use base::wide;
 use boxsets::Set;
@@ -148,6 +145,18 @@ fn take_files(users: Set, files: Set, left: &mut [u64])
     }
 }
 
+// Takes the pairs of arrow k from what is left.
+fn take_arrow(closure: &[u64], arrows: &[u16], k: usize, left: &mut [u64])
+    requires { ⌜ (length (now closure) ≡ 2048) × (length (now left) ≡ 1024) × Small (now arrows) × (k < arrowCount (now arrows)) ⌝ }
+    ensures { λ _. ⌜ Takes (setAt (now (closure .entry)) (arrowAt (now (arrows .entry)) k .tail))
+        (setAt (now (closure .entry)) (arrowAt (now (arrows .entry)) k .head)) (now (left .entry)) (now (left .exit)) ⌝ }
+{
+    let a = Arrow::at(arrows, k);
+    let users = set_at(closure, wide(a.tail));
+    let files = set_at(closure, wide(a.head));
+    take_files(users, files, left);
+}
+
 // Writes the list and answers its length: at each place the lowest arrow that is free, until there is none. `left` has all pairs at the
 // start, and at the end those that the list does not reach.
 pub fn order(
@@ -160,11 +169,10 @@ pub fn order(
 ) -> usize
     requires { ⌜ (length (now closure) ≡ 2048) × (length (now left) ≡ 1024) × (length (now granted) ≡ 1024) ⌝ }
     requires { ⌜ Small (now arrows) × Numbers (now arrows) (now own) × (length (now own) ≤ 512) × (length (now own) ≤ length (now out)) ⌝ }
-    ensures { λ r. ⌜ ((pic : Picture) (m : ℕ) → Drawn pic (now (closure .entry)) → now (arrows .entry) ≡ pic .arrows
-        → now (own .entry) ≡ ownArrows (pic .arrows) m → unclearFault pic m ≡ none
-        → Table pic (unreached pic []) (now (left .entry)) → Table pic (grantedTo pic m) (now (granted .entry))
-        → (r ≡ length (greedy pic m)) × (now (out .exit) ≡ written (greedy pic m) (now (out .entry)))
-        × Table pic (unreached pic (greedy pic m)) (now (left .exit))) ⌝ }
+    ensures { λ r. ⌜ ((pic : Picture) (m : ℕ)
+        → Clear pic m (now (closure .entry)) (now (arrows .entry)) (now (own .entry)) (now (granted .entry))
+        → Table pic (unreached pic []) (now (left .entry))
+        → Ordered pic m (now (out .entry)) r (now (out .exit)) (now (left .exit))) ⌝ }
 {
     let mut done = no_marks();
     let mut count = 0;
@@ -173,15 +181,9 @@ pub fn order(
         if own.len() <= i {
             return count;
         }
-        let k = own[i];
-        out[count] = k;
+        out[count] = own[i];
         count += 1;
-        let a = Arrow::at(arrows, wide(k));
-        take_files(
-            set_at(closure, wide(a.tail)),
-            set_at(closure, wide(a.head)),
-            left,
-        );
+        take_arrow(closure, arrows, wide(own[i]), left);
     }
     count
 }
