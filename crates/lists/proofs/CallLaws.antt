@@ -1,12 +1,14 @@
 -- What the call answers and leaves, stage by stage. Assumes nothing.
-use mathlib.Core.Path.{_≡_, refl}
+use mathlib.Core.Path.{_≡_, refl, ap, _∙_}
 use mathlib.Core.List.{List}
 use mathlib.Core.Option.{Option, none, some}
 use Prim.Native.Nat.{ℕ, _*_, _<_, _≤_}
-use lib.ListN.{length}
+use native.Mathlib.Omega.{arith}
+use lib.ListN.{length, length-replicate}
 use Rattle.base.specs.Search.{orElse}
 use Rattle.base.specs.Buffers.{written}
 use Rattle.base.proofs.Options.{past}
+use Rattle.base.proofs.BufferLaws.{written-over}
 use Rattle.tables.specs.Rows.{Picture}
 use Rattle.tables.specs.Faults.{tableFault, modeFault, roomFault}
 use Rattle.tables.specs.declared.Refusal.{Refusal}
@@ -18,6 +20,8 @@ use Rattle.lists.specs.Greedy.{greedy, orderFault}
 use Rattle.lists.specs.Calls.{blanks, listRoom, listEarly, listedOf, placesOf, listAnswer, listAfter}
 use Rattle.lists.specs.declared.Listed.{Listed}
 use Rattle.lists.specs.declared.Listed.the-variants.{Written, Refused}
+use Rattle.lists.proofs.GreedyLaws.{mode-room}
+use Rattle.lists.proofs.NextLaws.{greedy-grown}
 
 module _ (pic : Picture) (m : ℕ) where
   -- what is answered and left by the list places, where checks 1 to 12 found nothing
@@ -59,3 +63,25 @@ module _ (pic : Picture) (m : ℕ) where
           out-room = room-passed 3 (length out) (listRoom pic m) (c .0);
           work-room = room-passed 4 (length work) (pairs pic) (c .1);
         }
+
+-- ---- check 13
+
+module _ (pic : Picture) (m : ℕ) (count : ℕ) (out old : List ℕ) (counted : count ≡ length (greedy pic m)) (listed : out ≡ written (greedy pic m) old) where
+  -- nothing is left: the list is the answer
+  pub finish-written : orderFault pic m ≡ none → Answered pic m (Written count) old out
+  finish-written e = rw (counted, listed) (answered-list pic m e old)
+
+  -- a pair is left: 65,535 in each needed place
+  pub finish-refused : (x : Refusal) → orderFault pic m ≡ some x → (need : ℕ) → need ≡ listRoom pic m → need ≤ length old
+      → Answered pic m (Refused x) old (written (blanks need) out)
+  unfolding blanks
+  finish-refused x e need is room =
+      let n : length (blanks need) ≡ need = length-replicate {A = ℕ} need 65535 in
+      let short = mode-room pic m (greedy pic m) (greedy-grown pic m) in
+      let a = answered-none pic m x e old in (
+        a .0,
+        ap (written (blanks need)) listed
+            ∙ written-over (blanks need) (greedy pic m) old (omega (arith, short)) (omega arith)
+            ∙ ap (λ (k : ℕ). written (blanks k) old) is
+            ∙ a .1,
+      )

@@ -13,3 +13,4 @@ pub mod FreeLaws
 pub mod GrowLaws
 pub mod OwnLaws
 pub mod TurnLaws
+pub mod LeftLaws
