@@ -7,11 +7,13 @@ use native.Mathlib.Omega.{arith}
 use lib.ListN.{length, length-replicate}
 use Rattle.base.specs.Search.{orElse}
 use Rattle.base.specs.Buffers.{written}
-use Rattle.base.proofs.Options.{past}
+use Rattle.base.proofs.Options.{past, orElse-assoc}
 use Rattle.base.proofs.BufferLaws.{written-over}
 use Rattle.tables.specs.Rows.{Picture}
+use Rattle.tables.specs.Refusals.{verdictOf, either}
 use Rattle.tables.specs.Faults.{tableFault, modeFault, roomFault}
 use Rattle.tables.specs.declared.Refusal.{Refusal}
+use Rattle.tables.proofs.Verdicts.{either-verdict}
 use Rattle.tables.proofs.TableLaws.{both-none, mode-passed, room-passed}
 use Rattle.containment.specs.Scratch.{scratchFault}
 use Rattle.containment.proofs.ScratchLaws.{scratch-room}
@@ -41,6 +43,13 @@ module _ (pic : Picture) (m : ℕ) where
   -- ---- checks 1 to 9
 
   module _ (s out work : List ℕ) where
+    -- checks 8 and 9, one after the other
+    pub asked-is : either (either (either (verdictOf (modeFault m)) (verdictOf (scratchFault (length (pic .boxes)) s)))
+        (verdictOf (roomFault 3 (length out) (listRoom pic m)))) (verdictOf (roomFault 4 (length work) (pairs pic)))
+        ≡ verdictOf (orElse (modeFault m) (orElse (scratchFault (length (pic .boxes)) s)
+        (orElse (roomFault 3 (length out) (listRoom pic m)) (roomFault 4 (length work) (pairs pic)))))
+    asked-is = simp (either-verdict, orElse-assoc)
+
     -- where they pass, the mode is one and there is room
     pub record Rooms : Type 0 where
       pub no-fault : tableFault pic ≡ none
