@@ -2,6 +2,7 @@
 pub mod WordLaws
 pub mod LowBitLaws
 pub mod MemberLaws
+pub mod LeastLaws
 pub mod LowLaws
 pub mod WalkLaws
 pub mod AmongLaws

@@ -1,10 +1,9 @@
 -- The lowest number of a set, and the set without it. Assumes nothing.
-use mathlib.Core.Path.{_≡_, refl, sym, ap, subst, _∙_}
-use mathlib.Core.Bool.{Bool, true, false, not, _&&_, cond}
+use mathlib.Core.Path.{_≡_, refl, sym, subst}
+use mathlib.Core.Bool.{Bool, true, false, not, _&&_}
 use mathlib.Core.Option.{some}
-use Prim.Native.Nat.{ℕ, zero, suc, _+_, _-_, _*_, _/_, _%_, _^_, _<_, _≤_}
+use Prim.Native.Nat.{ℕ, zero, suc, _+_, _*_, _/_, _%_, _^_, _<_}
 use native.Mathlib.Omega.{arith}
-use native.Mathlib.Nat.{le-of-suc-le-suc}
 use native.Mathlib.Decide.{ℕ-discrete, decLt}
 use borrow.Author.Tests.{eq-eqb, ne-eqb}
 use lib.Bits.{bitOr, or-add-and, and-le-l, and-le-r}
@@ -12,59 +11,44 @@ use lib.Count.{trailingZeros}
 use lib.Dec.{T, eqb, eqb→eq}
 use Rattle.base.specs.Search.{lowest}
 use Rattle.base.proofs.SearchLaws.{lowest-some}
-use Rattle.base.proofs.Tests.{T-true, true-T, T-eqb, T-same, and-T, not-false, false-not}
+use Rattle.base.proofs.Tests.{T-eqb, T-same, and-T, not-false, false-not}
 use Rattle.boxsets.specs.Words.{bitAt}
-use Rattle.boxsets.specs.Sets.{wordAt, isIn, least, low}
+use Rattle.boxsets.specs.Sets.{wordAt, isIn, low}
 use Rattle.boxsets.specs.declared.Set.{Set}
 use Rattle.boxsets.proofs.WordLaws.{zero-bit}
+use Rattle.boxsets.proofs.LeastLaws.{least-is, least-end, least-found}
 use Rattle.boxsets.proofs.LowBitLaws.{trailing-lowest, word-zero}
 use Rattle.boxsets.proofs.MemberLaws.{in-at, in-beyond, empty-in, withWord, with-here, with-other}
 
--- ---- the lowest number of a test
-
-pub least-is : (p : ℕ → Bool) (n k : ℕ) → k < n → T (p k) → ((j : ℕ) → j < k → T (p j) → ⊥) → least p n ≡ k
-unfolding least
-least-is p zero k h t m = absurd (omega arith)
-least-is p (suc n) zero h t m = rw (T-true (p 0) t)
-least-is p (suc n) (suc k) h t m =
-    rw (not-false (p 0) (m 0 (omega arith)))
-    (ap suc (least-is (λ j. p (suc j)) n k (le-of-suc-le-suc h) t (λ j l. m (suc j) (omega arith))))
-
-pub least-end : (p : ℕ → Bool) (n : ℕ) → ((j : ℕ) → j < n → T (p j) → ⊥) → least p n ≡ n
-unfolding least
-least-end p zero m = refl
-least-end p (suc n) m = rw (not-false (p 0) (m 0 (omega arith))) (ap suc (least-end (λ j. p (suc j)) n (λ j l. m (suc j) (omega arith))))
-
--- the test holds there, and nowhere below
-pub least-found : (p : ℕ → Bool) (n : ℕ) → (least p n < n → T (p (least p n))) × ((j : ℕ) → j < least p n → T (p j) → ⊥)
-unfolding least
-least-found p zero = (λ h. absurd (omega arith), λ j h t. absurd (omega arith))
-least-found p (suc n) = go (p 0) refl (least-found (λ j. p (suc j)) n)
-  where
-    Found : ℕ → Type 0
-    Found k = (k < suc n → T (p k)) × ((j : ℕ) → j < k → T (p j) → ⊥)
-
-    go : (b : Bool) → p 0 ≡ b → (least (λ j. p (suc j)) n < n → T (p (suc (least (λ j. p (suc j)) n)))) × ((j : ℕ) → j < least (λ j. p (suc j)) n → T (p (suc j)) → ⊥)
-        → (cond b 0 (suc (least (λ j. p (suc j)) n)) < suc n → T (p (cond b 0 (suc (least (λ j. p (suc j)) n)))))
-        × ((j : ℕ) → j < cond b 0 (suc (least (λ j. p (suc j)) n)) → T (p j) → ⊥)
-    go true e ih = (λ h. true-T (p 0) e, λ j h t. absurd (omega arith))
-    go false e ih = (λ h. ih .0 (le-of-suc-le-suc h), below)
-      where
-        below : (j : ℕ) → j < suc (least (λ j. p (suc j)) n) → T (p j) → ⊥
-        below zero h t = false-not (p 0) e t
-        below (suc j) h t = ih .1 j (le-of-suc-le-suc h) t
-
 -- ---- by the first word that is not 0
 
--- the words below q are 0
-pub zeros-to : (x : Set) (q : ℕ) → (0 < q → x .a ≡ 0) → (1 < q → x .b ≡ 0) → (2 < q → x .c ≡ 0) → q < 4 → (p : ℕ) → p < q → wordAt x p ≡ 0
-unfolding wordAt
-zeros-to x q e f g l zero h = e h
-zeros-to x q e f g l (suc zero) h = f h
-zeros-to x q e f g l (suc (suc zero)) h = g h
-zeros-to x q e f g l (suc (suc (suc p))) h = absurd (omega arith)
+module _ (x : Set) where
+  -- the words below q are 0
+  abbrev pub Zeros : ℕ → Type 0
+  Zeros q = (p : ℕ) → p < q → wordAt x p ≡ 0
 
-module _ (x : Set) (q r : ℕ) (few : q < 4) (none : (p : ℕ) → p < q → wordAt x p ≡ 0) (found : lowest (bitAt (wordAt x q)) 64 ≡ some r) where
+  pub zeros₀ : Zeros 0
+  zeros₀ p h = absurd (omega arith)
+
+  pub zeros₁ : x .a ≡ 0 → Zeros 1
+  unfolding wordAt
+  zeros₁ e zero h = e
+  zeros₁ e (suc p) h = absurd (omega arith)
+
+  pub zeros₂ : x .a ≡ 0 → x .b ≡ 0 → Zeros 2
+  unfolding wordAt
+  zeros₂ e f zero h = e
+  zeros₂ e f (suc zero) h = f
+  zeros₂ e f (suc (suc p)) h = absurd (omega arith)
+
+  pub zeros₃ : x .a ≡ 0 → x .b ≡ 0 → x .c ≡ 0 → Zeros 3
+  unfolding wordAt
+  zeros₃ e f g zero h = e
+  zeros₃ e f g (suc zero) h = f
+  zeros₃ e f g (suc (suc zero)) h = g
+  zeros₃ e f g (suc (suc (suc p))) h = absurd (omega arith)
+
+module _ (x : Set) (q r : ℕ) (few : q < 4) (none : Zeros x q) (found : lowest (bitAt (wordAt x q)) 64 ≡ some r) where
   small : r < 64
   small = lowest-some (bitAt (wordAt x q)) 64 r found .0
 
@@ -106,7 +90,7 @@ module _ (x : Set) (q r : ℕ) (few : q < 4) (none : (p : ℕ) → p < q → wor
           let f : k ≡ q * 64 + r → ⊥ = λ e. n (omega arith) in
           rw (others (k / 64) n, ne-eqb k (q * 64 + r) f) (and-yes (bitAt (wordAt x (k / 64)) (k % 64)))
 
-pub dropped-word : (x : Set) (q w : ℕ) → q < 4 → ((p : ℕ) → p < q → wordAt x p ≡ 0) → 0 < wordAt x q → wordAt x q < 2 ^ 64
+pub dropped-word : (x : Set) (q w : ℕ) → q < 4 → Zeros x q → 0 < wordAt x q → wordAt x q < 2 ^ 64
     → ((l b : ℕ) → lowest (bitAt (wordAt x q)) 64 ≡ some l → bitAt w b ≡ (bitAt (wordAt x q) b && not (eqb b l)))
     → (k : ℕ) → isIn (withWord x q w) k ≡ (isIn x k && not (eqb k (low x)))
 dropped-word x q w l z pos fits bits =

@@ -1,12 +1,12 @@
 -- Membership, by the four words. Assumes nothing.
 use mathlib.Core.Path.{_≡_, refl, sym, ap, _∙_}
-use mathlib.Core.Bool.{Bool, true, false, _&&_, cond}
+use mathlib.Core.Bool.{Bool, false, cond}
 use Prim.Native.Nat.{ℕ, zero, suc, _+_, _*_, _/_, _%_, _^_, _<_, _≤_}
 use native.Mathlib.Omega.{arith}
 use native.Mathlib.Decide.{ℕ-discrete}
-use borrow.Author.Tests.{eq-eqb, ne-eqb}
+use borrow.Author.Tests.{ne-eqb}
 use lib.Arith.{digits-div, digits-mod}
-use lib.Dec.{T, eqb, eqb→eq}
+use lib.Dec.{eqb, eqb→eq}
 use Rattle.base.proofs.Tests.{T-eqb, T-same}
 use Rattle.boxsets.specs.Words.{bitAt}
 use Rattle.boxsets.specs.Sets.{wordAt, isIn}
@@ -87,9 +87,12 @@ with-other x q w (suc (suc zero)) n = rw (ne-eqb q 2 (λ e. n (sym e)))
 with-other x q w (suc (suc (suc zero))) n = rw (ne-eqb q 3 (λ e. n (sym e)))
 with-other x q w (suc (suc (suc (suc p)))) n = refl
 
--- the set of one number
+-- the set of one number: one word of an empty set
+abbrev none : Set
+none = record { a = 0; b = 0; c = 0; d = 0 }
+
 abbrev pub oneWord : ℕ → ℕ → Set
-oneWord q w = withWord (record { a = 0; b = 0; c = 0; d = 0 }) q w
+oneWord q w = withWord none q w
 
 pub single-in : (q k : ℕ) → q < 4 → k / 64 ≡ q → (j : ℕ) → isIn (oneWord q (2 ^ (k % 64))) j ≡ eqb j k
 unfolding isIn
@@ -98,12 +101,12 @@ single-in q k l e j = go (ℕ-discrete (j / 64) q)
     go : Dec (j / 64 ≡ q) → bitAt (wordAt (oneWord q (2 ^ (k % 64))) (j / 64)) (j % 64) ≡ eqb j k
     go (yes i) =
         ap (λ (p : ℕ). bitAt (wordAt (oneWord q (2 ^ (k % 64))) p) (j % 64)) i
-        ∙ ap (λ (w : ℕ). bitAt w (j % 64)) (with-here (record { a = 0; b = 0; c = 0; d = 0 }) q (2 ^ (k % 64)) l)
+        ∙ ap (λ (w : ℕ). bitAt w (j % 64)) (with-here none q (2 ^ (k % 64)) l)
         ∙ pow-bit (k % 64) (j % 64)
         ∙ T-same (eqb (j % 64) (k % 64)) (eqb j k)
         (λ t. let f = eqb→eq (j % 64) (k % 64) t in let g : j ≡ k = omega arith in T-eqb g)
         (λ t. let f = eqb→eq j k t in let g : j % 64 ≡ k % 64 = ap (λ (z : ℕ). z % 64) f in T-eqb g)
     go (no n) =
-        ap (λ (w : ℕ). bitAt w (j % 64)) (with-other (record { a = 0; b = 0; c = 0; d = 0 }) q (2 ^ (k % 64)) (j / 64) n ∙ empty-word (record { a = 0; b = 0; c = 0; d = 0 }) refl refl refl refl (j / 64))
+        ap (λ (w : ℕ). bitAt w (j % 64)) (with-other none q (2 ^ (k % 64)) (j / 64) n ∙ empty-word none refl refl refl refl (j / 64))
         ∙ zero-bit (j % 64)
         ∙ sym (ne-eqb j k (λ f. n (ap (λ (z : ℕ). z / 64) f ∙ e)))

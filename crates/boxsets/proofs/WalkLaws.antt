@@ -1,17 +1,18 @@
 -- A walk over a set: `while !is_empty(rest) { let k = lowest(rest); rest = dropped(rest); .. }`, by what `is_empty`, `lowest` and
 -- `dropped` promise; its measure is 256 - low. Assumes nothing.
 use mathlib.Core.Path.{_≡_, refl, sym, subst, _∙_}
-use mathlib.Core.Bool.{Bool, true, false, not, _&&_, _||_, cond}
-use Prim.Native.Nat.{ℕ, zero, suc, _-_, _<_, _≤_}
+use mathlib.Core.Bool.{Bool, true, false, not, _&&_, _||_}
+use Prim.Native.Nat.{ℕ, _-_, _<_, _≤_}
 use native.Mathlib.Omega.{arith}
 use native.Mathlib.Decide.{ℕ-discrete, decLt}
 use borrow.Author.Tests.{eq-eqb, ne-eqb}
 use lib.Dec.{T, eqb, eqb→eq}
 use Rattle.base.proofs.Tests.{T-true, T-eqb, true-T, false-not}
-use Rattle.boxsets.specs.Sets.{isIn, least, low}
+use Rattle.boxsets.specs.Sets.{isIn, low}
 use Rattle.boxsets.specs.declared.Set.{Set}
 use Rattle.boxsets.proofs.MemberLaws.{in-beyond}
-use Rattle.boxsets.proofs.LowLaws.{least-end, low-in, low-rises, none-in}
+use Rattle.boxsets.proofs.LeastLaws.{least-end, least-most}
+use Rattle.boxsets.proofs.LowLaws.{low-in, low-rises, none-in}
 
 -- a set's numbers are below 256
 pub in-below : (x : Set) (k : ℕ) → T (isIn x k) → k < 256
@@ -20,15 +21,6 @@ in-below x k t = go (decLt k 256)
     go : Dec (k < 256) → k < 256
     go (yes l) = l
     go (no l) = absurd (false-not (isIn x k) (in-beyond x k (omega arith)) t)
-
-least-most : (p : ℕ → Bool) (n : ℕ) → least p n ≤ n
-unfolding least
-least-most p zero = omega arith
-least-most p (suc n) = go (p 0) (least-most (λ k. p (suc k)) n)
-  where
-    go : (b : Bool) → least (λ k. p (suc k)) n ≤ n → cond b 0 (suc (least (λ k. p (suc k)) n)) ≤ suc n
-    go true h = omega arith
-    go false h = omega arith
 
 pub low-most : (x : Set) → low x ≤ 256
 unfolding low

@@ -1,12 +1,12 @@
 -- Bits of words that are joined, shared, taken away, shifted. Assumes nothing.
 use mathlib.Core.Path.{_≡_, refl, sym, ap, ap₂, _∙_}
-use mathlib.Core.Bool.{Bool, true, false, not, _&&_, _||_}
-use Prim.Native.Nat.{ℕ, zero, suc, _+_, _-_, _*_, _/_, _%_, _^_, _<_, _≤_, min, max}
+use mathlib.Core.Bool.{false, not, _&&_, _||_}
+use Prim.Native.Nat.{ℕ, zero, suc, _+_, _-_, _*_, _/_, _%_, _^_, _<_, min, max}
 use native.Mathlib.Omega.{arith}
 use native.Mathlib.Nat.{pow-suc, one-mul, zero-add, add-zero, suc-add, div-one}
 use native.Mathlib.Numerals.{one-add}
 use borrow.Author.Tests.{ne-eqb}
-use lib.Arith.{digits-div, digits-mod}
+use lib.Arith.{digits-mod}
 use lib.Bits.{bitAnd, bitOr, and-step, and-shr, and-le-l, or-step, or-shr}
 use lib.Dec.{eqb, eqb→eq, lit<}
 use lib.Pow.{shl-exact, shr-shr}

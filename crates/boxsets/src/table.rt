@@ -1,6 +1,6 @@
 // Tables of sets: set r has the four words from place 4 × r on.
 ghost use mathlib.Core.Path.{_≡_};
-ghost use Prim.Native.Nat.{ℕ, _+_, _*_, _<_, _≤_};
+ghost use Prim.Native.Nat.{_+_, _*_, _<_, _≤_};
 ghost use lib.ListN.{length};
 ghost use Rattle.boxsets.specs.Sets.{isIn, inWord, setAt, has, Put, Added, Joins};
 use super::Set;

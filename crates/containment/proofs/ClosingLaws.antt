@@ -1,19 +1,16 @@
 -- What one turn of each loop that fills the closure does to its sets. Assumes nothing.
-use mathlib.Core.Path.{_≡_, refl, sym, ap, ap₂, subst, _∙_}
-use mathlib.Core.Logic.{_⊎_, inl, inr, ⊎-elim}
+use mathlib.Core.Path.{_≡_, refl, sym, ap, ap₂, _∙_}
 use mathlib.Core.Bool.{Bool, true, false, _&&_, _||_, or-false}
-use mathlib.Core.List.{List, [], _∷_}
-use Prim.Native.Nat.{ℕ, zero, suc, _+_, _*_, _-_, _<_, _≤_}
+use mathlib.Core.List.{List, []}
+use Prim.Native.Nat.{ℕ, _+_, _*_, _-_, _<_, _≤_}
 use native.Mathlib.Nat.{zero-add}
 use native.Mathlib.Numerals.{add-one}
 use native.Mathlib.Omega.{arith}
 use borrow.Author.Tests.{ne-eqb}
-use lib.Dec.{T, eqb, eqb→eq}
-use lib.ListN.{length, drop}
+use lib.Dec.{eqb}
+use lib.ListN.{drop}
 use Rattle.base.specs.Buffers.{zeros}
 use Rattle.base.proofs.BufferLaws.{zeros-length}
-use Rattle.base.proofs.Tests.{T-same, T-eqb, T-and, and-T, or-T, T-or₁, T-or₂}
-use Rattle.base.proofs.SearchLaws.{below-suc, first-same}
 use Rattle.tables.specs.Rows.{rowCount, rowAt}
 use Rattle.tables.proofs.RowLaws.{rows-from}
 use Rattle.boxsets.specs.Sets.{isIn, setAt, has, Added, Joins}
@@ -21,8 +18,8 @@ use Rattle.boxsets.specs.declared.Set.{Set}
 use Rattle.boxsets.proofs.WordLaws.{eqb-turned, eqb-shifted}
 use Rattle.boxsets.proofs.MemberLaws.{in-beyond}
 use Rattle.boxsets.proofs.TableLaws.{zeros-has}
-use Rattle.containment.specs.Contains.{direct, around}
-use Rattle.containment.specs.Steps.{Both, Turns, through, rounds, selves}
+use Rattle.containment.specs.Contains.{direct}
+use Rattle.containment.specs.Steps.{Both, Turns, through, rounds}
 
 pub both-same : (n : ℕ) (f g : ℕ → ℕ → Bool) (t : List ℕ) → ((a b : ℕ) → f a b ≡ g a b) → Both n f t → Both n g t
 both-same n f g t e s = record { len = s .len; down = λ a b l. s .down a b l ∙ e a b; up = λ a b l. s .up a b l ∙ e a b }
@@ -154,49 +151,3 @@ rounds-none t = record { len = refl; says = λ f s. s }
 pub rounds-more : (k : ℕ) (t u v : List ℕ) → Turns (λ f. rounds f k) t u → Turns (λ f. through f k) u v → Turns (λ f. rounds f (k + 1)) t v
 unfolding rounds
 rounds-more k t u v h g = record { len = g .len ∙ h .len; says = λ f s. rw add-one (g .says (rounds f k) (h .says f s)) }
-
--- ---- add_selves
-
-pub selves-none : (t : List ℕ) → Turns (λ f. selves f 0) t t
-unfolding selves
-selves-none t = record { len = refl; says = λ f s. s }
-
-pub selves-more : (k : ℕ) (t u v w : List ℕ) → k < 256 → Turns (λ f. selves f k) t u → Added u k k v → Added v (256 + k) k w
-    → Turns (λ f. selves f (k + 1)) t w
-unfolding selves
-selves-more k t u v w l h p q = record {
-  len = q .len ∙ p .len ∙ h .len;
-  says = λ f s. rw add-one (pair-added (selves f k) k k u v w l l p q (h .says f s));
-}
-
-selves-cases : (f : ℕ → ℕ → Bool) (n a b : ℕ) → T (selves f n a b) → (a ≡ b) ⊎ T (f a b)
-unfolding selves
-selves-cases f zero a b t = inr t
-selves-cases f (suc n) a b t =
-    ⊎-elim (selves-cases f n a b)
-    (λ e. let p = and-T (eqb a n) (eqb b n) e in inl (eqb→eq a n (p .0) ∙ sym (eqb→eq b n (p .1))))
-    (or-T (selves f n a b) (eqb a n && eqb b n) t)
-
-selves-old : (f : ℕ → ℕ → Bool) (n a b : ℕ) → T (f a b) → T (selves f n a b)
-unfolding selves
-selves-old f zero a b t = t
-selves-old f (suc n) a b t = T-or₁ (selves f n a b) (eqb a n && eqb b n) (selves-old f n a b t)
-
-selves-own : (f : ℕ → ℕ → Bool) (n a : ℕ) → a < n → T (selves f n a a)
-unfolding selves
-selves-own f zero a l = absurd (omega arith)
-selves-own f (suc n) a l =
-    ⊎-elim
-    (λ e. T-or₂ (selves f n a a) (eqb a n && eqb a n) (T-and (eqb a n) (eqb a n) (T-eqb e) (T-eqb e)))
-    (λ h. T-or₁ (selves f n a a) (eqb a n && eqb a n) (selves-own f n a h))
-    (below-suc l)
-
--- among n boxes
-pub selves-all : (f : ℕ → ℕ → Bool) (n a b : ℕ) → (a < n) ⊎ (b < n) → selves f n a b ≡ (eqb a b || f a b)
-selves-all f n a b l =
-    T-same (selves f n a b) (eqb a b || f a b)
-    (λ t. ⊎-elim (λ e. T-or₁ (eqb a b) (f a b) (T-eqb e)) (T-or₂ (eqb a b) (f a b)) (selves-cases f n a b t))
-    (λ t. ⊎-elim (λ e. own (eqb→eq a b e)) (selves-old f n a b) (or-T (eqb a b) (f a b) t))
-  where
-    own : a ≡ b → T (selves f n a b)
-    own e = subst (λ (z : ℕ). T (selves f n a z)) e (selves-own f n a (⊎-elim (λ h. h) (λ h. omega arith) l))

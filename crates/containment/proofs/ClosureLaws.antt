@@ -17,7 +17,8 @@ use Rattle.containment.specs.Contains.{direct, contains, around, loopFau
 use Rattle.containment.specs.Steps.{RowsBelow, Both, Closure, Turns, rounds, selves, ownFault}
 use Rattle.containment.proofs.ContainsLaws.{around-test}
 use Rattle.containment.proofs.Rounds.{rounds-all}
-use Rattle.containment.proofs.ClosingLaws.{both-same, selves-all}
+use Rattle.containment.proofs.ClosingLaws.{both-same}
+use Rattle.containment.proofs.SelvesLaws.{selves-all}
 use Rattle.containment.proofs.MarkLaws.{row-below}
 
 -- ---- its sets
@@ -45,7 +46,8 @@ sound-below boxes rows n h s = record {
 -- marked, and closed by n rounds
 pub closed-both : (n : ℕ) (rows t u : List ℕ) → RowsBelow n rows → Both 256 (direct rows) t → Turns (λ f. rounds f n) t u → Both 256 (contains rows) u
 closed-both n rows t u below s h =
-    both-same 256 (rounds (direct rows) n) (contains rows) u (rounds-all rows n (λ x y r. row-below n r (below .inner-below))) (h .says (direct rows) s)
+    both-same 256 (rounds (direct rows) n) (contains rows) u (rounds-all rows n (λ x y r. row-below n r (below .inner-below)))
+    (h .says (direct rows) s)
 
 -- check 10 sees which boxes contain themselves
 pub own-loops : (boxes rows t : List ℕ) → length boxes ≤ 256 → Both 256 (contains rows) t → ownFault (length boxes) t ≡ loopFault boxes rows

@@ -3,8 +3,10 @@ pub mod ContainsLaws
 pub mod DrawnLaws
 pub mod ScratchLaws
 pub mod PictureLaws
+pub mod ClosureLaws
+mod Rounds
 mod ClosingLaws
+mod SelvesLaws
+mod OnesLaws
 mod SpreadLaws
 mod MarkLaws
-mod Rounds
-pub mod ClosureLaws

@@ -1,6 +1,6 @@
 -- The bytes of the rows' pairs, and the filled scratch. Assumes nothing.
 use mathlib.Core.Path.{_≡_, sym, ap, subst, _∙_}
-use mathlib.Core.Bool.{Bool, true, false, _&&_, _||_, cond}
+use mathlib.Core.Bool.{_&&_, _||_, cond}
 use mathlib.Core.List.{List, _∷_}
 use Prim.Native.Nat.{ℕ, suc, _+_, _*_, _-_, _<_, _≤_}
 use native.Mathlib.Decide.{ℕ-discrete}
@@ -75,5 +75,6 @@ pub fill-is : (n : ℕ) (rows sets s t u : List ℕ) → n * n ≤ length s → 
     → Cells n (has sets) t → SameFrom (n * n) s t → Marked n 2 rows 0 t u → u ≡ filled n rows s
 fill-is n rows sets s t u room both cells same marked =
     is-filled n rows s u room
-    (λ a b la lb. marked .0 (λ a b. bit (contains rows a b)) (λ a b la lb. cells a b la lb ∙ ap bit (both .down a b la)) a b la lb ∙ rows-drawn rows a b)
+    (λ a b la lb.
+    marked .0 (λ a b. bit (contains rows a b)) (λ a b la lb. cells a b la lb ∙ ap bit (both .down a b la)) a b la lb ∙ rows-drawn rows a b)
     (record { len = marked .1 .len ∙ same .len; rest = λ p l. marked .1 .rest p l ∙ same .rest p l })

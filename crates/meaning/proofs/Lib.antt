@@ -1,6 +1,7 @@
 -- Laws for the proofs of this crate and of the crates above it.
 pub mod AnswerLaws
 pub mod PairLaws
+pub mod JudgeLaws
 pub mod ClearLaws
 pub mod EmptiedLaws
 pub mod GrantLaws

@@ -131,7 +131,7 @@ module _ (arrows : List ℕ) (m : ℕ) where
       (T-and (hasMode arrows m j) (eqb (a .sign) s && eqb (a .tail) t) h (T-and (eqb (a .sign) s) (eqb (a .tail) t) (T-eqb es) (T-eqb et)))
       (T-eqb eg))
 
-  tails-is : (k j s t : ℕ) → j < k → T (hasMode arrows m j) → arrowAt arrows j .sign ≡ s → arrowAt arrows j .tail ≡ t
+  pub tails-is : (k j s t : ℕ) → j < k → T (hasMode arrows m j) → arrowAt arrows j .sign ≡ s → arrowAt arrows j .tail ≡ t
       → T (tailsBelow arrows m k s t)
   unfolding tailsBelow leaves
   tails-is k j s t l h es et =
@@ -145,7 +145,7 @@ module _ (arrows : List ℕ) (m : ℕ) where
   unfolding hasMode
   mode-of k t = eqb→eq (arrowAt arrows k .mode) m t
 
-  of-mode : (k : ℕ) → arrowAt arrows k .mode ≡ m → T (hasMode arrows m k)
+  pub of-mode : (k : ℕ) → arrowAt arrows k .mode ≡ m → T (hasMode arrows m k)
   unfolding hasMode
   of-mode k e = T-eqb e
 

@@ -85,7 +85,6 @@ pub record Moded (pic : Picture) (mode : ℕ) (heads arrows own : List ℕ) : Ty
 module _ (pic : Picture) (mode : ℕ) where
   -- the arrows of a sign around user u
   pub record NearBy (sign u : ℕ) (asked : ℕ → Bool) (x : Near) : Type 0 where
-    pub sign-is : x .sign ≡ sign
     pub tails-are : (t : ℕ) → isIn (x .tails) t
         ≡ (around (pic .rows) t u && tailsBelow (pic .arrows) mode (arrowCount (pic .arrows)) sign t)
     pub heads-are : (g : ℕ) → isIn (x .heads) g ≡ headsOf (pic .arrows) mode sign (λ t. around (pic .rows) t u) g

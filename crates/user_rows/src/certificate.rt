@@ -72,6 +72,7 @@ fn outside_all(closure: &[u64], files: Set, boxes: Set) -> Set
 // The arrows of a sign around a user.
 pub fn arrows_near(closure: &[u64], heads: &[u64], sign: usize, user: usize, asked: Set) -> Near
     requires { ⌜ (length (now closure) ≡ 2048) × (length (now heads) ≡ 2056) × (sign ≤ 1) × (user < 256) ⌝ }
+    ensures { λ r. ⌜ r .sign ≡ sign ⌝ }
     ensures { λ r. ⌜ ((pic : Picture) (m : ℕ) → Drawn pic (now (closure .entry)) → ModeSets (pic .arrows) m (now (heads .entry))
         → user < length (pic .boxes) → NearBy pic m sign user (isIn asked) r) ⌝ }
 {

@@ -1,7 +1,6 @@
 -- `boxsets::word` meets its contract: by cases. Assumes nothing.
-use mathlib.Core.Path.{_≡_, refl}
+use mathlib.Core.Path.{_≡_}
 use native.Mathlib.Omega.{arith}
-use borrow.Author.Needs.{needs}
 use Rattle.boxsets.specs.Sets.{wordAt}
 use Rattle.boxsets.proofs.word.Statement.{statement}
 use Rattle.boxsets.proofs.word.Tie as tie

@@ -34,8 +34,10 @@ returns c = let at = c .before .before .before .before in
     (sym (c .before .before .has .ensures) ∙ c .before .if1 .taken) (omega arith)))
 
 loop-again : tie.Need-loop-again Inv-loop μ-loop
-loop-again c = let at = c .before .before .before in
-    (search-more (own (at .before .before .args .closure .now)) inItself (at .loop .b) (at .loop .inv .0) (sym (c .before .has .ensures) ∙ c .if1 .left), search needs)
+loop-again c =
+    let at = c .before .before .before in
+    let closure = at .before .before .args .closure .now in
+    (search-more (own closure) inItself (at .loop .b) (at .loop .inv .0) (sym (c .before .has .ensures) ∙ c .if1 .left), search needs)
 
 returns-2 : tie.Need-returns-2 Inv-loop μ-loop
 unfolding ownFault

@@ -1,5 +1,6 @@
--- `containment::contain` meets its contract: after n rounds a way is a chain of rows, which check 10 and the scratch read before each box joins its own sets. Assumes nothing.
-use mathlib.Core.Path.{_≡_, sym, ap, _∙_}
+-- `containment::contain` meets its contract: after n rounds a way is a chain of rows; check 10 and the scratch read that, and then each box
+-- joins its own sets. Assumes nothing.
+use mathlib.Core.Path.{ap, _∙_}
 use Prim.Native.Nat.{_≤_}
 use native.Mathlib.Omega.{arith}
 use borrow.Author.Needs.{needs}
@@ -67,8 +68,12 @@ returns c =
     let k = close filled in
     let a = start (mark k) .args in
     let n = length (a .boxes .now) in (
-      filled .before .before .before .check-loops .ensures ∙ ap verdictOf (own-loops (a .boxes .now) (a .rows .now) (k .close .last .0) (few (mark k)) (closed k)),
-      (filled .fill-scratch .ensures, closure-is n (a .rows .now) (k .close .last .0) (last .add-selves .last .0) (few (mark k)) (closed k) (last .add-selves .ensures)),
+      filled .before .before .before .check-loops .ensures
+          ∙ ap verdictOf (own-loops (a .boxes .now) (a .rows .now) (k .close .last .0) (few (mark k)) (closed k)),
+      (
+        filled .fill-scratch .ensures,
+        closure-is n (a .rows .now) (k .close .last .0) (last .add-selves .last .0) (few (mark k)) (closed k) (last .add-selves .ensures),
+      ),
     )
 
 pub contain-spec : {M : Type 1} → statement M

@@ -4,7 +4,7 @@ use Prim.Native.Nat.{_-_, _≤_}
 use native.Mathlib.Omega.{arith}
 use borrow.Author.Needs.{needs}
 use Rattle.containment.specs.Steps.{selves, Turns}
-use Rattle.containment.proofs.ClosingLaws.{selves-none, selves-more}
+use Rattle.containment.proofs.SelvesLaws.{selves-none, selves-more}
 use Rattle.containment.proofs.closing.add_selves.Statement.{statement}
 use Rattle.containment.proofs.closing.add_selves.Tie as tie
 

@@ -27,7 +27,8 @@ loop-again : tie.Need-loop-again Inv-loop μ-loop
 loop-again c =
     let r = c .before .before in
     let at = r .before .before .before in
-    (search needs, rounds-more (at .loop .k) (at .before .before .args .closure .now) (at .loop .closure) (r .round .last .0) (at .loop .inv .1) (r .round .ensures))
+    let first = at .before .before .args .closure .now in
+    (search needs, rounds-more (at .loop .k) first (at .loop .closure) (r .round .last .0) (at .loop .inv .1) (r .round .ensures))
 
 returns : tie.Need-returns Inv-loop μ-loop
 returns c =

@@ -49,7 +49,7 @@ add-requires : tie.Need-add-requires Inv-loop μ-loop
 add-requires c κs =
     let w = c .before in
     let len = at w .loop .inv .1 .len in
-    (omega (arith, o-below w), i-below w)
+    (omega (arith, o-below w, i-below w), omega (arith, o-below w, i-below w))
 
 add-requires-2 : tie.Need-add-requires-2 Inv-loop μ-loop
 add-requires-2 c κs =
@@ -57,7 +57,7 @@ add-requires-2 c κs =
     let w = a₁ .before .before in
     let len = at w .loop .inv .1 .len in
     let len₁ = a₁ .add .ensures .len in
-    (omega (arith, i-below w), o-below w)
+    (omega (arith, o-below w, i-below w), omega (arith, o-below w, i-below w))
 
 loop-again : tie.Need-loop-again Inv-loop μ-loop
 loop-again c =

@@ -1,6 +1,6 @@
 -- `containment::scratch::spread` meets its contract: the rows of bytes before a say what the sets have. Assumes nothing.
 use mathlib.Core.Path.{_≡_, sym, subst}
-use Prim.Native.Nat.{ℕ, _*_, _-_, _≤_}
+use Prim.Native.Nat.{_*_, _-_, _≤_}
 use native.Mathlib.Omega.{arith}
 use borrow.Author.Needs.{needs}
 use lib.ListN.{length}
@@ -24,7 +24,9 @@ module _ (c : tie.After-clear Inv-loop μ-loop) where
   start = c .before .before .before .before
 
   len : length (c .clear .last .0) ≡ length (start .args .scratch .now)
-  len = cleared-rest (start .args .n) (start .args .closure .now) (start .args .scratch .now) (c .clear .last .0) (start .pre .2) (c .clear .ensures) .len
+  len =
+      let a = start .args in
+      cleared-rest (a .n) (a .closure .now) (a .scratch .now) (c .clear .last .0) (start .pre .2) (c .clear .ensures) .len
 
 loop-holds : tie.Need-loop-holds Inv-loop μ-loop
 loop-holds c =
@@ -66,9 +68,10 @@ loop-again c =
     let kept = r .spread-set .ensures .len in (
       search needs,
       omega arith,
-      spread-row (s .args .n) (h .loop .a) (s .args .closure .now) (clear .clear .last .0) (h .loop .scratch) (r .spread-set .last .1 .0) (omega arith) (s .pre .1)
-          (h .loop .inv .2)
-          (subst (λ (z : Set). Ones (isIn z) (h .loop .a * s .args .n) (h .loop .scratch) (r .spread-set .last .1 .0)) (x .set-at .ensures) (r .spread-set .ensures)),
+      spread-row (s .args .n) (h .loop .a) (s .args .closure .now) (clear .clear .last .0) (h .loop .scratch) (r .spread-set .last .1 .0)
+          (omega arith) (s .pre .1) (h .loop .inv .2)
+          (subst (λ (z : Set). Ones (isIn z) (h .loop .a * s .args .n) (h .loop .scratch) (r .spread-set .last .1 .0)) (x .set-at .ensures)
+          (r .spread-set .ensures)),
     )
 
 same-length : tie.Need-same-length Inv-loop μ-loop
@@ -82,8 +85,8 @@ returns c =
     let clear = h .before .before .before in
     let s = start clear in
     let e : h .loop .a ≡ s .args .n = omega arith in
-    spread-ends (s .args .n) (s .args .closure .now) (s .args .scratch .now) (clear .clear .last .0) (s .pre .2) (clear .clear .ensures) (h .loop .scratch)
-    (rw e at (h .loop .inv .2))
+    spread-ends (s .args .n) (s .args .closure .now) (s .args .scratch .now) (clear .clear .last .0) (s .pre .2) (clear .clear .ensures)
+    (h .loop .scratch) (rw e at (h .loop .inv .2))
 
 pub spread-spec : {M : Type 1} → statement M
 spread-spec =

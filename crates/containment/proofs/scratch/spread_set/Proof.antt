@@ -2,7 +2,7 @@
 use mathlib.Core.Path.{_≡_, refl, _∙_}
 use borrow.Author.Needs.{needs}
 use lib.ListN.{length}
-use Rattle.containment.proofs.SpreadLaws.{room₀, room₁, room₂, room₃, ones-words}
+use Rattle.containment.proofs.OnesLaws.{room₀, room₁, room₂, room₃, ones-words}
 use Rattle.containment.proofs.scratch.spread_set.Statement.{statement}
 use Rattle.containment.proofs.scratch.spread_set.Tie as tie
 

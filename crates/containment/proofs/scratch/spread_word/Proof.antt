@@ -1,4 +1,5 @@
--- `containment::scratch::spread_word` meets its contract: what is set, and what the rest of the word still asks for, make up the whole. Assumes nothing.
+-- `containment::scratch::spread_word` meets its contract: what is set, and what the rest of the word still asks for, make up the
+-- whole. Assumes nothing.
 use mathlib.Core.Path.{_≡_}
 use Prim.Native.Nat.{_+_, _*_, _<_}
 use native.Mathlib.Omega.{arith}
@@ -6,7 +7,7 @@ use borrow.Author.Needs.{needs}
 use lib.ListN.{length}
 use Rattle.base.proofs.SearchLaws.{lowest-some}
 use Rattle.boxsets.specs.Words.{bitAt}
-use Rattle.containment.proofs.SpreadLaws.{Unspread, spread-none, there, spread-next, spread-end}
+use Rattle.containment.proofs.OnesLaws.{Unspread, spread-none, there, spread-next, spread-end}
 use Rattle.containment.proofs.scratch.spread_word.Statement.{statement}
 use Rattle.containment.proofs.scratch.spread_word.Tie as tie
 
@@ -34,7 +35,8 @@ module _ (c : tie.After-drop-bit Inv-loop μ-loop) where
 
   byte : start .args .at + (64 * start .args .q + c .before .low-bit .result) < length (here .loop .scratch)
   byte =
-      there (start .args .q) (start .args .word) (here .loop .rest) (c .drop-bit .result) (c .before .low-bit .result) (start .args .at) (start .args .scratch .now)
+      let a = start .args in
+      there (a .q) (a .word) (here .loop .rest) (c .drop-bit .result) (c .before .low-bit .result) (a .at) (a .scratch .now)
       (here .loop .scratch) (c .before .low-bit .ensures)
       (λ b. c .drop-bit .ensures .0 (c .before .low-bit .result) b (c .before .low-bit .ensures)) (here .loop .inv)
 
