@@ -33,7 +33,7 @@ use Rattle.meaning.proofs.JudgeLaws.{RowClear, RowsClear, rows-start, rows-more
 use Rattle.user_rows.specs.Steps.{Ready}
 use Rattle.lists.specs.Order.{anyOf, meets, reached, granted}
 use Rattle.lists.specs.Greedy.{greedy, leftBy, orderFault}
-use Rattle.lists.specs.Steps.{SmallNumbers, Table, unreached, grantedTo}
+use Rattle.lists.specs.Steps.{Table, unreached, grantedTo}
 
 -- ---- a table that is filled user by user
 

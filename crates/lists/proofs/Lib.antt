@@ -14,3 +14,4 @@ pub mod GrowLaws
 pub mod OwnLaws
 pub mod TurnLaws
 pub mod LeftLaws
+pub mod SortLaws

@@ -66,10 +66,6 @@ pub record Takes (users files : Set) (left left′ : List ℕ) : Type 0 where
   pub len : length left′ ≡ length left
   pub each : (u f : ℕ) → has left′ u f ≡ (has left u f && not (isIn users u && isIn files f))
 
--- each number is below 256
-abbrev pub SmallNumbers : List ℕ → Type 0
-SmallNumbers numbers = (i : ℕ) → i < length numbers → getD numbers i 0 < 256
-
 -- ---- what the sets say of a picture
 
 -- set u has f exactly if (u, f) is a pair at which the test holds

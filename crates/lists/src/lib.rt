@@ -17,14 +17,26 @@ ghost use Rattle.meaning.specs.Pairs.{unclearFault};
 ghost use Rattle.user_rows.specs.Steps.{Drawn};
 ghost use Rattle.lists.specs.Greedy.{greedy, orderFault};
 ghost use Rattle.lists.specs.Calls.{listRoom, listEarly, listBefore, listAnswer, listAfter, workAfter};
+use boxsets::set_of;
 use containment::check_scratch;
+use containment::no_closure;
+use containment::prepare;
 use granted::blank;
+use granted::check_left;
+use granted::fill_left;
+use granted::no_sets;
+use granted::sort_mode;
+use order::order;
 use tables::Arrow;
+use tables::BoxRow;
 use tables::Refusal;
 use tables::Verdict;
+use tables::atoms_of;
 use tables::check_mode;
 use tables::check_room;
+use tables::no_boxes;
 use tables::pair_count;
+use user_rows::no_numbers;
 
 // What the call for a list answers.
 pub enum Listed {
@@ -95,4 +107,83 @@ fn finish(left: Verdict, count: usize, need: usize, out: &mut [u16]) -> Listed
         return Listed::Refused(r);
     }
     Listed::Written(count)
+}
+
+// Check 12, then the list, by the closure of a picture that passed checks 1 to 10.
+fn write_list(
+    boxes: &[u8],
+    rows: &[u16],
+    arrows: &[u16],
+    closure: &[u64],
+    mode: u16,
+    out: &mut [u16],
+    work: &mut [u8],
+) -> Listed
+    requires { ⌜ Drawn (picture (now boxes) (now rows) (now arrows)) (now closure) × (mode < 8)
+        × (length (modeArrows (now arrows) mode) ≤ length (now out)) × (pairCount (now boxes) (now rows) ≤ length (now work)) ⌝ }
+    ensures { λ r. ⌜ (let pic = picture (now (boxes .entry)) (now (rows .entry)) (now (arrows .entry)) in
+        (r ≡ listAnswer pic mode (unclearFault pic mode))
+        × (now (out .exit) ≡ listAfter pic mode (unclearFault pic mode) (now (out .entry)))
+        × (now (work .exit) ≡ workAfter pic mode (unclearFault pic mode) (now (work .entry)))) ⌝ }
+{
+    let mut u = no_boxes();
+    let mut f = no_boxes();
+    let users = atoms_of(boxes, rows, BoxRow::USER, &mut u);
+    let files = atoms_of(boxes, rows, BoxRow::FILE, &mut f);
+    let asked = set_of(&f[..files]);
+    let mut own = no_numbers();
+    let mut granted = no_sets();
+    let sorted = sort_mode(
+        closure,
+        arrows,
+        mode,
+        &u[..users],
+        asked,
+        &mut own,
+        &mut granted,
+    );
+    let unclear = sorted.unclear;
+    if let Verdict::Refused(r) = unclear {
+        return Listed::Refused(r);
+    }
+    let m = sorted.own;
+    let mut left = no_sets();
+    fill_left(&u[..users], asked, &mut left);
+    let count = order(closure, arrows, &own[..m], &mut left, &granted, out);
+    base::clear(work, users * files);
+    let verdict = check_left(&u[..users], &left, &granted, mode);
+    finish(verdict, count, mode_count(arrows, mode), out)
+}
+
+// The first-match list of a mode (document 01, "What may be asked"), in the order of document 02, P3: how many places of `out` hold it,
+// or the refusal. Checks 1 to 10, 12 in this mode, and 13. The scratch needs a byte for each pair of boxes, `out` a place for each
+// arrow of the mode, and `work` a byte for each pair.
+pub fn list(
+    boxes: &[u8],
+    rows: &[u16],
+    arrows: &[u16],
+    scratch: &mut [u8],
+    mode: u16,
+    out: &mut [u16],
+    work: &mut [u8],
+) -> Listed
+    ensures { λ r. ⌜ (let pic = picture (now (boxes .entry)) (now (rows .entry)) (now (arrows .entry)) in
+        r ≡ listAnswer pic mode (listBefore pic mode (now (scratch .entry)) (now (out .entry)) (now (work .entry)))) ⌝ }
+    ensures { λ _. ⌜ (let pic = picture (now (boxes .entry)) (now (rows .entry)) (now (arrows .entry)) in
+        now (scratch .exit) ≡ scratchAfter (listEarly pic mode (now (scratch .entry)) (now (out .entry)) (now (work .entry)))
+        (now (boxes .entry)) (now (rows .entry)) (now (scratch .entry))) ⌝ }
+    ensures { λ _. ⌜ (let pic = picture (now (boxes .entry)) (now (rows .entry)) (now (arrows .entry)) in
+        now (out .exit) ≡ listAfter pic mode
+        (listBefore pic mode (now (scratch .entry)) (now (out .entry)) (now (work .entry))) (now (out .entry))) ⌝ }
+    ensures { λ _. ⌜ (let pic = picture (now (boxes .entry)) (now (rows .entry)) (now (arrows .entry)) in
+        now (work .exit) ≡ workAfter pic mode
+        (listBefore pic mode (now (scratch .entry)) (now (out .entry)) (now (work .entry))) (now (work .entry))) ⌝ }
+{
+    let early = early_list(boxes, rows, arrows, scratch, mode, out, work);
+    let mut closure = no_closure();
+    let verdict = prepare(early, boxes, rows, scratch, &mut closure);
+    if let Verdict::Refused(r) = verdict {
+        return Listed::Refused(r);
+    }
+    write_list(boxes, rows, arrows, &closure, mode, out, work)
 }
