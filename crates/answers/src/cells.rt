@@ -8,12 +8,12 @@ ghost use Rattle.tables.specs.Atoms.{atoms, pairCount};
 ghost use Rattle.meaning.specs.Pairs.{matrixBytes, matrixNumbers};
 ghost use Rattle.user_rows.specs.Steps.{Small, Drawn};
 ghost use Rattle.answers.specs.Steps.{Boxes, byteIn, Emitted};
-use super::atoms::no_boxes;
 use base::wide;
 use boxsets::is_in;
 use boxsets::set_of;
 use tables::BoxRow;
 use tables::atoms_of;
+use tables::no_boxes;
 use user_rows::Row;
 use user_rows::answer_row;
 use user_rows::no_heads;
@@ -110,5 +110,13 @@ pub fn fill_picture(
     let mut files = no_boxes();
     let u = atoms_of(boxes, rows, BoxRow::USER, &mut users);
     let f = atoms_of(boxes, rows, BoxRow::FILE, &mut files);
-    fill_matrix(closure, arrows, mode, &users[..u], &files[..f], bytes, numbers);
+    fill_matrix(
+        closure,
+        arrows,
+        mode,
+        &users[..u],
+        &files[..f],
+        bytes,
+        numbers,
+    );
 }

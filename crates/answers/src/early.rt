@@ -4,11 +4,11 @@ ghost use Rattle.tables.specs.Rows.{picture};
 ghost use Rattle.tables.specs.Refusals.{verdictOf};
 ghost use Rattle.containment.specs.Scratch.{earlyFault};
 ghost use Rattle.answers.specs.Calls.{entryEarly, matrixEarly};
-use super::atoms::pair_count;
 use containment::check_scratch;
 use tables::Verdict;
 use tables::check_mode;
 use tables::check_room;
+use tables::pair_count;
 
 // Of the judge: 1 to 7 and 9.
 pub fn early_picture(boxes: &[u8], rows: &[u16], arrows: &[u16], scratch: &[u8]) -> Verdict

@@ -14,8 +14,6 @@ ghost use Rattle.meaning.specs.Meaning.{answer};
 ghost use Rattle.answers.specs.Calls.{replyOf, entryEarly, entryFault, judgeFault};
 ghost use Rattle.answers.specs.Calls.{matrixEarly, matrixFault, bytesAfter, numbersAfter};
 pub use atoms::atom_set;
-pub use atoms::no_boxes;
-pub use atoms::pair_count;
 use base::wide;
 use cells::fill_picture;
 use containment::no_closure;

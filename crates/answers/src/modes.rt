@@ -10,7 +10,6 @@ ghost use Rattle.meaning.specs.Pairs.{unclearFault, anyUnclear};
 ghost use Rattle.user_rows.specs.Steps.{Small, Sized, Drawn, Moded};
 ghost use Rattle.answers.specs.Steps.{Boxes};
 use super::atoms::atom_set;
-use super::atoms::no_boxes;
 use base::wide;
 use boxsets::Set;
 use boxsets::is_empty;
@@ -19,6 +18,7 @@ use boxsets::set_at;
 use tables::BoxRow;
 use tables::Verdict;
 use tables::atoms_of;
+use tables::no_boxes;
 use user_rows::no_heads;
 use user_rows::no_numbers;
 use user_rows::sort_row;
@@ -90,5 +90,10 @@ pub fn judge_picture(boxes: &[u8], rows: &[u16], arrows: &[u16], closure: &[u64]
 {
     let mut users = no_boxes();
     let count = atoms_of(boxes, rows, BoxRow::USER, &mut users);
-    judge_modes(closure, arrows, &users[..count], atom_set(boxes, rows, BoxRow::FILE))
+    judge_modes(
+        closure,
+        arrows,
+        &users[..count],
+        atom_set(boxes, rows, BoxRow::FILE),
+    )
 }

@@ -6,7 +6,6 @@ ghost use Rattle.blocks.specs.Blocks.{number16};
 ghost use Rattle.blocks.specs.Files.{blockAt, blockCount};
 use super::BLOCK_SIZE;
 
-
 pub fn wide8(x: u8) -> u16
     ensures { λ r. ⌜ r ≡ x ⌝ }
 {

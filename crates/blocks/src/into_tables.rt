@@ -9,17 +9,17 @@ ghost use Rattle.blocks.specs.Blocks.{headOf, boxRow, containmentRow, ar
 ghost use Rattle.blocks.specs.Files.{blockAt, blockCount, blocksFault, lengthFault, boxesOf, containmentsOf, arrowsOf};
 ghost use Rattle.blocks.specs.Reads.{countsOf, tablesFault, answerOf, ReadDone};
 ghost use Rattle.blocks.specs.Steps.{countsWith, BlockFits, Fitting};
-use super::FILE_LIMIT;
-use super::BLOCK_SIZE;
-use super::bytes::wide8;
 use super::ArrowRecord;
+use super::BLOCK_SIZE;
 use super::BoxRecord;
 use super::ContainmentRecord;
 use super::Counts;
+use super::FILE_LIMIT;
 use super::Head;
 use super::Reading;
-use tables::Verdict;
+use super::bytes::wide8;
 use super::verify::check_block;
+use tables::Verdict;
 
 // Refusal 14.
 fn check_length(len: usize) -> Verdict

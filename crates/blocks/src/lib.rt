@@ -13,14 +13,14 @@ ghost use Rattle.blocks.specs.Blocks.{wrongHead};
 ghost use Rattle.blocks.specs.Files.{blockAt, blockCount};
 ghost use Rattle.blocks.specs.Steps.{noHead, countsWith, noCounts};
 use base::wide;
-use tables::Refusal;
 use bytes::byte_of;
 use bytes::number_of;
-pub use into_tables::read;
 pub use fnv::Check;
+pub use into_tables::read;
 pub use reader::BlockReader;
 pub use reader::head_after;
 pub use reader::head_at;
+use tables::Refusal;
 
 // A block has so many bytes, and a file at most so many.
 const BLOCK_SIZE: usize = 512;
@@ -262,4 +262,3 @@ pub enum Reading {
     Tables(Counts),
     Refused(Refusal),
 }
-

@@ -9,10 +9,10 @@ ghost use Rattle.blocks.specs.Blocks.{number32, headOf, allZero, wrongFi
 ghost use Rattle.blocks.specs.Files.{blockAt, blockCount, kindBefore};
 use super::BLOCK_SIZE;
 use super::Check;
+use super::Head;
 use super::bytes::byte_of;
 use super::bytes::number_of;
 use super::bytes::wide16;
-use super::Head;
 use tables::Verdict;
 
 // The check of a block's bytes 0 to 507.

@@ -83,9 +83,9 @@ module _ (pic : Picture) (m o u : ℕ) (p : Arrow) where
       go false e = simp and-false
       go true e =
           let not-over = subst
-            (λ (z : ℕ). not (overrides pic p a)
-            ≡ (nests pic (p .head) z || (nests pic (p .tail) (a .tail) || (not (nests pic (a .tail) (p .tail)) && not (nests pic z (p .head))))))
-            (eqb→eq (a .head) g (true-T (eqb (a .head) g) e)) (not-overrides pic p a) in
+          (λ (z : ℕ). not (overrides pic p a)
+          ≡ (nests pic (p .head) z || (nests pic (p .tail) (a .tail) || (not (nests pic (a .tail) (p .tail)) && not (nests pic z (p .head))))))
+          (eqb→eq (a .head) g (true-T (eqb (a .head) g) e)) (not-overrides pic p a) in
           rw not-over
           (yes-part (hasMode (pic .arrows) m j) (eqb (a .sign) o) (around (pic .rows) (a .tail) u) (nests pic (p .head) g)
           (nests pic (p .tail) (a .tail)) (nests pic (a .tail) (p .tail)) (nests pic g (p .head)))

@@ -120,10 +120,11 @@ module _ (pic : Picture) (m u f : ℕ) where
   pub unreached : (T (reachedBy pic m positive u f) → ⊥) → (T (reachedBy pic m negative u f) → ⊥) → answer pic m u f ≡ Default
   unfolding answer settle
   unreached p n =
-      rw
-      (lowest-nothing (certifies pic m positive negative u f) count (λ k l t. none-hits positive p k l (certifies-hits pic m u f positive negative k t)),
-      lowest-nothing (certifies pic m negative positive u f) count (λ k l t. none-hits negative n k l (certifies-hits pic m u f negative positive k t)),
-      lowest-nothing (hits pic m positive u f) count (none-hits positive p))
+      rw (
+        lowest-nothing (certifies pic m positive negative u f) count (λ k l t. none-hits positive p k l (certifies-hits pic m u f positive negative k t)),
+        lowest-nothing (certifies pic m negative positive u f) count (λ k l t. none-hits negative n k l (certifies-hits pic m u f negative positive k t)),
+        lowest-nothing (hits pic m positive u f) count (none-hits positive p),
+      )
 
   -- a pair that not both signs reach is granted exactly if the positive one does, and it is clear
   pub one-sided : (T (reachedBy pic m positive u f) → T (reachedBy pic m negative u f) → ⊥)

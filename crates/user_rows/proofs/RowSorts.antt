@@ -103,9 +103,11 @@ module _ (pic : Picture) (m u : ℕ) (files left granted : ℕ → Bool) (before
           let o = row-out n in
           let no-positive : T P → ⊥ = λ p. n (subst T (sym e) (T-or₂ N P p)) in
           let no-negative : T N → ⊥ = λ q. n (subst T (sym e) (T-or₁ N P q)) in
-          let c = one-sided pic m u f (λ p q. no-positive p) in
-          (o .0 ∙ sym (c .0 ∙ not-false P no-positive), o .1 ∙ sym (c .1),
-          λ b. o .2 ∙ b ∙ sym (ap numberOf (unreached pic m u f no-positive no-negative)))
+          let c = one-sided pic m u f (λ p q. no-positive p) in (
+            o .0 ∙ sym (c .0 ∙ not-false P no-positive),
+            o .1 ∙ sym (c .1),
+            λ b. o .2 ∙ b ∙ sym (ap numberOf (unreached pic m u f no-positive no-negative)),
+          )
 
   pub answer-file : (asked : Bool) → files f ≡ ((asked && N) || (asked && P))
       → (granted f ≡ (asked && isGranted (answer pic m u f))) × (left f ≡ (asked && isUnclear (answer pic m u f)))

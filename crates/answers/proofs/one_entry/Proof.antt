@@ -4,7 +4,6 @@ use mathlib.Core.Path.{_≡_, refl, sym, ap, _∙_}
 use borrow.Author.Needs.{needs}
 use Rattle.tables.specs.Rows.{Picture, picture}
 use Rattle.tables.specs.Refusals.{verdictOf}
-
 use lib.ListN.{length}
 use Prim.Native.Nat.{_<_}
 use mathlib.Core.Option.{none}
@@ -49,9 +48,11 @@ returns : tie.Need-returns
 returns c =
     let start = c .before .before .before .before .before .before .before .before .before .before .before .before .before .before .before .before in
     let a = start .args in
-    let p = prepared (c .before .before .before .before .before .before) in
-    (entry-stopped (pic start) (a .scratch .now) (a .mode) (a .u) (a .f) (answer (pic start) (a .mode) (a .u) (a .f)) _
-    (sym (p .0) ∙ c .before .ready .given .1), p .1)
+    let p = prepared (c .before .before .before .before .before .before) in (
+      entry-stopped (pic start) (a .scratch .now) (a .mode) (a .u) (a .f) (answer (pic start) (a .mode) (a .u) (a .f)) _
+          (sym (p .0) ∙ c .before .ready .given .1),
+      p .1,
+    )
 
 drawn : (c : tie.After-enum-told) → Drawn (pic (c .before .before .before .before .before .before .before .before .before .before .before .before .before .before .before)) (c .before .before .before .before .before .prepare .last .1 .1 .1 .1 .0)
 drawn c =
@@ -75,9 +76,11 @@ returns-2 c =
     let told = c .before .before .before .before .before .before in
     let start = told .before .before .before .before .before .before .before .before .before .before .before .before .before .before .before in
     let a = start .args in
-    let p = prepared (told .before .before .before .before .before) in
-    (entry-not-asked (pic start) (a .scratch .now) (a .mode) (a .u) (a .f) (answer (pic start) (a .mode) (a .u) (a .f))
-    (sym (p .0) ∙ told .enum-told .given .1) _ (sym (asked (c .before .before .before)) ∙ c .before .asked .given .1), p .1)
+    let p = prepared (told .before .before .before .before .before) in (
+      entry-not-asked (pic start) (a .scratch .now) (a .mode) (a .u) (a .f) (answer (pic start) (a .mode) (a .u) (a .f))
+          (sym (p .0) ∙ told .enum-told .given .1) _ (sym (asked (c .before .before .before)) ∙ c .before .asked .given .1),
+      p .1,
+    )
 
 -- both boxes are there
 clear : (c : tie.After-enum-told2) → let a = c .before .before .before .before .before .before .before .before .before .before .before .before .before .before .before .before .before .before .before .before .args in verdictOf (askedFault (a .boxes .now) (a .rows .now) (a .u) (a .f)) ≡ Passed
@@ -106,10 +109,12 @@ returns-3 c =
     let p = prepared (told .before .before .before .before .before) in
     let in-boxes = there (c .before .before .before .before) in
     let eu = c .before .before .wide3 .ensures in
-    let ef = c .before .wide4 .ensures in
-    (ap Answered (c .answer-pair .ensures (pic start) (drawn told) refl (rw eu (in-boxes .0)) (rw ef (in-boxes .1)) ∙ rw (eu, ef))
-    ∙ entry-answered (pic start) (a .scratch .now) (a .mode) (a .u) (a .f) (answer (pic start) (a .mode) (a .u) (a .f))
-    (sym (p .0) ∙ told .enum-told .given .1) (clear (c .before .before .before .before)), p .1)
+    let ef = c .before .wide4 .ensures in (
+      ap Answered (c .answer-pair .ensures (pic start) (drawn told) refl (rw eu (in-boxes .0)) (rw ef (in-boxes .1)) ∙ rw (eu, ef))
+          ∙ entry-answered (pic start) (a .scratch .now) (a .mode) (a .u) (a .f) (answer (pic start) (a .mode) (a .u) (a .f))
+          (sym (p .0) ∙ told .enum-told .given .1) (clear (c .before .before .before .before)),
+      p .1,
+    )
 
 pub one-entry-spec : {M : Type 1} → statement M
 one-entry-spec =

@@ -42,9 +42,13 @@ wrote c = (c .take-mode .ensures .0, c .take-mode .ensures .1 .0)
 
 loop-holds : tie.Need-loop-holds Inv-loop μ-loop
 loop-holds c =
-    let a = c .before .before .before .before .before .before .before .before .before .before .before .before .before .before .args in
-    (search needs, refl, refl, λ pic d e us fs.
-    rw zero-mul (built-none (byteAt pic (a .mode)) (a .bytes .now), built-none (numberAt pic (a .mode)) (a .numbers .now)))
+    let a = c .before .before .before .before .before .before .before .before .before .before .before .before .before .before .args in (
+      search needs,
+      refl,
+      refl,
+      λ pic d e us fs.
+          rw zero-mul (built-none (byteAt pic (a .mode)) (a .bytes .now), built-none (numberAt pic (a .mode)) (a .numbers .now)),
+    )
 
 array-share-prefix-own : tie.Need-array-share-prefix-own Inv-loop μ-loop
 array-share-prefix-own c =

@@ -6,7 +6,6 @@ use Rattle.tables.specs.Rows.{picture}
 use Rattle.tables.specs.Faults.{tableFault, modeFault}
 use Rattle.tables.proofs.TableLaws.{sound-rows}
 use Rattle.tables.proofs.Verdicts.{passed, refuses, passes, either-verdict}
-
 use Rattle.containment.specs.Scratch.{scratchFault}
 use Rattle.answers.specs.Calls.{entryEarly}
 use lib.ListN.{length}

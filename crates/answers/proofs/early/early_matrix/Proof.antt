@@ -6,7 +6,6 @@ use Rattle.tables.specs.Rows.{picture}
 use Rattle.tables.specs.Faults.{tableFault, modeFault, roomFault}
 use Rattle.tables.proofs.TableLaws.{sound-rows}
 use Rattle.tables.proofs.Verdicts.{passed, refuses, passes}
-
 use Rattle.tables.specs.Atoms.{pairCount}
 use Rattle.tables.specs.Steps.{SoundRows}
 use Rattle.containment.specs.Scratch.{scratchFault}

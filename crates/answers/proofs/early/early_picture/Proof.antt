@@ -6,7 +6,6 @@ use Rattle.tables.specs.Rows.{picture}
 use Rattle.tables.specs.Faults.{tableFault}
 use Rattle.tables.proofs.TableLaws.{sound-rows}
 use Rattle.tables.proofs.Verdicts.{passed, refuses, passes}
-
 use Rattle.containment.specs.Scratch.{earlyFault}
 use Rattle.answers.proofs.early.early_picture.Statement.{statement}
 use Rattle.answers.proofs.early.early_picture.Tie as tie

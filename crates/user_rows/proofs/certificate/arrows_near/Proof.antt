@@ -16,13 +16,15 @@ returns c =
     let t = h .before in
     let y = t .before in
     let x = y .before in
-    let a = x .before .before .before .args in
-    (search needs, λ pic m d sets there.
-    near-made pic m (a .closure .now) (a .heads .now) d sets (a .sign) (a .user) (x .before .before .before .pre .2) there
-    (record { sign = a .sign; tails = t .shared .result; heads = h .heads-of .result; files = c .minus .result })
-    (a .asked) (o .outside-all .result)
-    (λ k. t .shared .ensures k ∙ ap₂ (λ (p q : Set). isIn p k && isIn q k) (x .set-at .ensures) (y .set-at2 .ensures))
-    (h .heads-of .ensures) (o .outside-all .ensures pic d) (c .minus .ensures))
+    let a = x .before .before .before .args in (
+      search needs,
+      λ pic m d sets there.
+          near-made pic m (a .closure .now) (a .heads .now) d sets (a .sign) (a .user) (x .before .before .before .pre .2) there
+          (record { sign = a .sign; tails = t .shared .result; heads = h .heads-of .result; files = c .minus .result })
+          (a .asked) (o .outside-all .result)
+          (λ k. t .shared .ensures k ∙ ap₂ (λ (p q : Set). isIn p k && isIn q k) (x .set-at .ensures) (y .set-at2 .ensures))
+          (h .heads-of .ensures) (o .outside-all .ensures pic d) (c .minus .ensures),
+    )
 
 pub arrows-near-spec : {M : Type 1} → statement M
 arrows-near-spec =

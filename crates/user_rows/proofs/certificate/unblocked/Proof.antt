@@ -101,7 +101,14 @@ returns c pic m u asked d sets near there f =
     let t = c .before .before in
     let s = start t in
     let k : KnownAt s pic m u = record {
-      drawn = d; sets = sets; small = s .pre .2; asked = asked; near = near; tail-in = there .0; head-in = there .1 } in
+      drawn = d;
+      sets = sets;
+      small = s .pre .2;
+      asked = asked;
+      near = near;
+      tail-in = there .0;
+      head-in = there .1;
+    } in
     one-step pic m (s .args .near .sign) u (s .args .a) f (isIn (s .args .files) f) (isIn (t .outside-all .result) f)
     (by-head pic m u t k f)
     (empty-none (t .outside-all .result) (sym (c .before .is-empty .ensures) ∙ c .if1 .taken) f)
@@ -112,7 +119,14 @@ returns-2 c pic m u asked d sets near there f =
     let t = first-done t₂ in
     let s = start t in
     let k : KnownAt s pic m u = record {
-      drawn = d; sets = sets; small = s .pre .2; asked = asked; near = near; tail-in = there .0; head-in = there .1 } in
+      drawn = d;
+      sets = sets;
+      small = s .pre .2;
+      asked = asked;
+      near = near;
+      tail-in = there .0;
+      head-in = there .1;
+    } in
     two-steps pic m (s .args .near .sign) u (s .args .a) f (isIn (s .args .files) f) (isIn (t .outside-all .result) f)
     (isIn (t₂ .outside-all2 .result) f) (by-head pic m u t k f) (by-tail pic m u t₂ k f)
     (empty-none (t₂ .outside-all2 .result) (sym (c .before .is-empty2 .ensures) ∙ c .if2 .taken) f)
@@ -123,7 +137,14 @@ returns-3 c pic m u asked d sets near there f =
     let t = first-done t₂ in
     let s = start t in
     let k : KnownAt s pic m u = record {
-      drawn = d; sets = sets; small = s .pre .2; asked = asked; near = near; tail-in = there .0; head-in = there .1 } in
+      drawn = d;
+      sets = sets;
+      small = s .pre .2;
+      asked = asked;
+      near = near;
+      tail-in = there .0;
+      head-in = there .1;
+    } in
     three-steps pic m (s .args .near .sign) u (s .args .a) f (isIn (s .args .files) f) (isIn (t .outside-all .result) f)
     (isIn (t₂ .outside-all2 .result) f) (isIn (c .outside-all3 .result) f) (by-head pic m u t k f) (by-tail pic m u t₂ k f)
     (by-level pic m u c k f)

@@ -107,10 +107,12 @@ returns : tie.Need-returns Inv-loop μ-loop
 returns c =
     let at = c .before .before .before in
     let l = at .loop in
-    let a = start at .args in
-    (l .inv .len, walking-empty (a .closure .now) (a .heads .now) (a .arrows .now) (a .own .now) (a .x) (a .files) (a .numbers .now)
-    (l .numbers) (l .granted) (l .left) (l .i) (l .inv)
-    (is-empty (l .left) (c .before .is-empty .result) (c .before .is-empty .ensures) (c .if1 .left)) (length (a .own .now)))
+    let a = start at .args in (
+      l .inv .len,
+      walking-empty (a .closure .now) (a .heads .now) (a .arrows .now) (a .own .now) (a .x) (a .files) (a .numbers .now)
+          (l .numbers) (l .granted) (l .left) (l .i) (l .inv)
+          (is-empty (l .left) (c .before .is-empty .result) (c .before .is-empty .ensures) (c .if1 .left)) (length (a .own .now)),
+    )
 
 same-length-2 : tie.Need-same-length-2 Inv-loop μ-loop
 same-length-2 c = c .before .loop .inv .len
