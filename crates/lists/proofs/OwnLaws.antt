@@ -12,18 +12,37 @@ use lib.ListN.{length, getD, length-append}
 use Rattle.base.specs.Search.{anyBelow, lowest, select}
 use Rattle.base.proofs.Tests.{and-T, T-and}
 use Rattle.base.proofs.AnyLaws.{any-found}
+use Rattle.base.proofs.BufferLaws.{select-most}
 use Rattle.base.proofs.SearchLaws.{lowest-some, lowest-none}
 use Rattle.base.proofs.SelectLaws.{select-found, select-has, select-rising, select-within}
 use Rattle.tables.specs.Rows.{Picture, arrowCount, arrowAt}
 use Rattle.tables.specs.declared.Arrow.{Arrow}
-use Rattle.meaning.specs.Meaning.{hasMode}
+use Rattle.meaning.specs.Meaning.{hasMode, modeArrows}
+use Rattle.meaning.proofs.ModeLaws.{mode-select}
 use Rattle.user_rows.specs.Row.{same, isOwn, ownArrows}
+use Rattle.user_rows.specs.Steps.{Small}
 use Rattle.user_rows.proofs.SameLaws.{same-parts}
 use Rattle.lists.specs.Order.{allOf, ofMode}
 use Rattle.lists.specs.Greedy.{addable, next, listTo, greedy}
 use Rattle.lists.proofs.CountLaws.{allOf-snoc, room}
 use Rattle.lists.proofs.GreedyLaws.{ofMode-there, ofMode-has, addable-own, addable-same}
 use Rattle.lists.proofs.NextLaws.{next-some, next-none, next-nothing, to-next, to-holds, to-grown, greedy-is}
+
+-- ---- how many there are
+
+pub own-most : (arrows : List ℕ) (m : ℕ) → length (ownArrows arrows m) ≤ arrowCount arrows
+unfolding ownArrows
+own-most arrows m = select-most (isOwn arrows m) (arrowCount arrows)
+
+pub own-fits : (arrows : List ℕ) (m n : ℕ) → Small arrows → 512 ≤ n → length (ownArrows arrows m) ≤ n
+own-fits arrows m n small room = omega (arith, own-most arrows m, small .few)
+
+-- no more than the mode has arrows
+pub own-mode-most : (arrows : List ℕ) (m : ℕ) → length (ownArrows arrows m) ≤ length (modeArrows arrows m)
+unfolding ownArrows isOwn
+own-mode-most arrows m =
+    let s = select-within (isOwn arrows m) (hasMode arrows m) (arrowCount arrows) (λ k h t. and-T (hasMode arrows m k) _ t .0) in
+    omega (arith, ap length (mode-select arrows m))
 
 -- ---- any test that a repeat of an arrow passes with it
 
