@@ -1,11 +1,11 @@
--- `lists::finish` meets its contract, by what check 13 found. Assumes nothing.
+-- `lists::stages::finish` meets its contract, by what check 13 found. Assumes nothing.
 use mathlib.Core.Path.{_≡_, sym, _∙_}
 use borrow.Author.Needs.{needs}
 use Rattle.tables.proofs.Verdicts.{passed, refused}
 use Rattle.lists.specs.Greedy.{orderFault}
 use Rattle.lists.proofs.CallLaws.{finish-written, finish-refused}
-use Rattle.lists.proofs.finish.Statement.{statement}
-use Rattle.lists.proofs.finish.Tie as tie
+use Rattle.lists.proofs.stages.finish.Statement.{statement}
+use Rattle.lists.proofs.stages.finish.Tie as tie
 
 returns : tie.Need-returns
 returns c pic m old verdict counted need room listed =

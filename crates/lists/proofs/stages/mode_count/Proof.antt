@@ -1,4 +1,4 @@
--- `lists::mode_count` meets its contract: the count is that of the mode's arrows below k. Assumes nothing.
+-- `lists::stages::mode_count` meets its contract: the count is that of the mode's arrows below k. Assumes nothing.
 use mathlib.Core.Path.{_≡_, sym, ap, _∙_}
 use mathlib.Core.Logic.{⊎-elim}
 use Prim.Native.Nat.{_-_, _≤_}
@@ -13,8 +13,8 @@ use Rattle.tables.specs.declared.Arrow.{Arrow}
 use Rattle.meaning.specs.Meaning.{hasMode}
 use Rattle.meaning.proofs.ModeLaws.{mode-select}
 use Rattle.lists.proofs.CountLaws.{select-none, select-one, select-skip}
-use Rattle.lists.proofs.mode_count.Statement.{statement}
-use Rattle.lists.proofs.mode_count.Tie as tie
+use Rattle.lists.proofs.stages.mode_count.Statement.{statement}
+use Rattle.lists.proofs.stages.mode_count.Tie as tie
 
 abbrev Inv-loop : tie.InvT-loop
 Inv-loop arrows mode count₀ k₀ k-end count k = (k ≤ arrowCount arrows) × (count ≡ length (select (hasMode arrows mode) k))
