@@ -1,13 +1,13 @@
 -- What the call answers and leaves, stage by stage. Assumes nothing.
-use mathlib.Core.Path.{_≡_, refl, ap, _∙_}
+use mathlib.Core.Path.{_≡_, refl, sym, ap, _∙_}
 use mathlib.Core.List.{List}
 use mathlib.Core.Option.{Option, none, some}
 use Prim.Native.Nat.{ℕ, _*_, _<_, _≤_}
 use native.Mathlib.Omega.{arith}
 use lib.ListN.{length, length-replicate}
 use Rattle.base.specs.Search.{orElse}
-use Rattle.base.specs.Buffers.{written}
-use Rattle.base.proofs.Options.{past, orElse-assoc}
+use Rattle.base.specs.Buffers.{written, zeros}
+use Rattle.base.proofs.Options.{past, stop, orElse-assoc}
 use Rattle.base.proofs.BufferLaws.{written-over}
 use Rattle.tables.specs.Rows.{Picture}
 use Rattle.tables.specs.Refusals.{verdictOf, either}
@@ -15,11 +15,13 @@ use Rattle.tables.specs.Faults.{tableFault, modeFault, roomFault}
 use Rattle.tables.specs.declared.Refusal.{Refusal}
 use Rattle.tables.proofs.Verdicts.{either-verdict}
 use Rattle.tables.proofs.TableLaws.{both-none, mode-passed, room-passed}
-use Rattle.containment.specs.Scratch.{scratchFault}
+use Rattle.containment.specs.Scratch.{scratchFault, scratchAfter}
+use Rattle.containment.specs.Contains.{loopFault}
 use Rattle.containment.proofs.ScratchLaws.{scratch-room}
-use Rattle.meaning.specs.Pairs.{pairs}
+use Rattle.meaning.specs.Pairs.{pairs, unclearFault}
 use Rattle.lists.specs.Greedy.{greedy, orderFault}
-use Rattle.lists.specs.Calls.{blanks, listRoom, listEarly, listedOf, placesOf, listAnswer, listAfter}
+use Rattle.lists.specs.Calls.{blanks, listRoom, listEarly, listBefore, listedOf, placesOf, listAnswer, listAfter, workAfter}
+use Rattle.lists.specs.Steps.{Listing}
 use Rattle.lists.specs.declared.Listed.{Listed}
 use Rattle.lists.specs.declared.Listed.the-variants.{Written, Refused}
 use Rattle.lists.proofs.GreedyLaws.{mode-room}
@@ -94,3 +96,55 @@ module _ (pic : Picture) (m : ℕ) (count : ℕ) (out old : List ℕ) (counted :
             ∙ ap (λ (k : ℕ). written (blanks k) old) is
             ∙ a .1,
       )
+
+-- ---- once checks 1 to 10 have passed
+
+module _ (pic : Picture) (m : ℕ) (out work : List ℕ) where
+  -- check 12 refuses
+  pub listing-refused : (x : Refusal) → unclearFault pic m ≡ some x → Listing pic m out work (Refused x) out work
+  unfolding listAnswer listedOf listAfter workAfter
+  listing-refused x e = record { answered = rw (e, stop (some x) _ refl); list-after = rw e; work-after = rw e }
+
+  -- it passes
+  pub listing-done : unclearFault pic m ≡ none → (r : Listed) (out′ work′ : List ℕ) → Answered pic m r out out′
+      → work′ ≡ written (zeros (pairs pic)) work → Listing pic m out work r out′ work′
+  unfolding workAfter
+  listing-done e r out′ work′ a w = record { answered = rw e (a .0); list-after = rw e (a .1); work-after = rw e w }
+
+-- ---- how the call ends
+
+module _ (pic : Picture) (m : ℕ) (s out work : List ℕ) where
+  abbrev early : Option Refusal
+  early = listEarly pic m s out work
+
+  -- checks 1 to 10
+  abbrev pub tenFault : Option Refusal
+  tenFault = orElse early (loopFault (pic .boxes) (pic .rows))
+
+  -- what the call answers, and the scratch, the list places and the work bytes at the end
+  abbrev pub ListEnds : Listed → List ℕ → List ℕ → List ℕ → Type 0
+  ListEnds r s′ out′ work′ =
+      (r ≡ listAnswer pic m (listBefore pic m s out work))
+      × ((s′ ≡ scratchAfter early (pic .boxes) (pic .rows) s)
+      × ((out′ ≡ listAfter pic m (listBefore pic m s out work) out) × (work′ ≡ workAfter pic m (listBefore pic m s out work) work)))
+
+  before-is : listBefore pic m s out work ≡ orElse tenFault (unclearFault pic m)
+  unfolding listBefore
+  before-is = sym (orElse-assoc early (loopFault (pic .boxes) (pic .rows)) (unclearFault pic m))
+
+  pub end-refused : (x : Refusal) → tenFault ≡ some x → (s′ : List ℕ) → s′ ≡ scratchAfter early (pic .boxes) (pic .rows) s
+      → ListEnds (Refused x) s′ out work
+  unfolding listAnswer listedOf listAfter workAfter
+  end-refused x e s′ w =
+      let f = before-is ∙ stop tenFault (unclearFault pic m) e in
+      (rw (f, stop (some x) _ refl), (w, (rw f, rw f)))
+
+  pub end-listing : tenFault ≡ none → (s′ : List ℕ) → s′ ≡ scratchAfter early (pic .boxes) (pic .rows) s
+      → (r : Listed) (out′ work′ : List ℕ) → Listing pic m out work r out′ work′ → ListEnds r s′ out′ work′
+  end-listing e s′ w r out′ work′ g =
+      let f = before-is ∙ past tenFault (unclearFault pic m) e in
+      (rw f (g .answered), (w, (rw f (g .list-after), rw f (g .work-after))))
+
+  -- what the closure is made for
+  pub ten-none : tenFault ≡ none → Rooms pic m s out work × (loopFault (pic .boxes) (pic .rows) ≡ none)
+  ten-none e = let b = both-none early _ e in (rooms pic m s out work (b .0), b .1)

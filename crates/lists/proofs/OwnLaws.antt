@@ -8,11 +8,12 @@ use Prim.Native.Nat.{ℕ, suc, _+_, _<_, _≤_}
 use native.Mathlib.Numerals.{add-one}
 use native.Mathlib.Omega.{arith}
 use lib.Dec.{T, not-T, ltb, ltb→lt, lt→ltb}
-use lib.ListN.{length, getD, length-append}
+use lib.ListN.{length, getD, take, length-append}
 use Rattle.base.specs.Search.{anyBelow, lowest, select}
 use Rattle.base.proofs.Tests.{and-T, T-and}
 use Rattle.base.proofs.AnyLaws.{any-found}
 use Rattle.base.proofs.BufferLaws.{select-most}
+use Rattle.base.proofs.PartLaws.{Wrote, part-is}
 use Rattle.base.proofs.SearchLaws.{lowest-some, lowest-none}
 use Rattle.base.proofs.SelectLaws.{select-found, select-has, select-rising, select-within}
 use Rattle.tables.specs.Rows.{Picture, arrowCount, arrowAt}
@@ -20,7 +21,7 @@ use Rattle.tables.specs.declared.Arrow.{Arrow}
 use Rattle.meaning.specs.Meaning.{hasMode, modeArrows}
 use Rattle.meaning.proofs.ModeLaws.{mode-select}
 use Rattle.user_rows.specs.Row.{same, isOwn, ownArrows}
-use Rattle.user_rows.specs.Steps.{Small}
+use Rattle.user_rows.specs.Steps.{Small, Numbers}
 use Rattle.user_rows.proofs.SameLaws.{same-parts}
 use Rattle.lists.specs.Order.{allOf, ofMode}
 use Rattle.lists.specs.Greedy.{addable, next, listTo, greedy}
@@ -43,6 +44,23 @@ unfolding ownArrows isOwn
 own-mode-most arrows m =
     let s = select-within (isOwn arrows m) (hasMode arrows m) (arrowCount arrows) (λ k h t. and-T (hasMode arrows m k) _ t .0) in
     omega (arith, ap length (mode-select arrows m))
+
+-- the part of the numbers that is lent on
+pub record OwnPart (arrows : List ℕ) (m : ℕ) (own : List ℕ) : Type 0 where
+  pub numbers : Numbers arrows own
+  pub few : length own ≤ 512
+  pub most : length own ≤ length (modeArrows arrows m)
+
+pub own-part : (arrows : List ℕ) (m : ℕ) (old : List ℕ) (count : ℕ) (own : List ℕ) → Wrote (ownArrows arrows m) old count own → Small arrows
+    → OwnPart arrows m (take count own)
+unfolding ownArrows
+own-part arrows m old count own w small =
+    rw (part-is (ownArrows arrows m) old count own w)
+    (record {
+      numbers = λ i l. select-found (isOwn arrows m) (arrowCount arrows) i l .0;
+      few = own-fits arrows m 512 small (omega arith);
+      most = own-mode-most arrows m;
+    })
 
 -- ---- any test that a repeat of an arrow passes with it
 
