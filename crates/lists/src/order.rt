@@ -78,14 +78,7 @@ fn standing_by(closure: &[u64], arrows: &[u16], left: &[u64], granted: &[u64], k
 }
 
 // The mark of arrow k, by the mark that it has: what is spent stays so, and is not looked at again.
-fn look(
-    closure: &[u64],
-    arrows: &[u16],
-    left: &[u64],
-    granted: &[u64],
-    k: usize,
-    mark: u8,
-) -> u8
+fn look(closure: &[u64], arrows: &[u16], left: &[u64], granted: &[u64], k: usize, mark: u8) -> u8
     requires { ⌜ (length (now closure) ≡ 2048) × (length (now left) ≡ 1024) × (length (now granted) ≡ 1024)
         × Small (now arrows) × (k < arrowCount (now arrows)) ⌝ }
     requires { ⌜ ((mark ≡ 0 → ⊥) → standingBy (now closure) (now left) (now granted) (arrowAt (now arrows) k) ≡ Standing.Spent) ⌝ }

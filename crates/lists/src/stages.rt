@@ -97,7 +97,15 @@ pub fn list_mode(
     let files = asked.files;
     let mut own = no_numbers();
     let mut granted = no_sets();
-    let sorted = sort_mode(closure, arrows, asked.mode, users, files, &mut own, &mut granted);
+    let sorted = sort_mode(
+        closure,
+        arrows,
+        asked.mode,
+        users,
+        files,
+        &mut own,
+        &mut granted,
+    );
     let unclear = sorted.unclear;
     if let Verdict::Refused(r) = unclear {
         return Listed::Refused(r);

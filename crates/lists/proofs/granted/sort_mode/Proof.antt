@@ -89,7 +89,7 @@ same-length : tie.Need-same-length Inv-loop μ-loop
 same-length c =
     let taken = c .before .before .before .before .before .before .before .before .before .before .before .before .before .before .before .before in
     let start = taken .before .before .before .before .before .before .before .before .before in
-    wrote-length (ownArrows (start .args .arrows .now) (start .args .mode)) _ _ _ (wrote taken) 
+    wrote-length (ownArrows (start .args .arrows .now) (start .args .mode)) _ _ _ (wrote taken)
     (own-fits (start .args .arrows .now) (start .args .mode) _ (start .pre .1) (start .pre .3))
 
 same-length-2 : tie.Need-same-length-2 Inv-loop μ-loop
@@ -154,7 +154,7 @@ same-length-3 : tie.Need-same-length-3 Inv-loop μ-loop
 same-length-3 c =
     let taken = c .before .before .before .before .before in
     let start = taken .before .before .before .before .before .before .before .before .before in
-    wrote-length (ownArrows (start .args .arrows .now) (start .args .mode)) _ _ _ (wrote taken) 
+    wrote-length (ownArrows (start .args .arrows .now) (start .args .mode)) _ _ _ (wrote taken)
     (own-fits (start .args .arrows .now) (start .args .mode) _ (start .pre .1) (start .pre .3))
 
 same-length-4 : tie.Need-same-length-4 Inv-loop μ-loop

@@ -51,10 +51,11 @@ same-length c = c .before .before .before .before .before .before .loop .inv .le
 returns : tie.Need-returns Inv-loop μ-loop
 returns c =
     let at-loop = c .before .before .before .before .before .before in
-    let a = at-loop .before .before .before .before .before .before .before .args in
-    (looked-found (a .closure .now) (a .arrows .now) (a .own .now) (a .left .now) (a .granted .now) (a .done .now) (at-loop .loop .i)
-    (at-loop .loop .done) (c .before .look .result) (omega arith) (mark-is (c .before)) (at-loop .loop .inv) (c .if1 .taken),
-    (at-loop .loop .inv .len, at-loop .loop .inv .marked))
+    let a = at-loop .before .before .before .before .before .before .before .args in (
+      looked-found (a .closure .now) (a .arrows .now) (a .own .now) (a .left .now) (a .granted .now) (a .done .now) (at-loop .loop .i)
+          (at-loop .loop .done) (c .before .look .result) (omega arith) (mark-is (c .before)) (at-loop .loop .inv) (c .if1 .taken),
+      (at-loop .loop .inv .len, at-loop .loop .inv .marked),
+    )
 
 slice-write-done : tie.Need-slice-write-done Inv-loop μ-loop
 slice-write-done c =
@@ -78,9 +79,11 @@ returns-2 c =
     let at-loop = c .before in
     let a = at-loop .before .before .before .before .before .before .before .args in
     let most = at-loop .loop .inv .at-most in
-    let e : at-loop .loop .i ≡ length (a .own .now) = omega arith in
-    (looked-end (a .closure .now) (a .arrows .now) (a .own .now) (a .left .now) (a .granted .now) (a .done .now) (at-loop .loop .done)
-    (rw e at (at-loop .loop .inv)), (at-loop .loop .inv .len, at-loop .loop .inv .marked))
+    let e : at-loop .loop .i ≡ length (a .own .now) = omega arith in (
+      looked-end (a .closure .now) (a .arrows .now) (a .own .now) (a .left .now) (a .granted .now) (a .done .now) (at-loop .loop .done)
+          (rw e at (at-loop .loop .inv)),
+      (at-loop .loop .inv .len, at-loop .loop .inv .marked),
+    )
 
 pub next-free-spec : {M : Type 1} → statement M
 next-free-spec =

@@ -27,9 +27,10 @@ next-free-requires : tie.Need-next-free-requires Inv-loop μ-loop
 next-free-requires c κs =
     let at-loop = c .before .before .before in
     let start = at-loop .before .before .before .before .before .before .before .before in
-    let inv = at-loop .loop .inv in
-    ((start .pre .0 .0, inv .left-len, start .pre .0 .2),
-    ((start .pre .1 .0, start .pre .1 .1, omega (arith, inv .done-len, start .pre .1 .2)), inv .marked))
+    let inv = at-loop .loop .inv in (
+      (start .pre .0 .0, inv .left-len, start .pre .0 .2),
+      ((start .pre .1 .0, start .pre .1 .1, omega (arith, inv .done-len, start .pre .1 .2)), inv .marked),
+    )
 
 returns : tie.Need-returns Inv-loop μ-loop
 returns c =

@@ -27,8 +27,13 @@ unfolding standingBy
 returns c =
     let at-arrow = c .before .before .before .before .before in
     c .standing .ensures
-    ∙ rw (c .before .set-at2 .ensures, c .before .before .wide2 .ensures, c .before .before .before .set-at .ensures,
-    c .before .before .before .before .wide .ensures, at-arrow .at .ensures)
+    ∙ rw (
+      c .before .set-at2 .ensures,
+      c .before .before .wide2 .ensures,
+      c .before .before .before .set-at .ensures,
+      c .before .before .before .before .wide .ensures,
+      at-arrow .at .ensures,
+    )
 
 pub standing-by-spec : {M : Type 1} → statement M
 standing-by-spec =

@@ -26,8 +26,13 @@ returns c =
     let took = c .before .before in
     let at-files = took .before .before in
     let at-arrow = at-files .before .before .before .before in
-    rw (at-files .set-at2 .ensures, at-files .before .wide2 .ensures, at-files .before .before .set-at .ensures,
-    at-files .before .before .before .wide .ensures, at-arrow .at .ensures)
+    rw (
+      at-files .set-at2 .ensures,
+      at-files .before .wide2 .ensures,
+      at-files .before .before .set-at .ensures,
+      at-files .before .before .before .wide .ensures,
+      at-arrow .at .ensures,
+    )
     at (took .take-files .ensures)
 
 pub take-arrow-spec : {M : Type 1} → statement M

@@ -38,10 +38,16 @@ loop-again c =
     let a = at-loop .before .before .args in
     let mode-is = ap (λ (x : Arrow). x .mode) (c .before .before .at .ensures) in
     ⊎-elim
-    (λ w. (search needs, w .1 ∙ select-one (hasMode (a .arrows .now) (a .mode)) (at-loop .loop .k) (at-loop .loop .count)
-    (eq-eqb _ (a .mode) (sym mode-is ∙ w .0 .taken)) (at-loop .loop .inv .1)))
-    (λ w. (search needs, w .1 ∙ select-skip (hasMode (a .arrows .now) (a .mode)) (at-loop .loop .k) (at-loop .loop .count)
-    (ne-eqb _ (a .mode) (λ e. w .0 .left (mode-is ∙ e))) (at-loop .loop .inv .1)))
+    (λ w. (
+      search needs,
+      w .1 ∙ select-one (hasMode (a .arrows .now) (a .mode)) (at-loop .loop .k) (at-loop .loop .count)
+          (eq-eqb _ (a .mode) (sym mode-is ∙ w .0 .taken)) (at-loop .loop .inv .1),
+    ))
+    (λ w. (
+      search needs,
+      w .1 ∙ select-skip (hasMode (a .arrows .now) (a .mode)) (at-loop .loop .k) (at-loop .loop .count)
+          (ne-eqb _ (a .mode) (λ e. w .0 .left (mode-is ∙ e))) (at-loop .loop .inv .1),
+    ))
     (c .if1 .came)
 
 returns : tie.Need-returns Inv-loop μ-loop
