@@ -10,12 +10,10 @@ use lib.Dec.{T}
 use lib.ListN.{length}
 use Rattle.tables.specs.Rows.{Picture}
 use Rattle.base.specs.Buffers.{written}
-use Rattle.tables.specs.Atoms.{pairCount}
 use Rattle.tables.specs.Refusals.{noOrder}
-use Rattle.tables.specs.Faults.{tableFault}
 use Rattle.tables.specs.declared.Refusal.{Refusal}
 use Rattle.meaning.specs.Meaning.{modeArrows}
-use Rattle.meaning.specs.Pairs.{userAt, fileAt}
+use Rattle.meaning.specs.Pairs.{pairs, userAt, fileAt}
 use Rattle.lists.specs.Order.{distinct, meets, reached, granted, right, honest, coversAll, qualifies, FirstMissed}
 use Rattle.lists.specs.Greedy.{greedy, orderFault}
 use Rattle.lists.specs.Calls.{listEarly, listBefore, listAnswer, listAfter, workAfter}
@@ -30,11 +28,9 @@ use Rattle.base.proofs.BufferLaws.{written-rest}
 use Rattle.base.proofs.PartLaws.{part-is, wrote-length}
 use Rattle.meaning.proofs.PairLaws.{userAt-atom, fileAt-atom, pair-place, pair-before}
 use Rattle.meaning.proofs.ModeLaws.{answer-at}
-use Rattle.lists.proofs.GreedyLaws.{honest-own, honest-right, honest-is}
+use Rattle.lists.proofs.GreedyLaws.{honest-own, honest-right, honest-is, mode-room}
 use Rattle.lists.proofs.OrderLaws.{covers-is, covers-at, greedy-qualifies, order-none, order-some, order-missed}
-use Rattle.lists.proofs.GrowLaws.{own-room}
-use Rattle.lists.proofs.CallLaws.{answered-list, answered-none}
-use Rattle.lists.proofs.EndLaws.{rooms}
+use Rattle.lists.proofs.CallLaws.{answered-list, answered-none, rooms}
 
 module _ (pic : Picture) (m : ℕ) where
   -- ---- places and pairs
@@ -103,10 +99,8 @@ module _ (pic : Picture) (m : ℕ) where
 
   -- checks 1 to 12 leave a place for each arrow of the mode
   room-for : (s out work : List ℕ) → listBefore pic m s out work ≡ none → length (modeArrows (pic .arrows) m) ≤ length out
-  unfolding listEarly listBefore
-  room-for s out work e =
-      rooms pic m s out work
-      (both-none (tableFault pic) _ (both-none (listEarly pic m s out work) _ e .0) .1) .out-room
+  unfolding listBefore
+  room-for s out work e = rooms pic m s out work (both-none (listEarly pic m s out work) _ e .0) .out-room
 
   list-there : (l out out′ : List ℕ) → length (modeArrows (pic .arrows) m) ≤ length out → out′ ≡ written l out
       → T (qualifies pic m l)
@@ -115,7 +109,7 @@ module _ (pic : Picture) (m : ℕ) where
   list-there l out out′ h w q =
       let a = and-T (honest pic m l) _ q in
       let b = and-T (distinct l) (coversAll pic m l) (a .1) in
-      let few = own-room pic m (modeArrows (pic .arrows) m) refl l (record { is-honest = a .0; once = b .0 }) in
+      let few = mode-room pic m l (record { is-honest = a .0; once = b .0 }) in
       let fit : length l ≤ length out = omega arith in
       let part = part-is l out (length l) out′ (refl, w) in
       record {

@@ -13,10 +13,8 @@ use lib.Dec.{T, eqb, eqb→eq}
 use lib.ListN.{length, getD, take, length-append, List·getD-append}
 use lib.Seq.{take-suc, take-length, take-append-le, take-at, getD-append-seam}
 use Rattle.tables.specs.Rows.{Picture, arrowCount, arrowAt}
-use Rattle.tables.specs.Atoms.{pairCount}
-use Rattle.tables.specs.declared.Arrow.{Arrow}
 use Rattle.tables.specs.declared.Refusal.{Refusal}
-use Rattle.meaning.specs.Pairs.{userAt, fileAt}
+use Rattle.meaning.specs.Pairs.{pairs, userAt, fileAt}
 use Rattle.lists.specs.Order.{anyOf, ofMode, meets, right}
 use Rattle.lists.specs.Greedy.{next, addable, listTo, greedy, orderFault}
 use Rattle.lists.specs.Condition.{Reaches}
@@ -30,7 +28,7 @@ use Rattle.base.proofs.PartLaws.{part-is}
 use Rattle.meaning.proofs.PairLaws.{pair-place}
 use Rattle.lists.proofs.CountLaws.{anyOf-snoc}
 use Rattle.lists.proofs.MatchLaws.{honest-fits}
-use Rattle.lists.proofs.GreedyLaws.{honest-right, adds, addable-own, adds-new, addable-is, Grown, grown-none, grown-more}
+use Rattle.lists.proofs.GreedyLaws.{honest-right, addable-own, adds-new, addable-is, addable-same, Grown, grown-none, grown-more}
 use Rattle.lists.proofs.NextLaws.{next-some, next-is, next-none, next-nothing, to-next, to-holds, to-grown, greedy-ends, greedy-is}
 use Rattle.lists.proofs.CallLaws.{answered-list, answered-none}
 use Rattle.lists.proofs.ConditionLaws.{pair-at, honest-pairs, not-both}
@@ -139,13 +137,6 @@ module _ (pic : Picture) (m : ℕ) where
   fixed-order l = (only-one l, λ e. rw e greedy-fixed)
 
   -- of repeated arrows only the lowest number stands in it
-  same-arrow : (l : List ℕ) (j k : ℕ) → arrowAt (pic .arrows) j ≡ arrowAt (pic .arrows) k → T (ofMode (pic .arrows) m j)
-      → T (Can l k) → T (Can l j)
-  unfolding meets right
-  same-arrow l j k e o t =
-      let n = adds-new pic m l k t in
-      addable-is pic m l j o (rw (e, ap (λ (a : Arrow). a .sign) e) (adds pic m l k t .1)) (n .0) (n .1) (rw e (n .2)) (n .3)
-
   pub repeat-left-out : (j k : ℕ) → j < k → T (ofMode (pic .arrows) m j) → arrowAt (pic .arrows) j ≡ arrowAt (pic .arrows) k
       → T (anyOf (eqb k) (greedy pic m)) → ⊥
   unfolding greedy anyOf
@@ -155,7 +146,7 @@ module _ (pic : Picture) (m : ℕ) where
       ⊎-elim left
       (λ q.
       let s = next-some pic m l k (n ∙ ap some (sym (eqb→eq k i q))) in
-      s .1 j h (same-arrow l j k e o (s .0)))
+      s .1 j h (addable-same pic m l j k e o (s .0)))
       (or-T (anyOf (eqb k) l) (eqb k i) (rw anyOf-snoc at t)))
       (arrowCount (pic .arrows))
 

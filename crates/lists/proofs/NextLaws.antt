@@ -12,7 +12,7 @@ use native.Mathlib.Omega.{arith}
 use lib.Dec.{T}
 use lib.ListN.{length, length-append}
 use Rattle.tables.specs.Rows.{Picture, arrowCount}
-use Rattle.tables.specs.Atoms.{pairCount}
+use Rattle.meaning.specs.Pairs.{pairs}
 use Rattle.lists.specs.Order.{ofMode, meets, right}
 use Rattle.lists.specs.Greedy.{followed, addable, next, listTo, greedy}
 use Rattle.base.proofs.SearchLaws.{lowest-some, lowest-none, some-none}

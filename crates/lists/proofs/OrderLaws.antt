@@ -9,10 +9,9 @@ use Prim.Native.Nat.{ℕ, _<_}
 use native.Mathlib.Omega.{arith}
 use lib.Dec.{T, T-not, not-T}
 use Rattle.tables.specs.Rows.{Picture}
-use Rattle.tables.specs.Atoms.{pairCount}
 use Rattle.tables.specs.Refusals.{noOrder}
 use Rattle.tables.specs.declared.Refusal.{Refusal}
-use Rattle.meaning.specs.Pairs.{userAt, fileAt}
+use Rattle.meaning.specs.Pairs.{pairs, userAt, fileAt}
 use Rattle.lists.specs.Order.{distinct, ofMode, meets, reached, granted, right, honest, coversAll, qualifies, FirstMissed}
 use Rattle.lists.specs.Greedy.{greedy, leftBy, orderFault}
 use Rattle.tables.proofs.TableLaws.{not-not}
@@ -24,9 +23,6 @@ use Rattle.lists.proofs.GreedyLaws.{implies, implied, honest-own, hones
 use Rattle.lists.proofs.NextLaws.{greedy-grown, greedy-full}
 
 module _ (pic : Picture) (m : ℕ) where
-  abbrev pairs : ℕ
-  pairs = pairs pic
-
   -- the pair at place p is granted, and the list does not reach it
   abbrev left : List ℕ → ℕ → Bool
   left l p = granted pic m p && not (reached pic l p)
@@ -43,31 +39,31 @@ module _ (pic : Picture) (m : ℕ) where
       not-not (reached pic l p) (λ r. n (T-and (granted pic m p) (not (reached pic l p)) g r))
 
   -- what it is to reach every granted pair
-  pub covers-is : (l : List ℕ) → ((p : ℕ) → p < pairs → T (granted pic m p) → T (reached pic l p))
+  pub covers-is : (l : List ℕ) → ((p : ℕ) → p < (pairs pic) → T (granted pic m p) → T (reached pic l p))
       → T (coversAll pic m l)
   unfolding coversAll
   covers-is l h =
-      every-is (λ p. not (granted pic m p) || reached pic l p) pairs
+      every-is (λ p. not (granted pic m p) || reached pic l p) (pairs pic)
       (λ p b. implies (granted pic m p) (reached pic l p) (h p b))
 
   pub covers-at : (l : List ℕ) → T (coversAll pic m l)
-      → (p : ℕ) → p < pairs → T (granted pic m p) → T (reached pic l p)
+      → (p : ℕ) → p < (pairs pic) → T (granted pic m p) → T (reached pic l p)
   unfolding coversAll
   covers-at l c p b =
       implied (granted pic m p) (reached pic l p)
-      (every-at (λ p. not (granted pic m p) || reached pic l p) pairs c p b)
+      (every-at (λ p. not (granted pic m p) || reached pic l p) (pairs pic) c p b)
 
   -- a list that leaves nothing does
   left-none : (l : List ℕ) → leftBy pic m l ≡ none → T (coversAll pic m l)
   unfolding leftBy
-  left-none l e = covers-is l (λ p b g. unless-left l p g (given-none (left l p) (place p) (first-none _ pairs e p b)))
+  left-none l e = covers-is l (λ p b g. unless-left l p g (given-none (left l p) (place p) (first-none _ (pairs pic) e p b)))
 
   -- the list reaches all that an honest list reaches, since nothing can be added to it
   pub most : (l : List ℕ) → T (honest pic m l)
-      → (p : ℕ) → p < pairs → T (reached pic l p) → T (reached pic best p)
+      → (p : ℕ) → p < (pairs pic) → T (reached pic l p) → T (reached pic best p)
   unfolding reached
   most l h =
-      maximal pairs (meets pic) (right pic m) (ofMode (pic .arrows) m) best (greedy-full pic m) l
+      maximal (pairs pic) (meets pic) (right pic m) (ofMode (pic .arrows) m) best (greedy-full pic m) l
       (honest-own pic m l h) (honest-right pic m l h)
 
   -- where 13 is not said, it qualifies
@@ -87,7 +83,7 @@ module _ (pic : Picture) (m : ℕ) where
   order-none = (
     λ e. (best, greedy-grown pic m .is-honest, left-none best e),
     λ s.
-        first-nothing _ pairs
+        first-nothing _ (pairs pic)
         (λ p b.
         given-false (left best p) (place p)
         (not-false (left best p)
@@ -101,7 +97,7 @@ module _ (pic : Picture) (m : ℕ) where
   pub order-some : (x : Refusal) → orderFault pic m ≡ some x → (u f : ℕ) × (x ≡ noOrder m u f)
   unfolding orderFault leftBy
   order-some x e =
-      let w = first-some _ pairs x e in
+      let w = first-some _ (pairs pic) x e in
       (userAt pic (w .0), fileAt pic (w .0), sym (given-some (left best (w .0)) (place (w .0)) x (w .2) .1))
 
   -- it names a pair exactly when that is the first granted pair that no honest list whatever reaches
@@ -111,7 +107,7 @@ module _ (pic : Picture) (m : ℕ) where
     where
       named : leftBy pic m best ≡ some (noOrder m u f) → FirstMissed pic m u f
       named e =
-          let w = first-some _ pairs (noOrder m u f) e in
+          let w = first-some _ (pairs pic) (noOrder m u f) e in
           let p = w .0 in
           let s = given-some (left best p) (place p) (noOrder m u f) (w .2) in
           let d = and-T (granted pic m p) _ (s .0) in
@@ -131,7 +127,7 @@ module _ (pic : Picture) (m : ℕ) where
 
       names : FirstMissed pic m u f → leftBy pic m best ≡ some (noOrder m u f)
       names w =
-          first-is _ pairs (noOrder m u f) (
+          first-is _ (pairs pic) (noOrder m u f) (
             w .place,
             w .there,
             rw (← w .user-is, ← w .file-is)

@@ -4,3 +4,4 @@ pub mod Condition
 pub mod Fixed
 pub mod Calls
 pub mod Steps
+pub mod Cases

@@ -1,6 +1,6 @@
 -- What the functions ask of and promise each other: how the list is found. Assumes nothing.
 use mathlib.Core.Path.{_≡_}
-use mathlib.Core.Bool.{Bool, true, false, not, _&&_}
+use mathlib.Core.Bool.{Bool, true, false, not, cond, _&&_}
 use mathlib.Core.List.{List}
 use mathlib.Core.Option.{Option, none}
 use Prim.Native.Nat.{ℕ, _*_, _<_, _≤_}
@@ -14,7 +14,13 @@ use Rattle.tables.specs.declared.Arrow.{Arrow}
 use Rattle.meaning.specs.Meaning.{positive, reaches, answer, isGranted}
 use Rattle.boxsets.specs.Sets.{isIn, setAt, has}
 use Rattle.boxsets.specs.declared.Set.{Set}
+use Rattle.meaning.specs.Pairs.{unclearFault}
+use Rattle.user_rows.specs.Row.{ownArrows}
+use Rattle.user_rows.specs.Steps.{Drawn}
 use Rattle.lists.specs.Order.{anyOf}
+use Rattle.lists.specs.Greedy.{greedy}
+use Rattle.lists.specs.Calls.{listAnswer, listAfter, workAfter}
+use Rattle.lists.specs.declared.Listed.{Listed}
 use Rattle.lists.specs.declared.Standing.{Standing}
 use Rattle.lists.specs.declared.Standing.the-variants.{Blocked, Spent, Free}
 
@@ -26,11 +32,7 @@ someIn users files test = anyBelow (λ u. isIn users u && anyBelow (λ f. isIn f
 
 -- the pair is left, and an arrow of the sign would give it the wrong answer
 unfoldable pub wrongAt : (left granted : List ℕ) (sign u f : ℕ) → Bool
-wrongAt left granted sign u f = has left u f && not (eqbBool (has granted u f) (eqb sign positive))
-  where
-    eqbBool : Bool → Bool → Bool
-    eqbBool true b = b
-    eqbBool false b = not b
+wrongAt left granted sign u f = has left u f && cond (eqb sign positive) (not (has granted u f)) (has granted u f)
 
 -- an arrow is blocked if it would give a pair that is left the wrong answer, spent if it reaches no pair that is left, else free
 unfoldable pub standingOf : (wrong new : Bool) → Standing
@@ -44,7 +46,13 @@ standingBy closure left granted a =
     standingOf (someIn (setAt closure (a .tail)) (setAt closure (a .head)) (wrongAt left granted (a .sign)))
     (someIn (setAt closure (a .tail)) (setAt closure (a .head)) (has left))
 
--- a place of the numbers that is done is that of a spent arrow
+-- the mark of a place of the numbers: 1 if its arrow is spent, 2 if it is free
+unfoldable pub markOf : Standing → ℕ
+markOf Blocked = 0
+markOf Spent = 1
+markOf Free = 2
+
+-- a place that is marked is that of a spent arrow
 abbrev pub Done : (closure arrows own left granted done : List ℕ) → Type 0
 Done closure arrows own left granted done =
     (i : ℕ) → i < length own → (getD done i 0 ≡ 0 → ⊥) → standingBy closure left granted (arrowAt arrows (getD own i 0)) ≡ Spent
@@ -59,10 +67,6 @@ pub record NextFree (closure arrows own left granted : List ℕ) (r : ℕ) : Typ
 pub record Takes (users files : Set) (left left′ : List ℕ) : Type 0 where
   pub len : length left′ ≡ length left
   pub each : (u f : ℕ) → has left′ u f ≡ (has left u f && not (isIn users u && isIn files f))
-
--- each number is below 256
-abbrev pub SmallNumbers : List ℕ → Type 0
-SmallNumbers numbers = (i : ℕ) → i < length numbers → getD numbers i 0 < 256
 
 -- ---- what the sets say of a picture
 
@@ -79,3 +83,23 @@ unreached pic l u f = not (anyOf (λ k. reaches pic (arrowAt (pic .arrows) k) u 
 -- the pair is granted
 abbrev pub grantedTo : (pic : Picture) (mode u f : ℕ) → Bool
 grantedTo pic mode u f = isGranted (answer pic mode u f)
+
+-- a picture with no unclear pair in the mode, its closure, the mode's arrows without repeats, and the granted files
+pub record Clear (pic : Picture) (mode : ℕ) (closure arrows own granted : List ℕ) : Type 0 where
+  pub drawn : Drawn pic closure
+  pub arrows-are : arrows ≡ pic .arrows
+  pub own-are : own ≡ ownArrows (pic .arrows) mode
+  pub clear : unclearFault pic mode ≡ none
+  pub says : Table pic (grantedTo pic mode) granted
+
+-- the list stands in the first places, and what is left is what it does not reach
+pub record Ordered (pic : Picture) (mode : ℕ) (old : List ℕ) (count : ℕ) (out left : List ℕ) : Type 0 where
+  pub counted : count ≡ length (greedy pic mode)
+  pub listed : out ≡ written (greedy pic mode) old
+  pub shown : Table pic (unreached pic (greedy pic mode)) left
+
+-- what is answered, and what the list places and the work bytes hold, once checks 1 to 10 have passed
+pub record Listing (pic : Picture) (mode : ℕ) (out work : List ℕ) (r : Listed) (out′ work′ : List ℕ) : Type 0 where
+  pub answered : r ≡ listAnswer pic mode (unclearFault pic mode)
+  pub list-after : out′ ≡ listAfter pic mode (unclearFault pic mode) out
+  pub work-after : work′ ≡ workAfter pic mode (unclearFault pic mode) work

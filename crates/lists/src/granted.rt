@@ -1,18 +1,19 @@
 // The sets that the list is found from, and what is left at the end.
 ghost use mathlib.Core.Path.{_≡_};
+ghost use mathlib.Core.List.{List, []};
 ghost use mathlib.Core.Option.{none};
 ghost use Prim.Native.Nat.{ℕ, _≤_};
-ghost use lib.ListN.{length, getD};
+ghost use lib.ListN.{length};
 ghost use Rattle.base.specs.Buffers.{written, zeros};
 ghost use Rattle.tables.specs.Refusals.{verdictOf};
 ghost use Rattle.tables.specs.Rows.{Picture};
-ghost use Rattle.boxsets.specs.Sets.{isIn};
 ghost use Rattle.user_rows.specs.Row.{ownArrows};
 ghost use Rattle.user_rows.specs.Steps.{Small, Ready};
-ghost use Rattle.meaning.specs.Pairs.{unclearFault, firstPair};
+ghost use Rattle.meaning.specs.Pairs.{unclearFault};
+ghost use Rattle.answers.specs.Steps.{Boxes};
 ghost use Rattle.lists.specs.Calls.{blanks};
 ghost use Rattle.lists.specs.Greedy.{greedy, orderFault};
-ghost use Rattle.lists.specs.Steps.{Table, unreached, grantedTo, SmallNumbers};
+ghost use Rattle.lists.specs.Steps.{Table, unreached, grantedTo};
 use super::Sorted;
 use base::wide;
 use boxsets::Set;
@@ -44,7 +45,7 @@ pub fn sort_mode(
     own: &mut [u16],
     granted: &mut [u64],
 ) -> Sorted
-    requires { ⌜ (length (now closure) ≡ 2048) × Small (now arrows) × SmallNumbers (now users) × (512 ≤ length (now own))
+    requires { ⌜ (length (now closure) ≡ 2048) × Small (now arrows) × Boxes (now users) × (512 ≤ length (now own))
         × (now granted ≡ zeros 1024) ⌝ }
     ensures { λ r. ⌜ (r .own ≡ length (ownArrows (now (arrows .entry)) mode))
         × (now (own .exit) ≡ written (ownArrows (now (arrows .entry)) mode) (now (own .entry))) ⌝ }
@@ -76,7 +77,7 @@ pub fn sort_mode(
 
 // All files for each user.
 pub fn fill_left(users: &[u16], files: Set, left: &mut [u64])
-    requires { ⌜ SmallNumbers (now users) × (now left ≡ zeros 1024) ⌝ }
+    requires { ⌜ Boxes (now users) × (now left ≡ zeros 1024) ⌝ }
     ensures { λ _. ⌜ length (now (left .exit)) ≡ 1024 ⌝ }
     ensures { λ _. ⌜ ((pic : Picture) (closure arrows : List ℕ) → Ready pic closure arrows (now (users .entry)) files
         → Table pic (unreached pic []) (now (left .exit))) ⌝ }
@@ -88,7 +89,7 @@ pub fn fill_left(users: &[u16], files: Set, left: &mut [u64])
 
 // The first granted pair that is left: refusal 13 names it.
 pub fn check_left(users: &[u16], left: &[u64], granted: &[u64], mode: u16) -> Verdict
-    requires { ⌜ SmallNumbers (now users) × (length (now left) ≡ 1024) × (length (now granted) ≡ 1024) ⌝ }
+    requires { ⌜ Boxes (now users) × (length (now left) ≡ 1024) × (length (now granted) ≡ 1024) ⌝ }
     ensures { λ r. ⌜ ((pic : Picture) (closure arrows : List ℕ) (files : Set) → Ready pic closure arrows (now (users .entry)) files
         → Table pic (grantedTo pic mode) (now (granted .entry)) → Table pic (unreached pic (greedy pic mode)) (now (left .entry))
         → r ≡ verdictOf (orderFault pic mode)) ⌝ }

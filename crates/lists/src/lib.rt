@@ -1,29 +1,28 @@
 // The first-match list of a mode.
 mod granted;
 mod order;
+mod stages;
 
 ghost use mathlib.Core.Path.{_≡_};
-ghost use Prim.Native.Nat.{_≤_, _<_};
+ghost use Prim.Native.Nat.{ℕ, _≤_};
 ghost use lib.ListN.{length};
-ghost use Rattle.tables.specs.Rows.{picture, arrowCount};
-ghost use Rattle.tables.specs.Atoms.{pairCount};
+ghost use Rattle.tables.specs.Rows.{picture, user, file};
+ghost use Rattle.tables.specs.Atoms.{atom, atoms, pairCount};
+ghost use Rattle.tables.specs.Steps.{SoundRows};
 ghost use Rattle.tables.specs.Refusals.{verdictOf};
+ghost use Rattle.boxsets.specs.Sets.{isIn};
 ghost use Rattle.containment.specs.Scratch.{scratchAfter};
 ghost use Rattle.meaning.specs.Meaning.{modeArrows};
-ghost use Rattle.meaning.specs.Pairs.{unclearFault};
 ghost use Rattle.user_rows.specs.Steps.{Drawn};
 ghost use Rattle.lists.specs.Calls.{listEarly, listBefore, listAnswer, listAfter, workAfter};
+ghost use Rattle.lists.specs.Steps.{Listing};
+use boxsets::Set;
 use boxsets::set_of;
 use containment::check_scratch;
 use containment::no_closure;
 use containment::prepare;
-use granted::blank;
-use granted::check_left;
-use granted::fill_left;
-use granted::no_sets;
-use granted::sort_mode;
-use order::order;
-use tables::Arrow;
+use stages::list_mode;
+use stages::mode_count;
 use tables::BoxRow;
 use tables::Refusal;
 use tables::Verdict;
@@ -32,7 +31,6 @@ use tables::check_mode;
 use tables::check_room;
 use tables::no_boxes;
 use tables::pair_count;
-use user_rows::no_numbers;
 
 // What the call for a list answers.
 pub enum Listed {
@@ -48,24 +46,17 @@ pub enum Standing {
     Free,
 }
 
+// What is asked: the mode, the atomic files, and how many pairs there are.
+pub struct Asked {
+    pub mode: u16,
+    pub files: Set,
+    pub pairs: usize,
+}
+
 // How many of the mode's arrows repeat none, and check 12.
 pub struct Sorted {
     pub own: usize,
     pub unclear: Verdict,
-}
-
-// How many arrows the mode has.
-fn mode_count(arrows: &[u16], mode: u16) -> usize
-    ensures { λ r. ⌜ r ≡ length (modeArrows (now (arrows .entry)) mode) ⌝ }
-{
-    let mut count = 0;
-    for k in 0..arrows.len() / 4 {
-        let a = Arrow::at(arrows, k);
-        if a.mode == mode {
-            count += 1;
-        }
-    }
-    count
 }
 
 // Checks 1 to 9.
@@ -91,15 +82,20 @@ fn early_list(
         .or_else(check_room(4, work.len(), pair_count(boxes, rows)))
 }
 
-// Check 13: the list stays, or 65,535 goes into each needed place where it leaves a granted pair.
-fn finish(left: Verdict, count: usize, need: usize, out: &mut [u16]) -> Listed
-    requires { ⌜ need ≤ length (now out) ⌝ }
+// What is asked, by the number of atomic users.
+fn asked_of(boxes: &[u8], rows: &[u16], mode: u16, users: usize) -> Asked
+    requires { ⌜ SoundRows (now boxes) (now rows) × (users ≡ length (atoms (now boxes) (now rows) user)) ⌝ }
+    ensures { λ r. ⌜ (r .mode ≡ mode) × ((b : ℕ) → isIn (r .files) b ≡ atom (now (boxes .entry)) (now (rows .entry)) file b)
+        × (r .pairs ≡ pairCount (now (boxes .entry)) (now (rows .entry))) ⌝ }
 {
-    if let Verdict::Refused(r) = left {
-        blank(out, need);
-        return Listed::Refused(r);
+    let mut f = no_boxes();
+    let count = atoms_of(boxes, rows, BoxRow::FILE, &mut f);
+    let files = set_of(&f[..count]);
+    Asked {
+        mode,
+        files,
+        pairs: users * count,
     }
-    Listed::Written(count)
 }
 
 // Check 12, then the list, by the closure of a picture that passed checks 1 to 10.
@@ -112,40 +108,15 @@ fn write_list(
     out: &mut [u16],
     work: &mut [u8],
 ) -> Listed
-    requires { ⌜ Drawn (picture (now boxes) (now rows) (now arrows)) (now closure) × (mode < 8)
-        × (length (modeArrows (now arrows) mode) ≤ length (now out)) × (pairCount (now boxes) (now rows) ≤ length (now work)) ⌝ }
-    ensures { λ r. ⌜ (let pic = picture (now (boxes .entry)) (now (rows .entry)) (now (arrows .entry)) in
-        (r ≡ listAnswer pic mode (unclearFault pic mode))
-        × (now (out .exit) ≡ listAfter pic mode (unclearFault pic mode) (now (out .entry)))
-        × (now (work .exit) ≡ workAfter pic mode (unclearFault pic mode) (now (work .entry)))) ⌝ }
+    requires { ⌜ Drawn (picture (now boxes) (now rows) (now arrows)) (now closure) ⌝ }
+    requires { ⌜ (length (modeArrows (now arrows) mode) ≤ length (now out)) × (pairCount (now boxes) (now rows) ≤ length (now work)) ⌝ }
+    ensures { λ r. ⌜ Listing (picture (now (boxes .entry)) (now (rows .entry)) (now (arrows .entry))) mode (now (out .entry))
+        (now (work .entry)) r (now (out .exit)) (now (work .exit)) ⌝ }
 {
     let mut u = no_boxes();
-    let mut f = no_boxes();
     let users = atoms_of(boxes, rows, BoxRow::USER, &mut u);
-    let files = atoms_of(boxes, rows, BoxRow::FILE, &mut f);
-    let asked = set_of(&f[..files]);
-    let mut own = no_numbers();
-    let mut granted = no_sets();
-    let sorted = sort_mode(
-        closure,
-        arrows,
-        mode,
-        &u[..users],
-        asked,
-        &mut own,
-        &mut granted,
-    );
-    let unclear = sorted.unclear;
-    if let Verdict::Refused(r) = unclear {
-        return Listed::Refused(r);
-    }
-    let m = sorted.own;
-    let mut left = no_sets();
-    fill_left(&u[..users], asked, &mut left);
-    let count = order(closure, arrows, &own[..m], &mut left, &granted, out);
-    base::clear(work, users * files);
-    let verdict = check_left(&u[..users], &left, &granted, mode);
-    finish(verdict, count, mode_count(arrows, mode), out)
+    let asked = asked_of(boxes, rows, mode, users);
+    list_mode(closure, arrows, &u[..users], asked, out, work)
 }
 
 // The first-match list of a mode (document 01, "What may be asked"), in the order of document 02, P3: how many places of `out` hold it,

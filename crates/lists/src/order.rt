@@ -1,16 +1,17 @@
 // How the list is found, on sets: for each user the files that the list does not reach yet (`left`) and those that are granted. `closure` is
 // the table of containment, `own` the mode's arrows without repeats: a repeat never reaches anything new.
 ghost use mathlib.Core.Path.{_≡_};
-ghost use Prim.Native.Nat.{ℕ, _≤_};
+ghost use mathlib.Core.Bool.{not, cond, _&&_};
+ghost use mathlib.Core.List.{[]};
+ghost use Prim.Native.Nat.{ℕ, _≤_, _<_};
+ghost use lib.Dec.{eqb};
 ghost use lib.ListN.{length};
-ghost use Rattle.base.specs.Buffers.{written, zeros};
-ghost use Rattle.tables.specs.Rows.{Picture};
-ghost use Rattle.boxsets.specs.Sets.{isIn, has};
-ghost use Rattle.user_rows.specs.Row.{ownArrows};
-ghost use Rattle.user_rows.specs.Steps.{Small, Numbers, Drawn};
-ghost use Rattle.meaning.specs.Pairs.{unclearFault};
-ghost use Rattle.lists.specs.Greedy.{greedy};
-ghost use Rattle.lists.specs.Steps.{someIn, wrongAt, standingOf, standingBy, Done, NextFree, Takes, Table, unreached, grantedTo};
+ghost use Rattle.base.specs.Buffers.{zeros};
+ghost use Rattle.tables.specs.Rows.{Picture, arrowCount, arrowAt};
+ghost use Rattle.boxsets.specs.Sets.{isIn, setAt, has};
+ghost use Rattle.user_rows.specs.Steps.{Small, Numbers};
+ghost use Rattle.lists.specs.Steps.{someIn, wrongAt, standingOf, standingBy, markOf, Done, NextFree, Takes, Table};
+ghost use Rattle.lists.specs.Steps.{unreached, Clear, Ordered};
 use super::Standing;
 use base::wide;
 use boxsets::Set;
@@ -23,17 +24,26 @@ use boxsets::set_at;
 use boxsets::shared;
 use tables::Arrow;
 
+// Marks for arrow numbers.
+fn no_marks() -> [u8; 512]
+    ensures { λ r. ⌜ r ≡ zeros 512 ⌝ }
+{
+    [0u8; 512]
+}
+
 // Of files that are left, those to which an arrow of the sign would give the wrong answer.
-fn wrong_of(open: Set, granted: Set, sign: u16) -> Set {
+fn wrong_of(files: Set, granted: Set, sign: u16) -> Set
+    ensures { λ r. ⌜ ((f : ℕ) → isIn r f ≡ (isIn files f && cond (eqb sign 1) (not (isIn granted f)) (isIn granted f))) ⌝ }
+{
     if sign == 1 {
-        return minus(open, granted);
+        return minus(files, granted);
     }
-    shared(open, granted)
+    shared(files, granted)
 }
 
 // How an arrow of the sign stands that reaches these users and files.
 fn standing(users: Set, files: Set, left: &[u64], granted: &[u64], sign: u16) -> Standing
-    requires { ⌜ (length (now left) ≡ 1024) × (length (now granted) ≡ 1024) × (sign ≤ 1) ⌝ }
+    requires { ⌜ (length (now left) ≡ 1024) × (length (now granted) ≡ 1024) ⌝ }
     ensures { λ r. ⌜ r ≡ standingOf (someIn users files (wrongAt (now (left .entry)) (now (granted .entry)) sign))
         (someIn users files (has (now (left .entry)))) ⌝ }
 {
@@ -42,11 +52,11 @@ fn standing(users: Set, files: Set, left: &[u64], granted: &[u64], sign: u16) ->
     while !is_empty(rest) {
         let u = lowest(rest);
         rest = dropped(rest);
-        let open = shared(files, set_at(left, u));
-        if !is_empty(wrong_of(open, set_at(granted, u), sign)) {
+        let met = shared(files, set_at(left, u));
+        if !is_empty(wrong_of(met, set_at(granted, u), sign)) {
             return Standing::Blocked;
         }
-        fresh = fresh | !is_empty(open);
+        fresh = fresh | !is_empty(met);
     }
     if fresh {
         return Standing::Free;
@@ -54,14 +64,39 @@ fn standing(users: Set, files: Set, left: &[u64], granted: &[u64], sign: u16) ->
     Standing::Spent
 }
 
-// How an arrow stands.
-fn standing_by(closure: &[u64], left: &[u64], granted: &[u64], a: Arrow) -> Standing {
+// How arrow k stands.
+fn standing_by(closure: &[u64], arrows: &[u16], left: &[u64], granted: &[u64], k: usize) -> Standing
+    requires { ⌜ (length (now closure) ≡ 2048) × (length (now left) ≡ 1024) × (length (now granted) ≡ 1024)
+        × Small (now arrows) × (k < arrowCount (now arrows)) ⌝ }
+    ensures { λ r. ⌜ r ≡ standingBy (now (closure .entry)) (now (left .entry)) (now (granted .entry))
+        (arrowAt (now (arrows .entry)) k) ⌝ }
+{
+    let a = Arrow::at(arrows, k);
     let users = set_at(closure, wide(a.tail));
     let files = set_at(closure, wide(a.head));
     standing(users, files, left, granted, a.sign)
 }
 
-// The first place whose arrow is free, or one past the last. What is spent stays so, and is not looked at again.
+// The mark of arrow k, by the mark that it has: what is spent stays so, and is not looked at again.
+fn look(closure: &[u64], arrows: &[u16], left: &[u64], granted: &[u64], k: usize, mark: u8) -> u8
+    requires { ⌜ (length (now closure) ≡ 2048) × (length (now left) ≡ 1024) × (length (now granted) ≡ 1024)
+        × Small (now arrows) × (k < arrowCount (now arrows)) ⌝ }
+    requires { ⌜ ((mark ≡ 0 → ⊥) → standingBy (now closure) (now left) (now granted) (arrowAt (now arrows) k) ≡ Standing.Spent) ⌝ }
+    ensures { λ r. ⌜ r ≡ markOf (standingBy (now (closure .entry)) (now (left .entry)) (now (granted .entry))
+        (arrowAt (now (arrows .entry)) k)) ⌝ }
+{
+    if mark != 0 {
+        return 1;
+    }
+    let standing = standing_by(closure, arrows, left, granted, k);
+    match standing {
+        Standing::Blocked => 0,
+        Standing::Spent => 1,
+        Standing::Free => 2,
+    }
+}
+
+// The first place whose arrow is free, or one past the last.
 fn next_free(
     closure: &[u64],
     arrows: &[u16],
@@ -80,14 +115,11 @@ fn next_free(
         (now (done .exit)) ⌝ }
 {
     for i in 0..own.len() {
-        if done[i] == 0 {
-            let a = Arrow::at(arrows, wide(own[i]));
-            match standing_by(closure, left, granted, a) {
-                Standing::Free => return i,
-                Standing::Spent => done[i] = 1,
-                Standing::Blocked => (),
-            }
+        let mark = look(closure, arrows, left, granted, wide(own[i]), done[i]);
+        if mark == 2 {
+            return i;
         }
+        done[i] = mark;
     }
     own.len()
 }
@@ -101,9 +133,21 @@ fn take_files(users: Set, files: Set, left: &mut [u64])
     while !is_empty(rest) {
         let u = lowest(rest);
         rest = dropped(rest);
-        let open = minus(set_at(left, u), files);
-        put_set(left, u, open);
+        let kept = minus(set_at(left, u), files);
+        put_set(left, u, kept);
     }
+}
+
+// Takes the pairs of arrow k from what is left.
+fn take_arrow(closure: &[u64], arrows: &[u16], k: usize, left: &mut [u64])
+    requires { ⌜ (length (now closure) ≡ 2048) × (length (now left) ≡ 1024) × Small (now arrows) × (k < arrowCount (now arrows)) ⌝ }
+    ensures { λ _. ⌜ Takes (setAt (now (closure .entry)) (arrowAt (now (arrows .entry)) k .tail))
+        (setAt (now (closure .entry)) (arrowAt (now (arrows .entry)) k .head)) (now (left .entry)) (now (left .exit)) ⌝ }
+{
+    let a = Arrow::at(arrows, k);
+    let users = set_at(closure, wide(a.tail));
+    let files = set_at(closure, wide(a.head));
+    take_files(users, files, left);
 }
 
 // Writes the list and answers its length: at each place the lowest arrow that is free, until there is none. `left` has all pairs at the
@@ -118,28 +162,21 @@ pub fn order(
 ) -> usize
     requires { ⌜ (length (now closure) ≡ 2048) × (length (now left) ≡ 1024) × (length (now granted) ≡ 1024) ⌝ }
     requires { ⌜ Small (now arrows) × Numbers (now arrows) (now own) × (length (now own) ≤ 512) × (length (now own) ≤ length (now out)) ⌝ }
-    ensures { λ r. ⌜ ((pic : Picture) (m : ℕ) → Drawn pic (now (closure .entry)) → now (arrows .entry) ≡ pic .arrows
-        → now (own .entry) ≡ ownArrows (pic .arrows) m → unclearFault pic m ≡ none
-        → Table pic (unreached pic []) (now (left .entry)) → Table pic (grantedTo pic m) (now (granted .entry))
-        → (r ≡ length (greedy pic m)) × (now (out .exit) ≡ written (greedy pic m) (now (out .entry)))
-        × Table pic (unreached pic (greedy pic m)) (now (left .exit))) ⌝ }
+    ensures { λ r. ⌜ ((pic : Picture) (m : ℕ)
+        → Clear pic m (now (closure .entry)) (now (arrows .entry)) (now (own .entry)) (now (granted .entry))
+        → Table pic (unreached pic []) (now (left .entry))
+        → Ordered pic m (now (out .entry)) r (now (out .exit)) (now (left .exit))) ⌝ }
 {
-    let mut done = [0u8; 512];
+    let mut done = no_marks();
     let mut count = 0;
     while count < own.len() {
         let i = next_free(closure, arrows, own, left, granted, &mut done);
         if own.len() <= i {
             return count;
         }
-        let k = own[i];
-        out[count] = k;
+        out[count] = own[i];
         count += 1;
-        let a = Arrow::at(arrows, wide(k));
-        take_files(
-            set_at(closure, wide(a.tail)),
-            set_at(closure, wide(a.head)),
-            left,
-        );
+        take_arrow(closure, arrows, wide(own[i]), left);
     }
     count
 }
