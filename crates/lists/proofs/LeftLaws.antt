@@ -29,7 +29,7 @@ use Rattle.boxsets.proofs.WalkLaws.{empty-none, some-low}
 use Rattle.meaning.specs.Meaning.{answer, isGranted}
 use Rattle.meaning.specs.Pairs.{users, firstPair, answerAt}
 use Rattle.meaning.proofs.ModeLaws.{answer-at}
-use Rattle.meaning.proofs.JudgeLaws.{RowClear, RowsClear, rows-start, rows-more, rows-found, rows-end}
+use Rattle.meaning.proofs.RowPairs.{RowsClear, rows-found, rows-end}
 use Rattle.user_rows.specs.Steps.{Ready}
 use Rattle.lists.specs.Order.{anyOf, meets, reached, granted}
 use Rattle.lists.specs.Greedy.{greedy, leftBy, orderFault}
@@ -149,7 +149,7 @@ module _ (pic : Picture) (m : ℕ) (closure arrows us : List ℕ) (files : Set) 
       regroup true false false = refl
       regroup false b c = refl
 
-  rows-clear : (i : ℕ) → i ≤ length us → NoneMissed us left granted i → RowsClear pic missed (noOrder m) i
+  rows-clear : (i : ℕ) → i ≤ length us → NoneMissed us left granted i → RowsClear pic missed i
   rows-clear i h none′ j l g a t =
       false-not _ (sym (missed-is j (omega arith) g) ∙ none′ j l g) (T-and (atom (pic .boxes) (pic .rows) file g) (missed (getD (users pic) j 0) g) a t)
 
@@ -167,5 +167,5 @@ module _ (pic : Picture) (m : ℕ) (closure arrows us : List ℕ) (files : Set) 
       let both = and-T (atom (pic .boxes) (pic .rows) file (low x)) (missed (getD (users pic) i 0) (low x)) (rw (in-row (low x)) at (some-low x e .1)) in
       rw (order-rows, ready .users-are)
       (sym (ap verdictOf
-      (rows-found pic missed (noOrder m) i (low x) (rw (ready .users-are) at l) (rows-clear i (omega arith) none′) (both .0) (both .1)
+      (rows-found pic missed (noOrder m) i (rw (ready .users-are) at l) (rows-clear i (omega arith) none′) (low x) (both .0) (both .1)
       (λ g b a t. low-least x g b (rw (in-row g) (T-and (atom (pic .boxes) (pic .rows) file g) (missed (getD (users pic) i 0) g) a t))))))

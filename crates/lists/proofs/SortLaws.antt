@@ -17,10 +17,10 @@ use Rattle.tables.proofs.Verdicts.{refused}
 use Rattle.boxsets.specs.Sets.{isIn, low, Put}
 use Rattle.boxsets.specs.declared.Set.{Set}
 use Rattle.meaning.specs.Pairs.{users, unclearFault}
-use Rattle.meaning.proofs.JudgeLaws.{rows-start}
+use Rattle.meaning.proofs.RowPairs.{rows-start}
 use Rattle.user_rows.specs.Steps.{Ready, Sorts}
 use Rattle.user_rows.specs.declared.Row.{Row}
-use Rattle.answers.proofs.AtomLaws.{atoms-there}
+use Rattle.lists.proofs.AtomParts.{atoms-there}
 use Rattle.answers.proofs.RowLaws.{unclear, Clear, clear-more, clear-found, clear-end}
 use Rattle.lists.specs.Steps.{Table, grantedTo}
 use Rattle.lists.proofs.LeftLaws.{Filled, filled-none, filled-more, filled-all}
@@ -36,7 +36,7 @@ module _ (pic : Picture) (m : ℕ) (closure arrows us : List ℕ) (files : Set) 
     pub filled : Filled us row i granted
 
   pub sorting-none : (granted : List ℕ) → granted ≡ zeros 1024 → Sorting 0 granted
-  sorting-none granted e = record { clear = rows-start pic (unclear pic m) (unclearPair m); filled = filled-none us row granted e }
+  sorting-none granted e = record { clear = rows-start pic (unclear pic m); filled = filled-none us row granted e }
 
   -- each user is a box of the picture
   pub user-there : (i u : ℕ) → u ≡ getD us i 0 → i < length us → u < length (pic .boxes)

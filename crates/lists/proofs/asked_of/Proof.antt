@@ -8,7 +8,8 @@ use Rattle.tables.specs.Rows.{user, file}
 use Rattle.tables.specs.Atoms.{atoms}
 use Rattle.tables.proofs.AtomPlaces.{pairCount-is, few-pairs}
 use Rattle.answers.proofs.TakenLaws.{room}
-use Rattle.answers.proofs.AtomLaws.{among-atoms, atoms-within, atoms-length, atoms-are, atoms-boxes}
+use Rattle.answers.proofs.AtomLaws.{among-atoms}
+use Rattle.lists.proofs.AtomParts.{atoms-within, atoms-length, atoms-are, atoms-boxes}
 use Rattle.lists.proofs.asked_of.Statement.{statement}
 use Rattle.lists.proofs.asked_of.Tie as tie
 

@@ -4,8 +4,9 @@ use native.Mathlib.Omega.{arith}
 use borrow.Author.Needs.{needs}
 use lib.ListN.{length}
 use Rattle.tables.specs.Rows.{picture, user}
-use Rattle.answers.proofs.TakenLaws.{room, small-arrows}
-use Rattle.answers.proofs.AtomLaws.{atoms-within, atoms-length, atoms-are, atoms-boxes}
+use Rattle.user_rows.proofs.CallerLaws.{small-arrows}
+use Rattle.answers.proofs.TakenLaws.{room}
+use Rattle.lists.proofs.AtomParts.{atoms-within, atoms-length, atoms-are, atoms-boxes}
 use Rattle.lists.proofs.write_list.Statement.{statement}
 use Rattle.lists.proofs.write_list.Tie as tie
 

@@ -12,7 +12,7 @@ use Rattle.tables.specs.Rows.{Picture}
 use Rattle.boxsets.specs.Sets.{isIn}
 use Rattle.user_rows.specs.Row.{ownArrows}
 use Rattle.user_rows.specs.Steps.{Ready, Sorts}
-use Rattle.answers.proofs.TakenLaws.{taken-within, taken-length, taken-sized, taken-moded}
+use Rattle.lists.proofs.TakenParts.{taken-within, taken-length, taken-sized, taken-moded}
 use Rattle.lists.proofs.OwnLaws.{own-fits}
 use Rattle.lists.proofs.SortLaws.{Sorting, sorting-none, user-there, sorting-more, sorting-found, sorting-end}
 use Rattle.lists.proofs.granted.sort_mode.Statement.{statement}

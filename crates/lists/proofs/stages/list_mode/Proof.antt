@@ -9,7 +9,8 @@ use Rattle.base.proofs.PartLaws.{Wrote, part-is}
 use Rattle.tables.proofs.Verdicts.{passed, refused}
 use Rattle.meaning.specs.Pairs.{unclearFault}
 use Rattle.user_rows.specs.Row.{ownArrows}
-use Rattle.answers.proofs.TakenLaws.{room, taken-within, taken-length}
+use Rattle.answers.proofs.TakenLaws.{room}
+use Rattle.lists.proofs.TakenParts.{taken-within, taken-length}
 use Rattle.lists.proofs.CallLaws.{listing-refused, listing-done}
 use Rattle.lists.proofs.OwnLaws.{own-part}
 use Rattle.lists.proofs.stages.list_mode.Statement.{statement}
