@@ -14,7 +14,6 @@ use Rattle.tables.specs.Atoms.{atom}
 use Rattle.tables.proofs.GroupLaws.{onSide-there}
 use Rattle.tables.proofs.AtomPlaces.{atom-there}
 use Rattle.base.proofs.Tests.{T?, and-T, T-and, T-true, true-T, not-false, false-not}
-use Rattle.containment.specs.Contains.{around}
 use Rattle.containment.proofs.ClosureLaws.{within-in}
 use Rattle.boxsets.specs.Sets.{isIn, setAt, has}
 use Rattle.boxsets.specs.declared.Set.{Set}
@@ -30,8 +29,7 @@ use Rattle.lists.specs.Greedy.{addable}
 use Rattle.lists.specs.Steps.{someIn, wrongAt, standingOf, standingBy, Takes, Table, unreached, grantedTo}
 use Rattle.lists.specs.declared.Standing.the-variants.{Free}
 use Rattle.lists.proofs.CountLaws.{anyOf-snoc}
-use Rattle.lists.proofs.MatchLaws.{Fits}
-use Rattle.lists.proofs.GreedyLaws.{ofMode-there, adds, adds-new, addable-is}
+use Rattle.lists.proofs.GreedyLaws.{adds, adds-new, addable-is}
 use Rattle.lists.proofs.StandLaws.{some-found, some-is}
 
 -- ---- an arrow's sign and a clear answer

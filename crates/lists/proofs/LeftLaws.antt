@@ -1,8 +1,8 @@
 -- Tables of files by user: how they are filled user by user, and the first pair that two of them share. Assumes nothing.
-use mathlib.Core.Path.{_≡_, refl, sym, ap, ap₂, subst, _∙_}
-use mathlib.Core.Bool.{Bool, true, false, not, _&&_, _||_}
+use mathlib.Core.Path.{_≡_, refl, sym, ap, subst, _∙_}
+use mathlib.Core.Bool.{Bool, true, false, _&&_, _||_}
 use mathlib.Core.List.{List, []}
-use mathlib.Core.Option.{none, some}
+use mathlib.Core.Option.{none}
 use Prim.Native.Nat.{ℕ, _+_, _<_, _≤_}
 use native.Mathlib.Decide.{ℕ-discrete}
 use native.Mathlib.Numerals.{add-one}
@@ -21,14 +21,12 @@ use Rattle.tables.specs.Atoms.{atom, atoms}
 use Rattle.tables.specs.Refusals.{noOrder, refusal, verdictOf}
 use Rattle.tables.specs.declared.Verdict.the-variants.{Passed, Refused}
 use Rattle.tables.proofs.AtomPlaces.{atoms-found, atoms-has, atom-there}
-use Rattle.boxsets.specs.Sets.{isIn, low, setAt, has, Put}
+use Rattle.boxsets.specs.Sets.{isIn, low, has, Put}
 use Rattle.boxsets.specs.declared.Set.{Set}
-use Rattle.boxsets.proofs.TableLaws.{has-in, put-hit, put-miss, zeros-has}
+use Rattle.boxsets.proofs.TableLaws.{put-hit, put-miss, zeros-has}
 use Rattle.boxsets.proofs.LowLaws.{low-least}
 use Rattle.boxsets.proofs.WalkLaws.{empty-none, some-low}
-use Rattle.meaning.specs.Meaning.{answer, isGranted}
 use Rattle.meaning.specs.Pairs.{users, firstPair, answerAt}
-use Rattle.meaning.proofs.ModeLaws.{answer-at}
 use Rattle.meaning.proofs.RowPairs.{RowsClear, rows-found, rows-end}
 use Rattle.user_rows.specs.Steps.{Ready}
 use Rattle.lists.specs.Order.{anyOf, meets, reached, granted}

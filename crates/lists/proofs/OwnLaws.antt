@@ -1,11 +1,10 @@
 -- The mode's arrows that repeat no lower one are all that the list needs: the lowest arrow that can be added is one of them, so the
 -- list has no more places than there are. Assumes nothing.
-use mathlib.Core.Path.{_≡_, refl, sym, ap, subst, _∙_}
+use mathlib.Core.Path.{_≡_, refl, sym, ap, _∙_}
 use mathlib.Core.Bool.{Bool, not, _&&_}
-use mathlib.Core.List.{List, [], _∷_, _++_}
+use mathlib.Core.List.{List, [], _∷_}
 use mathlib.Core.Option.{Option, none, some}
-use Prim.Native.Nat.{ℕ, suc, _+_, _<_, _≤_}
-use native.Mathlib.Numerals.{add-one}
+use Prim.Native.Nat.{ℕ, suc, _<_, _≤_}
 use native.Mathlib.Omega.{arith}
 use lib.Dec.{T, not-T, ltb, ltb→lt, lt→ltb}
 use lib.ListN.{length, getD, take, length-append}
@@ -17,17 +16,16 @@ use Rattle.base.proofs.PartLaws.{Wrote, part-is}
 use Rattle.base.proofs.SearchLaws.{lowest-some, lowest-none}
 use Rattle.base.proofs.SelectLaws.{select-found, select-has, select-rising, select-within}
 use Rattle.tables.specs.Rows.{Picture, arrowCount, arrowAt}
-use Rattle.tables.specs.declared.Arrow.{Arrow}
 use Rattle.meaning.specs.Meaning.{hasMode, modeArrows}
 use Rattle.meaning.proofs.ModeLaws.{mode-select}
 use Rattle.user_rows.specs.Row.{same, isOwn, ownArrows}
 use Rattle.user_rows.specs.Steps.{Small, Numbers}
 use Rattle.user_rows.proofs.SameLaws.{same-parts}
 use Rattle.lists.specs.Order.{allOf, ofMode}
-use Rattle.lists.specs.Greedy.{addable, next, listTo, greedy}
+use Rattle.lists.specs.Greedy.{addable, next, listTo}
 use Rattle.lists.proofs.CountLaws.{allOf-snoc, room}
 use Rattle.lists.proofs.GreedyLaws.{ofMode-there, ofMode-has, addable-own, addable-same}
-use Rattle.lists.proofs.NextLaws.{next-some, next-none, next-nothing, to-next, to-holds, to-grown, greedy-is}
+use Rattle.lists.proofs.NextLaws.{next-some, to-next, to-holds, to-grown}
 
 -- ---- how many there are
 

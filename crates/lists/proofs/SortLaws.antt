@@ -2,7 +2,6 @@
 use mathlib.Core.Path.{_≡_, sym, ap, _∙_}
 use mathlib.Core.Bool.{Bool, true, false, _&&_}
 use mathlib.Core.List.{List}
-use mathlib.Core.Option.{none}
 use Prim.Native.Nat.{ℕ, _+_, _<_}
 use lib.Dec.{eqb}
 use lib.ListN.{length, getD}
@@ -11,7 +10,6 @@ use Rattle.base.proofs.SearchLaws.{some-none}
 use Rattle.tables.specs.Rows.{Picture, user, file}
 use Rattle.tables.specs.Atoms.{atom}
 use Rattle.tables.specs.Refusals.{refusal, unclearPair, verdictOf}
-use Rattle.tables.specs.declared.Verdict.{Verdict}
 use Rattle.tables.specs.declared.Verdict.the-variants.{Passed, Refused}
 use Rattle.tables.proofs.Verdicts.{refused}
 use Rattle.boxsets.specs.Sets.{isIn, low, Put}
@@ -22,7 +20,7 @@ use Rattle.user_rows.specs.Steps.{Ready, Sorts}
 use Rattle.user_rows.specs.declared.Row.{Row}
 use Rattle.lists.proofs.AtomParts.{atoms-there}
 use Rattle.answers.proofs.RowLaws.{unclear, Clear, clear-more, clear-found, clear-end}
-use Rattle.lists.specs.Steps.{Table, grantedTo}
+use Rattle.lists.specs.Steps.{grantedTo, Check12}
 use Rattle.lists.proofs.LeftLaws.{Filled, filled-none, filled-more, filled-all}
 
 module _ (pic : Picture) (m : ℕ) (closure arrows us : List ℕ) (files : Set) (ready : Ready pic closure arrows us files) where
@@ -42,10 +40,6 @@ module _ (pic : Picture) (m : ℕ) (closure arrows us : List ℕ) (files : Set) 
   pub user-there : (i u : ℕ) → u ≡ getD us i 0 → i < length us → u < length (pic .boxes)
   user-there i u e l = rw (e, ready .users-are) (atoms-there (pic .boxes) (pic .rows) user i (rw (ready .users-are) at l))
 
-  -- what check 12 answers, and the table where it passes
-  abbrev pub Sorted : Verdict → List ℕ → Type 0
-  Sorted v granted = (v ≡ verdictOf (unclearFault pic m)) × (unclearFault pic m ≡ none → Table pic (grantedTo pic m) granted)
-
   module _ (i u : ℕ) (r : Row) (granted : List ℕ) (is : u ≡ getD us i 0) (sorts : Sorts pic m u (isIn files) r) (s : Sorting i granted) where
     same : u ≡ getD (users pic) i 0
     same = is ∙ ap (λ (xs : List ℕ). getD xs i 0) (ready .users-are)
@@ -57,13 +51,13 @@ module _ (pic : Picture) (m : ℕ) (closure arrows us : List ℕ) (files : Set) 
     }
 
     pub sorting-found : (f : ℕ) → i < length us → f ≡ low (r .unclear) → eqb (low (r .unclear)) 256 ≡ false
-        → Sorted (Refused (refusal 12 m u f)) granted
+        → Check12 pic m (Refused (refusal 12 m u f)) granted
     sorting-found f l e n =
         let found = clear-found pic m i u files r same (ready .files-are) sorts (s .clear) f (rw (ready .users-are) at l) e n in
-        (found, λ z. absurd (some-none (sym (refused (unclearFault pic m) _ (sym found)) ∙ z)))
+        record { said = found; says = λ z. absurd (some-none (sym (refused (unclearFault pic m) _ (sym found)) ∙ z)) }
 
-  pub sorting-end : (granted : List ℕ) → Sorting (length us) granted → Sorted Passed granted
-  sorting-end granted s = (
-    sym (ap verdictOf (clear-end pic m (rw (ready .users-are) at (s .clear)))),
-    λ z. filled-all pic us (grantedTo pic m) granted (ready .users-are) (s .filled),
-  )
+  pub sorting-end : (granted : List ℕ) → Sorting (length us) granted → Check12 pic m Passed granted
+  sorting-end granted s = record {
+    said = sym (ap verdictOf (clear-end pic m (rw (ready .users-are) at (s .clear))));
+    says = λ z. filled-all pic us (grantedTo pic m) granted (ready .users-are) (s .filled);
+  }

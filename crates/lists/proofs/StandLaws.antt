@@ -1,21 +1,21 @@
 -- How an arrow stands, by sets: a walk over the users that it reaches, and what it takes from what is left. Assumes nothing.
-use mathlib.Core.Path.{_≡_, refl, sym, ap, ap₂, subst, _∙_}
+use mathlib.Core.Path.{_≡_, refl, subst, _∙_}
 use mathlib.Core.Logic.{_⊎_, ⊎-elim}
 use mathlib.Core.Bool.{Bool, true, false, not, cond, _&&_, _||_}
 use mathlib.Core.List.{List}
 use Prim.Native.Nat.{ℕ, _<_}
 use native.Mathlib.Decide.{ℕ-discrete}
 use native.Mathlib.Omega.{arith}
-use borrow.Author.Tests.{eq-eqb, ne-eqb}
-use lib.Dec.{T, eqb, eqb→eq, eqb-refl}
+use borrow.Author.Tests.{ne-eqb}
+use lib.Dec.{T, eqb, eqb→eq}
 use lib.ListN.{length}
 use Rattle.base.specs.Search.{anyBelow}
-use Rattle.base.proofs.Tests.{T?, or-T, T-or₁, T-or₂, and-T, T-and, T-same, T-true, true-T, not-false, false-not}
+use Rattle.base.proofs.Tests.{or-T, T-or₁, T-or₂, and-T, T-and, T-same, T-true, not-false, false-not}
 use Rattle.base.proofs.AnyLaws.{any-found, any-is}
 use Rattle.boxsets.specs.Sets.{isIn, low, setAt, has, Put}
 use Rattle.boxsets.specs.declared.Set.{Set}
-use Rattle.boxsets.proofs.TableLaws.{has-in, put-hit, put-miss}
-use Rattle.boxsets.proofs.WalkLaws.{in-below, empty-none, none-empty, some-low, walk-next, walk-gone}
+use Rattle.boxsets.proofs.TableLaws.{put-hit, put-miss}
+use Rattle.boxsets.proofs.WalkLaws.{in-below, empty-none, some-low, walk-next, walk-gone}
 use Rattle.meaning.specs.Meaning.{positive}
 use Rattle.lists.specs.Steps.{someIn, wrongAt, standingOf, standingBy, Takes}
 use Rattle.lists.specs.declared.Standing.{Standing}

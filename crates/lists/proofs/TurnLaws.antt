@@ -1,5 +1,5 @@
 -- The loop that writes the list, turn by turn. Assumes nothing.
-use mathlib.Core.Path.{_≡_, refl, sym, ap, subst, _∙_}
+use mathlib.Core.Path.{_≡_, refl, sym, ap, _∙_}
 use mathlib.Core.List.{List, [], _∷_, _++_}
 use mathlib.Core.Option.{none}
 use Prim.Native.Nat.{ℕ, _+_, _<_, _≤_}
@@ -12,7 +12,7 @@ use Rattle.base.proofs.BufferLaws.{written-none, written-more, zeros-length}
 use Rattle.tables.specs.Rows.{Picture, arrowCount, arrowAt}
 use Rattle.boxsets.specs.Sets.{setAt}
 use Rattle.user_rows.specs.Row.{ownArrows}
-use Rattle.lists.specs.Greedy.{addable, next, listTo, greedy}
+use Rattle.lists.specs.Greedy.{addable, next, listTo}
 use Rattle.lists.specs.Steps.{standingBy, Done, Takes, NextFree, Table, unreached, Clear, Ordered}
 use Rattle.lists.specs.declared.Standing.the-variants.{Free}
 use Rattle.lists.proofs.GreedyLaws.{ofMode-there}

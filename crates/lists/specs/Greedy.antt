@@ -1,7 +1,7 @@
 -- The list that is written (document 02, P3) and refusal 13, as definitions that compute: `fixed-order` (proofs/FixedLaws.antt) says
 -- that this is the list of specs/Fixed.antt, and `order-none` and `order-missed` (proofs/OrderLaws.antt) what 13 says.
 -- Assumes nothing.
-use mathlib.Core.Bool.{Bool, not, _&&_, _||_}
+use mathlib.Core.Bool.{Bool, not, _&&_}
 use mathlib.Core.List.{List, [], _∷_, _++_}
 use mathlib.Core.Option.{Option, none, some}
 use Prim.Native.Nat.{ℕ, zero, suc}

@@ -2,15 +2,17 @@
 use mathlib.Core.Path.{_≡_}
 use mathlib.Core.Bool.{Bool, true, false, not, cond, _&&_}
 use mathlib.Core.List.{List}
-use mathlib.Core.Option.{Option, none}
-use Prim.Native.Nat.{ℕ, _*_, _<_, _≤_}
-use lib.Dec.{T, eqb}
+use mathlib.Core.Option.{none}
+use Prim.Native.Nat.{ℕ, _<_, _≤_}
+use lib.Dec.{eqb}
 use lib.ListN.{length, getD}
 use Rattle.base.specs.Search.{anyBelow}
 use Rattle.base.specs.Buffers.{written}
-use Rattle.tables.specs.Rows.{Picture, user, file, arrowCount, arrowAt}
+use Rattle.tables.specs.Rows.{Picture, user, file, arrowAt}
 use Rattle.tables.specs.Atoms.{atom}
+use Rattle.tables.specs.Refusals.{verdictOf}
 use Rattle.tables.specs.declared.Arrow.{Arrow}
+use Rattle.tables.specs.declared.Verdict.{Verdict}
 use Rattle.meaning.specs.Meaning.{positive, reaches, answer, isGranted}
 use Rattle.boxsets.specs.Sets.{isIn, setAt, has}
 use Rattle.boxsets.specs.declared.Set.{Set}
@@ -91,6 +93,11 @@ pub record Clear (pic : Picture) (mode : ℕ) (closure arrows own granted : List
   pub own-are : own ≡ ownArrows (pic .arrows) mode
   pub clear : unclearFault pic mode ≡ none
   pub says : Table pic (grantedTo pic mode) granted
+
+-- what check 12 says, and the granted files where it passes
+pub record Check12 (pic : Picture) (mode : ℕ) (r : Verdict) (granted : List ℕ) : Type 0 where
+  pub said : r ≡ verdictOf (unclearFault pic mode)
+  pub says : unclearFault pic mode ≡ none → Table pic (grantedTo pic mode) granted
 
 -- the list stands in the first places, and what is left is what it does not reach
 pub record Ordered (pic : Picture) (mode : ℕ) (old : List ℕ) (count : ℕ) (out left : List ℕ) : Type 0 where

@@ -1,19 +1,18 @@
 // The sets that the list is found from, and what is left at the end.
 ghost use mathlib.Core.Path.{_≡_};
 ghost use mathlib.Core.List.{List, []};
-ghost use mathlib.Core.Option.{none};
 ghost use Prim.Native.Nat.{ℕ, _≤_};
 ghost use lib.ListN.{length};
 ghost use Rattle.base.specs.Buffers.{written, zeros};
 ghost use Rattle.tables.specs.Refusals.{verdictOf};
 ghost use Rattle.tables.specs.Rows.{Picture};
 ghost use Rattle.user_rows.specs.Row.{ownArrows};
-ghost use Rattle.user_rows.specs.Steps.{Small, Ready};
-ghost use Rattle.meaning.specs.Pairs.{unclearFault};
+ghost use Rattle.user_rows.specs.Steps.{Small, Sized, Moded, Ready};
 ghost use Rattle.answers.specs.Steps.{Boxes};
 ghost use Rattle.lists.specs.Calls.{blanks};
 ghost use Rattle.lists.specs.Greedy.{greedy, orderFault};
-ghost use Rattle.lists.specs.Steps.{Table, unreached, grantedTo};
+ghost use Rattle.lists.specs.Steps.{Table, unreached, grantedTo, Check12};
+use super::Asked;
 use super::Sorted;
 use base::wide;
 use boxsets::Set;
@@ -35,43 +34,66 @@ pub fn no_sets() -> [u64; 1024]
     [0u64; 1024]
 }
 
-// Check 12, the granted files of each user, and the mode's arrows without repeats.
+// Check 12, and the granted files of each user.
+fn sort_rows(
+    closure: &[u64],
+    heads: &[u64],
+    arrows: &[u16],
+    own: &[u16],
+    users: &[u16],
+    asked: Asked,
+    granted: &mut [u64],
+) -> Verdict
+    requires { ⌜ Sized (now closure) (now heads) (now arrows) (now own) × Boxes (now users) × (now granted ≡ zeros 1024) ⌝ }
+    ensures { λ _. ⌜ length (now (granted .exit)) ≡ 1024 ⌝ }
+    ensures { λ r. ⌜ ((pic : Picture) → Ready pic (now (closure .entry)) (now (arrows .entry)) (now (users .entry)) (asked .files)
+        → Moded pic (asked .mode) (now (heads .entry)) (now (arrows .entry)) (now (own .entry))
+        → Check12 pic (asked .mode) r (now (granted .exit))) ⌝ }
+{
+    let files = asked.files;
+    for i in 0..users.len() {
+        let u = wide(users[i]);
+        let row = sort_row(closure, heads, arrows, own, u, files);
+        let unclear = row.unclear;
+        if !is_empty(unclear) {
+            return Verdict::refused(12, wide(asked.mode), u, lowest(unclear));
+        }
+        let granting = row.granted;
+        put_set(granted, u, granting);
+    }
+    Verdict::Passed
+}
+
+// The same, and the mode's arrows without repeats.
 pub fn sort_mode(
     closure: &[u64],
     arrows: &[u16],
-    mode: u16,
     users: &[u16],
-    files: Set,
+    asked: Asked,
     own: &mut [u16],
     granted: &mut [u64],
 ) -> Sorted
     requires { ⌜ (length (now closure) ≡ 2048) × Small (now arrows) × Boxes (now users) × (512 ≤ length (now own))
         × (now granted ≡ zeros 1024) ⌝ }
-    ensures { λ r. ⌜ (r .own ≡ length (ownArrows (now (arrows .entry)) mode))
-        × (now (own .exit) ≡ written (ownArrows (now (arrows .entry)) mode) (now (own .entry))) ⌝ }
+    ensures { λ r. ⌜ (r .own ≡ length (ownArrows (now (arrows .entry)) (asked .mode)))
+        × (now (own .exit) ≡ written (ownArrows (now (arrows .entry)) (asked .mode)) (now (own .entry))) ⌝ }
     ensures { λ _. ⌜ length (now (granted .exit)) ≡ 1024 ⌝ }
-    ensures { λ r. ⌜ ((pic : Picture) → Ready pic (now (closure .entry)) (now (arrows .entry)) (now (users .entry)) files
-        → (r .unclear ≡ verdictOf (unclearFault pic mode))
-        × (unclearFault pic mode ≡ none → Table pic (grantedTo pic mode) (now (granted .exit)))) ⌝ }
+    ensures { λ r. ⌜ ((pic : Picture) → Ready pic (now (closure .entry)) (now (arrows .entry)) (now (users .entry)) (asked .files)
+        → Check12 pic (asked .mode) (r .unclear) (now (granted .exit))) ⌝ }
 {
     let mut heads = no_heads();
-    let count = take_mode(arrows, mode, own, &mut heads);
-    for i in 0..users.len() {
-        let u = wide(users[i]);
-        let row = sort_row(closure, &heads, arrows, &own[..count], u, files);
-        let unclear = row.unclear;
-        if !is_empty(unclear) {
-            return Sorted {
-                own: count,
-                unclear: Verdict::refused(12, wide(mode), u, lowest(unclear)),
-            };
-        }
-        let granting = row.granted;
-        put_set(granted, u, granting);
-    }
+    let count = take_mode(arrows, asked.mode, own, &mut heads);
     Sorted {
         own: count,
-        unclear: Verdict::Passed,
+        unclear: sort_rows(
+            closure,
+            &heads,
+            arrows,
+            &own[..count],
+            users,
+            asked,
+            granted,
+        ),
     }
 }
 

@@ -1,5 +1,5 @@
-// How the list is found, on sets: for each user the files that the list does not reach yet (`left`) and those that are granted. `closure` is
-// the table of containment, `own` the mode's arrows without repeats: a repeat never reaches anything new.
+// How the list is found, on sets: for each user the files that the list does not reach yet (`left`) and those that are granted. `closure`
+// is the table of containment, `own` the mode's arrows without repeats: a repeat never reaches anything new.
 ghost use mathlib.Core.Path.{_≡_};
 ghost use mathlib.Core.Bool.{not, cond, _&&_};
 ghost use mathlib.Core.List.{[]};

@@ -67,7 +67,8 @@ fn list_clear(
     requires { ⌜ (length (now closure) ≡ 2048) × (length (now granted) ≡ 1024) × Boxes (now users) ⌝ }
     requires { ⌜ Small (now arrows) × Numbers (now arrows) (now own) × (length (now own) ≤ 512) ⌝ }
     requires { ⌜ (length (now own) ≤ length (now out)) × (length (modeArrows (now arrows) (asked .mode)) ≤ length (now out)) ⌝ }
-    ensures { λ r. ⌜ ((pic : Picture) → Clear pic (asked .mode) (now (closure .entry)) (now (arrows .entry)) (now (own .entry)) (now (granted .entry))
+    ensures { λ r. ⌜ ((pic : Picture)
+        → Clear pic (asked .mode) (now (closure .entry)) (now (arrows .entry)) (now (own .entry)) (now (granted .entry))
         → Ready pic (now (closure .entry)) (now (arrows .entry)) (now (users .entry)) (asked .files)
         → (r ≡ listAnswer pic (asked .mode) none) × (now (out .exit) ≡ listAfter pic (asked .mode) none (now (out .entry)))) ⌝ }
 {
@@ -94,18 +95,9 @@ pub fn list_mode(
         → asked .pairs ≡ pairs pic
         → Listing pic (asked .mode) (now (out .entry)) (now (work .entry)) r (now (out .exit)) (now (work .exit))) ⌝ }
 {
-    let files = asked.files;
     let mut own = no_numbers();
     let mut granted = no_sets();
-    let sorted = sort_mode(
-        closure,
-        arrows,
-        asked.mode,
-        users,
-        files,
-        &mut own,
-        &mut granted,
-    );
+    let sorted = sort_mode(closure, arrows, users, asked, &mut own, &mut granted);
     let unclear = sorted.unclear;
     if let Verdict::Refused(r) = unclear {
         return Listed::Refused(r);

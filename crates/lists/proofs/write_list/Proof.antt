@@ -1,8 +1,6 @@
 -- `lists::write_list` meets its contract: what the list of the mode is found from. Assumes nothing.
-use mathlib.Core.Path.{_≡_, refl, sym, ap, _∙_}
-use native.Mathlib.Omega.{arith}
+use mathlib.Core.Path.{refl}
 use borrow.Author.Needs.{needs}
-use lib.ListN.{length}
 use Rattle.tables.specs.Rows.{picture, user}
 use Rattle.user_rows.proofs.CallerLaws.{small-arrows}
 use Rattle.answers.proofs.TakenLaws.{room}

@@ -1,10 +1,10 @@
 -- `lists::order::next_free` meets its contract: no place before i is free, and what is marked is spent. Assumes nothing.
-use mathlib.Core.Path.{_≡_, sym, _∙_}
+use mathlib.Core.Path.{_≡_, _∙_}
 use Prim.Native.Nat.{_-_, _<_}
 use native.Mathlib.Omega.{arith}
 use borrow.Author.Needs.{needs}
 use lib.ListN.{length, getD}
-use Rattle.tables.specs.Rows.{arrowCount, arrowAt}
+use Rattle.tables.specs.Rows.{arrowAt}
 use Rattle.lists.specs.Steps.{standingBy, markOf}
 use Rattle.lists.proofs.FreeLaws.{Looked, looked-none, looked-found, looked-more, looked-end}
 use Rattle.lists.proofs.order.next_free.Statement.{statement}

@@ -1,13 +1,12 @@
 -- `lists::order::standing` meets its contract: the users not looked at yet say the rest. Assumes nothing.
-use mathlib.Core.Path.{_≡_, sym, ap, _∙_}
-use mathlib.Core.Bool.{Bool, false, not, cond, _&&_}
+use mathlib.Core.Path.{_≡_, sym, _∙_}
+use mathlib.Core.Bool.{false, not, cond, _&&_}
 use Prim.Native.Nat.{ℕ, _-_, _<_}
 use native.Mathlib.Omega.{arith}
 use borrow.Author.Tests.{not-true, not-false}
 use borrow.Author.Needs.{needs}
 use lib.Dec.{eqb}
-use Rattle.boxsets.specs.Sets.{isIn, low, setAt, has}
-use Rattle.boxsets.specs.declared.Set.{Set}
+use Rattle.boxsets.specs.Sets.{isIn, low, has}
 use Rattle.boxsets.proofs.TableLaws.{has-in}
 use Rattle.boxsets.proofs.WalkLaws.{some-low, walk-less}
 use Rattle.lists.proofs.StandLaws.{Stood, stood-none, stood-more, stood-blocked, stood-free, stood-spent}

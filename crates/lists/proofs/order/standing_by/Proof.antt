@@ -1,5 +1,5 @@
 -- `lists::order::standing_by` meets its contract: the sets of the arrow's ends. Assumes nothing.
-use mathlib.Core.Path.{_≡_, _∙_}
+use mathlib.Core.Path.{_∙_}
 use Prim.Native.Nat.{_<_}
 use native.Mathlib.Omega.{arith}
 use borrow.Author.Needs.{needs}

@@ -1,5 +1,4 @@
 -- `lists::order::take_arrow` meets its contract: the sets of the arrow's ends. Assumes nothing.
-use mathlib.Core.Path.{_≡_, _∙_}
 use Prim.Native.Nat.{_<_}
 use native.Mathlib.Omega.{arith}
 use borrow.Author.Needs.{needs}

@@ -1,13 +1,13 @@
 -- `lists::order::take_files` meets its contract: what is taken, and what the users not looked at yet still lose, make up the whole.
 -- Assumes nothing.
-use mathlib.Core.Path.{_≡_, sym, ap, _∙_}
-use mathlib.Core.Bool.{Bool, false, not, _&&_}
-use Prim.Native.Nat.{ℕ, _-_, _<_}
+use mathlib.Core.Path.{_≡_, sym, _∙_}
+use mathlib.Core.Bool.{false}
+use Prim.Native.Nat.{_-_, _<_}
 use native.Mathlib.Omega.{arith}
 use borrow.Author.Tests.{not-true, not-false}
 use borrow.Author.Needs.{needs}
 use lib.Dec.{eqb}
-use Rattle.boxsets.specs.Sets.{isIn, low, has}
+use Rattle.boxsets.specs.Sets.{low}
 use Rattle.boxsets.proofs.TableLaws.{has-in}
 use Rattle.boxsets.proofs.WalkLaws.{some-low, walk-less}
 use Rattle.lists.proofs.StandLaws.{Taking, taking-none, taking-more, taking-end}

@@ -1,5 +1,5 @@
 -- `lists::stages::finish` meets its contract, by what check 13 found. Assumes nothing.
-use mathlib.Core.Path.{_≡_, sym, _∙_}
+use mathlib.Core.Path.{sym, _∙_}
 use borrow.Author.Needs.{needs}
 use Rattle.tables.proofs.Verdicts.{passed, refused}
 use Rattle.lists.specs.Greedy.{orderFault}

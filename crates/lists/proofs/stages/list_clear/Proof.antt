@@ -1,5 +1,5 @@
 -- `lists::stages::list_clear` meets its contract: the list is ordered, checked and finished. Assumes nothing.
-use mathlib.Core.Path.{_≡_, ap, _∙_}
+use mathlib.Core.Path.{ap, _∙_}
 use mathlib.Core.List.{List}
 use borrow.Author.Needs.{needs}
 use lib.ListN.{length}

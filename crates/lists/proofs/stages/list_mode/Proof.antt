@@ -1,5 +1,5 @@
 -- `lists::stages::list_mode` meets its contract: check 12 refuses, or the list follows. Assumes nothing.
-use mathlib.Core.Path.{_≡_, sym, ap, _∙_}
+use mathlib.Core.Path.{sym, ap, _∙_}
 use mathlib.Core.List.{List}
 use Prim.Native.Nat.{ℕ}
 use native.Mathlib.Nat.{le-trans}
@@ -19,35 +19,35 @@ use Rattle.lists.proofs.stages.list_mode.Tie as tie
 -- the mode's arrows
 wrote : (c : tie.After-sort-mode) →
     let at-numbers = c .before .before .before .before in
-    let a = at-numbers .before .before .before .before .before .before .before .args in
+    let a = at-numbers .before .before .before .before .before .before .args in
     Wrote (ownArrows (a .arrows .now) (a .asked .mode)) (at-numbers .no-numbers .result) (c .sort-mode .result .own)
-    (c .sort-mode .last .1 .1 .1 .1 .1 .0)
+    (c .sort-mode .last .1 .1 .1 .1 .0)
 wrote c = c .sort-mode .ensures .0
 
 returns : tie.Need-returns
 returns c pic ready pairs-are =
     let sorted = c .before .before .before .before .before in
-    let a = sorted .before .before .before .before .before .before .before .before .before .before .before .args in
+    let a = sorted .before .before .before .before .before .before .before .before .before .before .args in
     listing-refused pic (a .asked .mode) (a .out .now) (a .work .now) _
-    (refused (unclearFault pic (a .asked .mode)) _ (sym (sorted .sort-mode .ensures .1 .1 pic ready .0) ∙ c .before .unclear .given .1))
+    (refused (unclearFault pic (a .asked .mode)) _ (sym (sorted .sort-mode .ensures .1 .1 pic ready .said) ∙ c .before .unclear .given .1))
 
 array-share-prefix-own : tie.Need-array-share-prefix-own
 array-share-prefix-own c =
     let sorted = c .before .before .before .before .before .before .before .before in
     let at-numbers = sorted .before .before .before .before in
-    let start = at-numbers .before .before .before .before .before .before .before in
+    let start = at-numbers .before .before .before .before .before .before in
     taken-within (start .args .arrows .now) (start .args .asked .mode) _ _ _ (wrote sorted) (start .pre .0 .1) (room 512 (at-numbers .no-numbers .ensures))
 
 slice-aggregate-list-clear : tie.Need-slice-aggregate-list-clear
 slice-aggregate-list-clear c =
     let sorted = c .before .before .before .before .before .before .before .before .before in
-    let a = sorted .before .before .before .before .before .before .before .before .before .before .before .args in
+    let a = sorted .before .before .before .before .before .before .before .before .before .before .args in
     taken-length (a .arrows .now) (a .asked .mode) _ _ _ (wrote sorted)
 
 list-clear-requires : tie.Need-list-clear-requires
 list-clear-requires c κs =
     let sorted = c .before .before .before .before .before .before .before .before .before .before .before in
-    let start = sorted .before .before .before .before .before .before .before .before .before .before .before in
+    let start = sorted .before .before .before .before .before .before .before .before .before .before in
     let a = start .args in
     let part = own-part (a .arrows .now) (a .asked .mode) _ _ _ (wrote sorted) (start .pre .0 .1) in (
       (start .pre .0 .0, sorted .sort-mode .ensures .1 .0, start .pre .0 .2),
@@ -60,10 +60,10 @@ returns-2 c pic ready pairs-are =
     let cleared = listed .before .before .before .before .before .before in
     let told = cleared .before .before in
     let sorted = told .before .before .before .before in
-    let a = sorted .before .before .before .before .before .before .before .before .before .before .before .args in
+    let a = sorted .before .before .before .before .before .before .before .before .before .before .args in
     let m = a .asked .mode in
     let s = sorted .sort-mode .ensures .1 .1 pic ready in
-    let clear = passed (unclearFault pic m) (sym (s .0) ∙ told .enum-told .given .1) in
+    let clear = passed (unclearFault pic m) (sym (s .said) ∙ told .enum-told .given .1) in
     listing-done pic m (a .out .now) (a .work .now) clear (listed .list-clear .result) _ _
     (listed .list-clear .ensures pic
     (record {
@@ -71,7 +71,7 @@ returns-2 c pic ready pairs-are =
       arrows-are = ready .arrows-are;
       own-are = part-is (ownArrows (a .arrows .now) m) _ _ _ (wrote sorted) ∙ ap (λ (xs : List ℕ). ownArrows xs m) (ready .arrows-are);
       clear = clear;
-      says = s .1 clear;
+      says = s .says clear;
     })
     ready)
     (cleared .clear .ensures ∙ ap (λ (n : ℕ). written (zeros n) (a .work .now)) pairs-are)
