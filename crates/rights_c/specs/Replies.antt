@@ -66,4 +66,4 @@ packReply (PackRefused r) = refusedReply r
 
 -- the version: major 3, minor 1, patch 0, as major × 65,536 + minor × 256 + patch
 abbrev pub version : ℕ
-version = 196864
+version = 262144

@@ -262,5 +262,5 @@ pub extern "C" fn rights_pack(boxes: &[u8], rows: &[u16], arrows: &[u16], file: 
 pub extern "C" fn rights_version() -> u32
     ensures { λ r. ⌜ r ≡ version ⌝ }
 {
-    0x030100
+    0x040000
 }
