@@ -102,13 +102,7 @@ pub fn typical(arrows: usize) -> Picture {
         }
     }
 
-    let n = p.boxes.len();
-    let mut scratch = vec![0; n * n];
-    twin::fill(n, &p.rows, &mut scratch);
-    let contains = twin::Filled {
-        n,
-        scratch: &scratch,
-    };
+    let mut scratch = vec![0; p.boxes.len() * p.boxes.len()];
     while p.arrows.len() < 4 * arrows {
         let mode = (p.arrows.len() / 4 % 4) as u16;
         let tail = match random.below(8) {
@@ -123,17 +117,7 @@ pub fn typical(arrows: usize) -> Picture {
         };
         let sign = (random.below(5) < 3) as u16;
         p.arrows.extend([tail as u16, head as u16, mode, sign]);
-        let clear = (users..groups)
-            .filter(|&u| contains.around(tail, u))
-            .all(|u| {
-                (files..folders)
-                    .filter(|&f| contains.around(head, f))
-                    .all(|f| {
-                        let e = twin::answer_pair(contains, &p.arrows, mode, u as u16, f as u16);
-                        !matches!(e, twin::Entry::Unclear(..))
-                    })
-            });
-        if !clear {
+        if twin::judge(p.tables(), &mut scratch).is_err() {
             p.arrows.truncate(p.arrows.len() - 4);
         }
     }
@@ -229,14 +213,14 @@ pub fn chain(boxes: usize, down: bool) -> Picture {
     p
 }
 
-/// Random containments, four to a box, and random arrows.
-pub fn random_rows(boxes: usize) -> Picture {
-    let mut p = Picture::new(&format!("{boxes} boxes, {} random rows", 4 * boxes));
+/// Random containments and random arrows.
+pub fn random_rows(boxes: usize, rows: usize) -> Picture {
+    let mut p = Picture::new(&format!("{boxes} boxes, {rows} random rows"));
     let half = boxes / 2;
     let users = p.add(0, half);
     let files = p.add(1, half);
     let mut random = Random(7);
-    while p.rows.len() < 8 * boxes {
+    while p.rows.len() < 2 * rows {
         let from = if random.below(2) == 0 { users } else { files };
         let (a, b) = (random.of(from, half), random.of(from, half));
         if a != b {
@@ -252,21 +236,21 @@ pub fn random_rows(boxes: usize) -> Picture {
 }
 
 /// Users and files in no group, arrows between single boxes, each of another pair. Seven of eight
-/// are positive: their pointers stop to look at every denied pair.
-pub fn single_boxes(side: usize, arrows: usize) -> Picture {
+/// are positive.
+pub fn single_boxes(users: usize, files: usize, arrows: usize) -> Picture {
     let mut p = Picture::new(&format!(
-        "{side}x{side} pairs, {arrows} arrows between single boxes"
+        "{users}x{files} pairs, {arrows} arrows between single boxes"
     ));
-    let users = p.add(0, side);
-    let files = p.add(1, side);
+    let first_user = p.add(0, users);
+    let first_file = p.add(1, files);
     let mut random = Random(8);
-    let mut drawn = vec![false; side * side];
+    let mut drawn = vec![false; users * files];
     while p.arrows.len() < 4 * arrows {
-        let pair = random.below(side * side);
+        let pair = random.below(users * files);
         if !drawn[pair] {
             drawn[pair] = true;
             let sign = (p.arrows.len() / 4 % 8 != 0) as u16;
-            p.arrow(users + pair / side, files + pair % side, sign);
+            p.arrow(first_user + pair / files, first_file + pair % files, sign);
         }
     }
     p
@@ -292,12 +276,12 @@ fn stairs(p: &mut Picture, steps: usize, atoms: usize) -> (usize, usize) {
 
 /// An arrow from each group to each folder of two chains, whose sign changes with each step down.
 /// An arrow can stand in a list only behind those a step below it, which have higher numbers.
-pub fn staircase() -> Picture {
-    let mut p = Picture::new("staircase, 22x22 arrows");
-    let (groups, folders) = stairs(&mut p, 22, 106);
-    for depth in 0..43 {
-        for a in 0..22 {
-            if a <= depth && depth - a < 22 {
+pub fn staircase(steps: usize) -> Picture {
+    let mut p = Picture::new(&format!("staircase, {steps}x{steps} arrows"));
+    let (groups, folders) = stairs(&mut p, steps, 106);
+    for depth in 0..2 * steps - 1 {
+        for a in 0..steps {
+            if a <= depth && depth - a < steps {
                 p.arrow(groups + a, folders + depth - a, (depth % 2) as u16);
             }
         }
@@ -322,6 +306,69 @@ pub fn thin_staircase() -> Picture {
     p
 }
 
+/// 96 users in 31 groups, 96 files in 31 folders, and all groups and all folders in one more. The
+/// groups of each user and the folders of each file are given, as numbers below 31. Of 512 arrows half
+/// are positive between inner boxes, a quarter negative between the two outermost ones, and the
+/// rest of either sign to the outermost folder, so that every pair is clear.
+fn crowded(
+    name: String,
+    mut random: Random,
+    modes: usize,
+    mut groups_of: impl FnMut(&mut Random, usize) -> Vec<usize>,
+) -> Picture {
+    let mut p = Picture::new(&name);
+    let [groups, folders] = [0, 1].map(|side| {
+        let first = p.add(side, 96);
+        let outermost = p.add(side, 32);
+        for a in 0..96 {
+            for group in groups_of(&mut random, a) {
+                p.put(outermost + 1 + group, first + a);
+            }
+        }
+        p.put_all(outermost, outermost + 1, 31);
+        outermost
+    });
+    for k in 0..512 {
+        let mut inner = |outermost| random.of(outermost + 1, 31);
+        let (tail, head, sign) = match k % 4 {
+            0 | 2 => (inner(groups), inner(folders), 1),
+            1 => (groups, folders, 0),
+            _ => match (inner(groups), random.below(2)) {
+                (tail, 0) => (tail, folders, 1),
+                _ => (groups, folders, 0),
+            },
+        };
+        p.arrow(tail, head, sign);
+        let mode = p.arrows.len() - 2;
+        p.arrows[mode] = (k % modes) as u16;
+    }
+    p
+}
+
+/// Each user and each file is in four groups, nearly each in others.
+pub fn crowd(seed: u64, modes: usize) -> Picture {
+    let name = format!("each user and file in other groups, modes of the 512 arrows: {modes}");
+    crowded(name, Random(seed), modes, |random, _| {
+        let mut next = random.below(31);
+        let mut groups = Vec::new();
+        for _ in 0..4 {
+            groups.push(next);
+            next = (next + 1 + random.below(7)) % 31;
+        }
+        groups
+    })
+}
+
+/// Each user and each file is in so many groups, those of one kind in the same. From 8 kinds in 4
+/// groups on, no group is empty.
+pub fn crowd_of_kinds(kinds: usize, groups: usize) -> Picture {
+    let name = format!("{kinds} kinds of users and of files, in {groups} groups each");
+    crowded(name, Random(4), 1, |_, a| {
+        let (first, step) = (4 * (a % kinds), 1 + a % kinds / 31);
+        (0..groups).map(|k| (first + step * k) % 31).collect()
+    })
+}
+
 /// The ring of case J with so many users and files: each arrow has to stand before the next one,
 /// all around, so that there is no order.
 pub fn ring(size: usize) -> Picture {
@@ -340,52 +387,4 @@ pub fn ring(size: usize) -> Picture {
         p.arrow(close + i, outer + i, 0);
     }
     p
-}
-
-/// A block file of the picture with so many blocks, each kind's rows spread over its blocks.
-pub fn block_file(p: &Picture, blocks: usize) -> Vec<u8> {
-    let records = [
-        p.boxes.iter().map(|&b| vec![b]).collect::<Vec<_>>(),
-        p.rows
-            .chunks(2)
-            .map(|r| r.iter().flat_map(|n| n.to_le_bytes()).collect())
-            .collect(),
-        p.arrows
-            .chunks(4)
-            .map(|a| {
-                let ends = a[..2].iter().flat_map(|n| n.to_le_bytes());
-                ends.chain([a[2] as u8, a[3] as u8]).collect()
-            })
-            .collect(),
-    ];
-    // The fewest blocks that hold each kind; what is left goes to the containments.
-    let mut share: Vec<usize> = (records.iter().zip([500, 125, 83]))
-        .map(|(rows, capacity)| rows.len().div_ceil(capacity))
-        .collect();
-    share[1] += blocks - share.iter().sum::<usize>();
-    let mut file = Vec::new();
-    for (kind, rows) in records.iter().enumerate() {
-        for part in 0..share[kind] {
-            let from = rows.len() * part / share[kind];
-            let to = rows.len() * (part + 1) / share[kind];
-            let number = (file.len() / 512) as u16;
-            let mut block = vec![kind as u8 + 1, 0];
-            block.extend(number.to_le_bytes());
-            block.extend(((to - from) as u16).to_le_bytes());
-            block.extend([0, 0]);
-            block.extend(rows[from..to].concat());
-            block.resize(508, 0);
-            let check = twin::block_check(&block);
-            block.extend(check.to_le_bytes());
-            file.extend(block);
-        }
-    }
-    file
-}
-
-/// The fewest blocks that hold the picture.
-pub fn fewest_blocks(p: &Picture) -> usize {
-    p.boxes.len().div_ceil(500)
-        + (p.rows.len() / 2).div_ceil(125)
-        + (p.arrows.len() / 4).div_ceil(83)
 }

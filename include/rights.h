@@ -65,7 +65,7 @@ extern "C" {
 #endif
 
 /* The version that this header belongs to: major, minor and patch, one byte each. */
-#define RIGHTS_VERSION 0x030100u
+#define RIGHTS_VERSION 0x040000u
 
 /* Limits of a picture and of a block file. */
 #define RIGHTS_MAX_BOXES 256
@@ -91,10 +91,10 @@ extern "C" {
  * Stack that suffices for a call, in bytes, with what memcpy and memset take: measured on
  * pictures and files of full size. tests/stack.c measures it again and fails if a call takes more.
  */
-#define RIGHTS_STACK_JUDGE 65536
-#define RIGHTS_STACK_ENTRY 16384
-#define RIGHTS_STACK_MATRIX 65536
-#define RIGHTS_STACK_LIST 98304
+#define RIGHTS_STACK_JUDGE 40960
+#define RIGHTS_STACK_ENTRY 40960
+#define RIGHTS_STACK_MATRIX 40960
+#define RIGHTS_STACK_LIST 49152
 #define RIGHTS_STACK_ATOMS 16384
 #define RIGHTS_STACK_READ 16384
 #define RIGHTS_STACK_PACK 16384

@@ -177,6 +177,21 @@ pub struct Picture {
     pub answers: Vec<Vec<Answer>>,
 }
 
+/// Whether arrow p overrides arrow n, both given by tail and head and reaching one pair. `nested` says
+/// of two boxes whether the first is nested in the second.
+///
+/// Document 01: "p overrides n unless p's tail contains n's tail, or p's head contains n's head, or
+/// the tails are level and the heads are level". Boxes are level "if they are the same box, or if
+/// neither contains the other".
+pub fn overrides(nested: impl Fn(usize, usize) -> bool, p: [usize; 2], n: [usize; 2]) -> bool {
+    let level = |a: usize, b: usize| a == b || (!nested(a, b) && !nested(b, a));
+    let ([p_tail, p_head], [n_tail, n_head]) = (p, n);
+    let barred = nested(n_tail, p_tail)
+        || nested(n_head, p_head)
+        || (level(p_tail, n_tail) && level(p_head, n_head));
+    !barred
+}
+
 /// Every box that a walk along the rows finds from `start`, `start` itself only by a loop.
 fn found_from(start: usize, inner: &[Vec<usize>]) -> Vec<bool> {
     let mut found = vec![false; inner.len()];
@@ -253,18 +268,15 @@ impl Picture {
         self.is_or_contains(arrow.tail, user) && self.is_or_contains(arrow.head, file)
     }
 
-    /// For two boxes around one atom.
-    fn level(&self, a: usize, b: usize) -> bool {
-        a == b || (!self.contains[a][b] && !self.contains[b][a])
+    /// Whether a box is nested in another, for two boxes around one atom. What overrides what goes
+    /// by this alone.
+    fn is_nested(&self, inner: usize, outer: usize) -> bool {
+        self.contains[outer][inner]
     }
 
-    /// For two arrows reaching one pair.
     fn overrides(&self, p: usize, n: usize) -> bool {
-        let (p, n) = (&self.arrows[p], &self.arrows[n]);
-        let barred = self.contains[p.tail][n.tail]
-            || self.contains[p.head][n.head]
-            || (self.level(p.tail, n.tail) && self.level(p.head, n.head));
-        !barred
+        let ends = |k: usize| [self.arrows[k].tail, self.arrows[k].head];
+        overrides(|a, b| self.is_nested(a, b), ends(p), ends(n))
     }
 
     /// The answer for a pair, given all arrows of one mode.

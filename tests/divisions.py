@@ -5,7 +5,7 @@ usage: divisions.py source               the crate packer and the crates that it
        divisions.py library ARCHIVE      every function of the archive that rights_pack reaches
        divisions.py self-test            that both notice divisions written on purpose
 
-In the source, a divisor must be a power of two: as a number, or as a constant of that value. Machine code (x86-64) must have no division,
+In the source, a divisor must be a power of two: as a number, or as a constant that has no other value in these crates. Machine code (x86-64) must have no division,
 and nothing by which compilers divide by a constant: no product's high half, no product with a number but the check's prime, no number of
 more than 16 bits but the check's two.
 """
@@ -36,12 +36,18 @@ def power_of_two(text):
     return digits.isdigit() and int(digits).bit_count() == 1
 
 
-def divisions_in(text):
+def constants_in(texts):
+    """All values of each constant, by its name alone."""
+    constants = {}
+    for text in texts:
+        for name, value in re.findall(r"\bconst (\w+): \w+ = ([^;]+);", code_of(text)):
+            constants.setdefault(name, []).append(value)
+    return constants
+
+
+def divisions_in(text, constants):
     """(line, what) of each division whose divisor is not a power of two."""
     code = code_of(text)
-    constants = {}
-    for name, value in re.findall(r"\bconst (\w+): \w+ = ([\d_]+);", code):
-        constants.setdefault(name, []).append(value)
     found = []
     for m in re.finditer(r"[/%]=?\s*([\w:]*)|\.(?:\w*_)?(?:div|rem)(?:_\w*)?(?=\()", code):
         divisor = m.group(1) or ""
@@ -52,16 +58,26 @@ def divisions_in(text):
 
 
 def sources():
+    """Every source of the crate and of all crates below it."""
     lines = [line.split("#")[0] for line in (ROOT / "crates.txt").read_text().split("\n")]
     below = {name: rest.split() for name, _, rest in (line.partition(":") for line in lines if ":" in line)}
-    return [path for crate in [CRATE] + below[CRATE] for path in sorted((ROOT / "crates" / crate / "src").glob("**/*.rt"))]
+    crates = [CRATE]
+    for crate in crates:
+        crates += [other for other in below.get(crate, []) if other not in crates]
+    folders = [ROOT / "crates" / crate / "src" for crate in crates]
+    empty = [str(folder) for folder in folders if not any(folder.glob("**/*.rt"))]
+    if empty:
+        sys.exit(f"divisions.py: no source in {', '.join(empty)}")
+    return [path for folder in folders for path in sorted(folder.glob("**/*.rt"))]
 
 
 def look_at_sources():
-    found = [(path, *what) for path in sources() for what in divisions_in(path.read_text())]
+    texts = {path: path.read_text() for path in sources()}
+    constants = constants_in(texts.values())
+    found = [(path, *what) for path, text in texts.items() for what in divisions_in(text, constants)]
     for path, line, what in found:
         print(f"{path.relative_to(ROOT)}:{line}: {what}")
-    print(f"{len(sources())} sources of packing, {len(found)} divisions by what is not a power of two")
+    print(f"{len(texts)} sources of packing, {len(found)} divisions by what is not a power of two")
     return not found
 
 
@@ -143,6 +159,7 @@ REFUSED_SOURCE = [
     "const SIZE: usize = 6;\nconst SIZE: usize = 4;\nlet count = used / ArrowRecord::SIZE;",
     "let blocks = rows.div_ceil(125);",
     "let place = row.wrapping_rem(83);",
+    "const CAPACITY: usize = 5 * 25;\nlet place = row % CAPACITY;",
 ]
 ADMITTED_SOURCE = [
     "let high = x / 256;",
@@ -153,6 +170,13 @@ ADMITTED_SOURCE = [
     "ensures { λ r. ⌜ r ≡ row / 125\n    × (row % 125 ≡ 0) ⌝ }",
     "ghost use Prim.Native.Nat.{_/_, _%_};",
 ]
+# constants of one source, a division in another, and whether it must be refused
+TWO_SOURCES = [
+    ("pub const BLOCK_SIZE: usize = 512;", "let blocks = length / BLOCK_SIZE;", False),
+    ("impl ArrowRecord {\n    pub const CAPACITY: usize = 83;\n}", "let place = row % ArrowRecord::CAPACITY;", True),
+    ("const SIZE: usize = 4;", "const SIZE: usize = 6;\nlet count = used / SIZE;", True),
+    ("const OTHER: usize = 4;", "let count = used / SIZE;", True),
+]
 REFUSED_CODE = [f"x {op} {by}" for op in "/%" for by in (125, 83, 500, 250)]
 REFUSED_CODE += [f"if x % {by} == 0 {{ 1 }} else {{ 0 }}" for by in (125, 83, 500)]
 REFUSED_CODE += ["if y == 0 { 0 } else { x / y }", "inner(x)"]
@@ -160,9 +184,12 @@ ADMITTED_CODE = ["x / 4", "x % 16", "x * y", "512 * x", "if x + 1 == 125 { 0 } e
 
 
 def self_test():
-    wrong = [f"admitted: {text}" for text in REFUSED_SOURCE if not divisions_in(text)]
-    wrong += [f"refused: {text}" for text in ADMITTED_SOURCE if divisions_in(text)]
-    looks = len(REFUSED_SOURCE) + len(ADMITTED_SOURCE)
+    pieces = [("", text, True) for text in REFUSED_SOURCE] + [("", text, False) for text in ADMITTED_SOURCE] + TWO_SOURCES
+    wrong = []
+    for other, text, refused in pieces:
+        if bool(divisions_in(text, constants_in([other, text]))) != refused:
+            wrong.append(f"{'admitted' if refused else 'refused'}: {text}")
+    looks = len(pieces)
     with tempfile.TemporaryDirectory() as folder:
         for level in "0123sz":
             for width in ("u16", "u32", "u64"):

@@ -1,27 +1,19 @@
 """Cases of pictures for the program crates/test_cases, and what it must write, from documents 01 and 02 alone.
 
-A case is (label, input, lines): the input's numbers and tables, and for each line the answer's words, the byte buffers and the
+What a pair is answered is the model's (tests/model.py); checks, buffers and their order are said here. A case is
+(label, input, lines): the input's numbers and tables, and for each line the answer's words, the byte buffers and the
 number buffers, each as far as a call writes it (tests/test_cases.py).
 """
 
-
-def closure(n, pairs):
-    """For each box the boxes that it contains, by following rows."""
-    inner = [[b for a, b in pairs if a == box] for box in range(n)]
-    found = []
-    for box in range(n):
-        seen, todo = set(), list(inner[box])
-        while todo:
-            b = todo.pop()
-            if b not in seen:
-                seen.add(b)
-                todo += inner[b]
-        found.append(seen)
-    return found
+import model
 
 
-# Box bytes and the side they are on: 2 is a user group, 3 a folder (document 02, P6).
-SIDE = {0: 0, 1: 1, 2: 0, 3: 1}
+def pairs_of(rows):
+    return list(zip(rows[::2], rows[1::2]))
+
+
+def fours_of(arrows):
+    return list(zip(arrows[::4], arrows[1::4], arrows[2::4], arrows[3::4]))
 
 
 def refusal(boxes, rows, arrows):
@@ -33,10 +25,9 @@ def refusal(boxes, rows, arrows):
     for table, count, most in ((0, len(boxes), 256), (1, len(rows) // 2, 1024), (2, len(arrows) // 4, 512)):
         if count > most:
             return 2, table, count, 0
-    pairs = list(zip(rows[::2], rows[1::2]))
-    fours = list(zip(arrows[::4], arrows[1::4], arrows[2::4], arrows[3::4]))
+    pairs, fours = pairs_of(rows), fours_of(arrows)
     n = len(boxes)
-    sides = [SIDE.get(b) for b in boxes]
+    sides = [model.SIDE.get(b) for b in boxes]
 
     def on(side, b):
         return b < n and sides[b] == side
@@ -54,34 +45,8 @@ def refusal(boxes, rows, arrows):
     return None
 
 
-def answer(rows, arrows, mode, u, f):
-    """One entry, by the report's procedure: each arrow against all opposite ones."""
-    pairs = list(zip(rows[::2], rows[1::2]))
-    inside = closure(1 + max([u, f, *rows, *arrows]), pairs)
-
-    def around(a, b):
-        return a == b or b in inside[a]
-
-    def level(a, b):
-        return a == b or (b not in inside[a] and a not in inside[b])
-
-    def overrides(p, n):
-        return not (n[0] in inside[p[0]] or n[1] in inside[p[1]] or (level(p[0], n[0]) and level(p[1], n[1])))
-
-    fours = list(enumerate(zip(arrows[::4], arrows[1::4], arrows[2::4], arrows[3::4])))
-    reach = [[(k, a) for k, a in fours if a[2] == mode and a[3] == sign and around(a[0], u) and around(a[1], f)] for sign in (0, 1)]
-    for sign, word in ((1, "granted"), (0, "denied")):
-        for k, a in reach[sign]:
-            if all(overrides(a, b) for _, b in reach[1 - sign]):
-                return word, k
-    if not reach[0] and not reach[1]:
-        return ("default",)
-    return "unclear", reach[1][0][0], reach[0][0][0]
-
-
 def atoms(boxes, rows, side):
-    """Of byte 0 or 1, and the outer box of no row."""
-    return [b for b in range(len(boxes)) if boxes[b] == side and b not in rows[::2]]
+    return model.atomic(boxes, pairs_of(rows), side)
 
 
 def first(faults):
@@ -97,14 +62,13 @@ def expected(boxes, rows, arrows, lent, mode, u, f, nb, nn):
     filled, loop, unclear = [], None, None
     users = files = []
     if not fault:
-        drawn = {*zip(rows[::2], rows[1::2])}
-        inside = closure(n, drawn)
-        filled = [2 if (a, b) in drawn else int(b in inside[a]) for a in range(n) for b in range(n)]
-        own = [b for b in range(n) if b in inside[b]]
-        loop = (10, own[0], 0, 0) if own else None
-        users, files = (atoms(boxes, rows, side) for side in (0, 1))
+        drawn = {*pairs_of(rows)}
+        picture = model.Picture(boxes, drawn, fours_of(arrows))
+        filled = [2 if (a, b) in drawn else int(b in picture.inside[a]) for a in range(n) for b in range(n)]
+        loop = (10, picture.looped[0], 0, 0) if picture.looped else None
+        users, files = picture.users, picture.files
         if not room and not loop:
-            unclear = first((12, m, a, b) if answer(rows, arrows, m, a, b)[0] == "unclear" else None for m in range(8) for a in users for b in files)
+            unclear = first((12, m, a, b) if picture.answer(m, a, b)[0] == "unclear" else None for m in range(8) for a in users for b in files)
     cells = [(a, b) for a in users for b in files]
     short = [(9, k, len(cells), 0) if have < len(cells) else None for k, have in ((1, nb), (2, nn))]
     atomic = None if u in users and f in files else (11, u, f, 0)
@@ -120,13 +84,13 @@ def expected(boxes, rows, arrows, lent, mode, u, f, nb, nn):
 
     def matrix():
         codes = {"granted": 1, "denied": 0, "default": 0, "unclear": 2}
-        entries = [answer(rows, arrows, mode, a, b) for a, b in cells]
+        entries = [picture.answer(mode, a, b) for a, b in cells]
         return [codes[e[0]] for e in entries], [e[1] if e[0] in ("granted", "denied") else 65535 for e in entries]
 
     return [
         line([room], [loop]),
         line([room], [loop, unclear]),
-        line([asked, room], [loop, atomic], words=lambda: answer(rows, arrows, mode, u, f)),
+        line([asked, room], [loop, atomic], words=lambda: picture.answer(mode, u, f)),
         line([asked, room, *short], [loop], both=matrix),
     ]
 
@@ -290,11 +254,12 @@ WORKED = [
 
 
 def worked(picture, mode, judged, answers):
-    """Holds the model above to what was worked by hand."""
+    """Holds the model to what was worked by hand."""
     boxes, rows, arrows = picture
-    users, files = (atoms(boxes, rows, side) for side in (0, 1))
+    said = model.Picture(boxes, pairs_of(rows), fours_of(arrows))
+    users, files = said.users, said.files
     letters = {"granted": "g", "denied": "d", "unclear": "u", "default": "-"}
-    entries = [answer(rows, arrows, mode, u, f) for u in users for f in files]
+    entries = [said.answer(mode, u, f) for u in users for f in files]
     assert " ".join(letters[e[0]] + ",".join(map(str, e[1:])) for e in entries) == answers, (picture, entries)
     case = *picture, len(boxes) ** 2, mode, users[0] if users else 0, files[-1] if files else 0, 40, 40
     assert expected(*case)[1][0] == (["refused", *judged] if judged else ["passed"]), case

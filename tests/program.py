@@ -6,7 +6,7 @@
 Its exit status is always 0. It writes a listing and nothing else, or no listing and one line on
 standard error; only where a write fails there can be the start of a listing and that line. A
 listing is whole exactly if its last line is `accepted`, `ambiguous ..` or `refused ..`. The
-listings expected come from the model in samples.py.
+listings expected come from samples.py.
 """
 
 import contextlib

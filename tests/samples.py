@@ -6,8 +6,8 @@
     samples.py --program PATH   runs the program on every sample and compares its listing
     samples.py --listing        prints the listing of the file on standard input
 
-The tables stand in samples/pictures.json. The listings come from a small model of document 01, with
-request P6 of document 02, in this file, written apart from the other models.
+The tables stand in samples/pictures.json. The listings come from the model in model.py, and from a
+reader and checks in this file, written apart from the other ones.
 """
 
 import json
@@ -15,13 +15,16 @@ import pathlib
 import subprocess
 import sys
 
+sys.dont_write_bytecode = True
+import model
+
 FOLDER = pathlib.Path(__file__).resolve().parent.parent / "samples"
 KINDS = ["boxes", "containments", "arrows"]
 CAPACITY = {"boxes": 500, "containments": 125, "arrows": 83}
 RECORD = {"boxes": 1, "containments": 4, "arrows": 6}
 LIMIT = {"boxes": 256, "containments": 1024, "arrows": 512}
-# Box bytes and the side they are on, 0 users and 1 files: 2 is a user group, 3 a folder (document 02, P6).
-SIDE = {0: 0, 1: 1, 2: 0, 3: 1}
+# How the listing begins an answer.
+WORDS = {"granted": "pos", "denied": "neg", "default": "neg -", "unclear": "ambig"}
 
 
 # ---- Making files ----
@@ -142,7 +145,7 @@ def check_tables(boxes, rows, arrows):
             if bad(row):
                 raise Refused(number, place)
 
-    side = {box: SIDE.get(byte) for box, byte in enumerate(boxes)}
+    side = {box: model.SIDE.get(byte) for box, byte in enumerate(boxes)}
     first(3, boxes, lambda byte: byte > 3)
     first(4, rows, lambda row: row[0] not in side or row[1] not in side)
     first(5, rows, lambda row: side[row[0]] != side[row[1]])
@@ -150,74 +153,10 @@ def check_tables(boxes, rows, arrows):
     first(7, arrows, lambda row: row[2] > 7 or row[3] > 1)
 
 
-def atomic(boxes, rows):
-    """The atomic users and the atomic files: byte 0 or 1, and the outer box of no row."""
-    outer = {row[0] for row in rows}
-    return tuple(
-        [box for box, byte in enumerate(boxes) if byte == side and box not in outer] for side in (0, 1)
-    )
-
-
-def all_inside(boxes, rows):
-    """For each box the set of boxes that it contains: grown until nothing is added."""
-    inside = [set() for _ in boxes]
-    for outer, inner in rows:
-        inside[outer].add(inner)
-    grows = True
-    while grows:
-        grows = False
-        for mine in inside:
-            more = set().union(mine, *(inside[b] for b in mine))
-            if len(more) > len(mine):
-                mine |= more
-                grows = True
-    return inside
-
-
-def around(inside, box, atom):
-    return box == atom or atom in inside[box]
-
-
-def around_user(inside, arrows, mode, user):
-    """The numbers of the mode's arrows whose tail is the user or contains it."""
-    return [
-        number
-        for number, (tail, _, arrow_mode, _) in enumerate(arrows)
-        if arrow_mode == mode and around(inside, tail, user)
-    ]
-
-
-def answer_among(inside, arrows, numbers, file):
-    """The answer that these arrows give at a file: its words in the listing, and whether it is
-    unclear."""
-
-    def level(a, b):
-        return a == b or (a not in inside[b] and b not in inside[a])
-
-    def overrides(p, n):
-        (p_tail, p_head, _, _), (n_tail, n_head, _, _) = arrows[p], arrows[n]
-        return not (
-            n_tail in inside[p_tail]
-            or n_head in inside[p_head]
-            or (level(p_tail, n_tail) and level(p_head, n_head))
-        )
-
-    reaching = {1: [], 0: []}
-    for number in numbers:
-        _, head, _, sign = arrows[number]
-        if around(inside, head, file):
-            reaching[sign].append(number)
-    if not reaching[1] and not reaching[0]:
-        return "neg -", False
-    for sign, word in [(1, "pos"), (0, "neg")]:
-        for number in reaching[sign]:
-            if all(overrides(number, other) for other in reaching[1 - sign]):
-                return f"{word} {number}", False
-    return f"ambig {reaching[1][0]} {reaching[0][0]}", True
-
-
-def answer(inside, arrows, mode, user, file):
-    return answer_among(inside, arrows, around_user(inside, arrows, mode, user), file)
+def words(answer):
+    """An answer of the model as in the listing."""
+    kind, *arrows = answer
+    return " ".join([WORDS[kind], *map(str, arrows)])
 
 
 def listing(data):
@@ -225,22 +164,20 @@ def listing(data):
         tables = read(data[:32769])
         boxes, rows, arrows = (tables[kind] for kind in KINDS)
         check_tables(boxes, rows, arrows)
-        inside = all_inside(boxes, rows)
-        for box, mine in enumerate(inside):
-            if box in mine:
-                raise Refused(10, box)
+        picture = model.Picture(boxes, rows, arrows)
+        if picture.looped:
+            raise Refused(10, picture.looped[0])
     except Refused as refused:
         return refused.line + "\n"
-    users, files = atomic(boxes, rows)
     lines = ["boxes {} containments {} arrows {}".format(*(len(tables[kind]) for kind in KINDS))]
     last = "accepted"
     for mode in sorted({row[2] for row in arrows}):
-        for user in users:
-            numbers = around_user(inside, arrows, mode, user)
-            for file in files:
-                words, unclear = answer_among(inside, arrows, numbers, file)
-                lines.append(f"{mode} {user} {file} {words}")
-                if unclear and last == "accepted":
+        for user in picture.users:
+            numbers = picture.around_user(mode, user)
+            for file in picture.files:
+                answer = picture.answer_among(numbers, file)
+                lines.append(f"{mode} {user} {file} {words(answer)}")
+                if answer[0] == "unclear" and last == "accepted":
                     last = f"ambiguous {mode} {user} {file}"
     return "\n".join(lines + [last]) + "\n"
 

@@ -1,9 +1,13 @@
 //! A plain second implementation behind the same C boundary, for builds without the library
-//! (`--cfg model`). It shares no code and no method with the model in `checker.rs`.
+//! (`--cfg model`). With the model in `checker.rs` it shares what overrides what, given which box is
+//! nested in which, and no other code or method.
 //!
 //! It can also be told to be wrong in one of many ways, so that the comparison can be shown to
 //! notice each of them.
 
+#[allow(dead_code)]
+#[path = "checker.rs"]
+mod checker;
 #[path = "standin_pack.rs"]
 mod packing;
 
@@ -696,6 +700,8 @@ impl<'a> World<'a> {
         }
     }
 
+    /// Whether a box is nested in another, for two boxes around one atom. What overrides what goes
+    /// by this alone.
     fn inside(&self, inner: usize, outer: usize) -> bool {
         let byte = self.holds[outer * self.t.n() + inner];
         contained(byte, Wrong::OrderByOnes, Wrong::OrderByTwos)
@@ -741,7 +747,8 @@ impl<'a> World<'a> {
             let same = self.t.tail(p) == self.t.tail(n) && self.t.head(p) == self.t.head(n);
             return tails <= 0 && heads <= 0 && !same;
         }
-        tails <= 0 && heads <= 0 && tails + heads < 0
+        let ends = |k: usize| [self.t.tail(k), self.t.head(k)];
+        checker::overrides(|a, b| self.inside(a, b), ends(p), ends(n))
     }
 
     /// Kind and arrows of the answer for a pair.

@@ -5,7 +5,7 @@
     draw.py --check   says whether the files there are those it would write
 
 Boxes, containments and arrows come from samples/pictures.json, the answers from the model in
-tests/samples.py. Only the places on the sheet stand here. They are checked against the tables: an
+tests/model.py. Only the places on the sheet stand here. They are checked against the tables: an
 outline encloses another exactly if its box contains the other and meets it only if they share a
 box, an arrow begins and ends on the outlines of its tail and head, no two arrows meet, and no label
 of a box or arrow lies on a line or another label.
@@ -21,6 +21,7 @@ sys.dont_write_bytecode = True
 FOLDER = pathlib.Path(__file__).resolve().parent
 ROOT = FOLDER.parent.parent
 sys.path.insert(0, str(ROOT / "tests"))
+import model
 import samples
 
 # ---- What documents 01 and 02 say ----
@@ -331,14 +332,13 @@ class Picture:
             samples.spelled_out(sample[kind]) for kind in samples.KINDS
         )
         samples.check_tables(self.boxes, self.rows, self.arrows)
-        self.inside = samples.all_inside(self.boxes, self.rows)
-        self.looped = [box for box, mine in enumerate(self.inside) if box in mine]
-        self.users, self.files = samples.atomic(self.boxes, self.rows)
+        self.model = model.Picture(self.boxes, self.rows, self.arrows)
+        self.inside, self.looped = self.model.inside, self.model.looped
         self.place = PLACES[self.name]
         self.curves = [bezier(curve) for curve in self.place["arrows"]]
 
     def side(self, box):
-        return samples.SIDE[self.boxes[box]]
+        return model.SIDE[self.boxes[box]]
 
     def empty(self, box):
         """It holds no box other than itself."""
@@ -356,9 +356,9 @@ class Picture:
 
     def answers(self):
         return {
-            (user, file): samples.answer(self.inside, self.arrows, 0, user, file)[0]
-            for user in self.users
-            for file in self.files
+            (user, file): samples.words(self.model.answer(0, user, file))
+            for user in self.model.users
+            for file in self.model.files
         }
 
     def judged(self):
@@ -370,10 +370,7 @@ class Picture:
         return next((pair for pair, words in self.answers().items() if words[0] == "a"), None)
 
     def reaching(self, arrow, pair):
-        tail, head = self.arrows[arrow][:2]
-        return all(
-            box == atom or atom in self.inside[box] for box, atom in zip((tail, head), pair)
-        )
+        return self.model.reaches(arrow, *pair)
 
     def reached(self, order):
         """The pairs that a list reaches, or None if it isn't honest."""
@@ -648,7 +645,7 @@ def answers_of(picture):
     shown = [
         "65,535" if words[0] == "a" or words[-1] == "-" else words.split()[1] for words in answers.values()
     ]
-    wide = len(picture.files)
+    wide = len(picture.model.files)
     if answers:
         lines.append(f"**Matrix:** bytes {rows_of(bytes_, wide)}; arrows {rows_of(shown, wide)}")
     else:
@@ -669,7 +666,7 @@ def page(pictures):
         "",
         "A to J of document 01, and one for request P6 of document 02; mode 0 throughout. Made by",
         "`python3 docs/pictures/draw.py` from the tables in `samples/pictures.json`; the answers come from",
-        "the model in `tests/samples.py` and are held against the documents.",
+        "the model in `tests/model.py` and are held against the documents.",
         "",
         "![Legend](legend.svg)",
         "",

@@ -47,8 +47,8 @@
 //!
 //! # Threads and stack
 //!
-//! Calls keep no state and may run at the same time. 16 KiB of stack suffice for an entry, the
-//! atomic boxes, for reading and for packing, 64 KiB for judge and matrix, 96 KiB for the list.
+//! Calls keep no state and may run at the same time. 16 KiB of stack suffice for the atomic boxes,
+//! for reading and for packing, 40 KiB for an entry, judge and matrix, 48 KiB for the list.
 //!
 //! # Building
 //!

@@ -1,162 +1,156 @@
--- The stages of the calls: a refusal by checks 1 to 7, one by the rest of checks 8 and 9, one by what comes after the scratch is
--- filled, and none. Assumes nothing.
-use mathlib.Core.Path.{_≡_, _∙_}
+-- The stages of the calls: the early checks, the stage that all calls share, and what is known of a picture that passed it.
+-- Assumes nothing.
+use mathlib.Core.Path.{_≡_, sym, _∙_}
 use mathlib.Core.Bool.{not, _&&_}
 use mathlib.Core.List.{List}
-use mathlib.Core.Option.{Option, none, some}
-use Prim.Native.Nat.{ℕ, _<_, _≤_}
+use mathlib.Core.Option.{Option, none}
+use Prim.Native.Nat.{ℕ, _*_, _<_, _≤_}
 use lib.ListN.{length}
 use Rattle.base.specs.Search.{orElse}
 use Rattle.base.specs.Buffers.{written}
-use Rattle.tables.specs.Rows.{user, file}
+use Rattle.base.proofs.Tests.{and-T}
+use Rattle.base.proofs.Options.{past, orElse-assoc}
+use Rattle.base.proofs.SearchLaws.{given-none}
+use Rattle.tables.specs.Rows.{Picture, user, file}
 use Rattle.tables.specs.Atoms.{atom, pairCount}
 use Rattle.tables.specs.Faults.{tableFault, modeFault, roomFault}
-use Rattle.tables.specs.Refusals.{notAtomic, verdictOf, unlessRefused, either}
+use Rattle.tables.specs.Refusals.{notAtomic, verdictOf, either}
+use Rattle.tables.specs.Steps.{SoundRows}
 use Rattle.tables.specs.declared.Refusal.{Refusal}
 use Rattle.tables.specs.declared.Verdict.{Verdict}
 use Rattle.tables.specs.declared.Verdict.the-variants.{Passed, Refused as Stopped}
-use Rattle.base.proofs.Tests.{and-T}
-use Rattle.base.proofs.SearchLaws.{given-none}
-use Rattle.tables.proofs.TableLaws.{both-none, not-not, mode-passed, room-passed}
+use Rattle.tables.proofs.TableLaws.{both-none, not-not, room-passed, sound-rows, sound-arrows}
 use Rattle.tables.proofs.AtomPlaces.{atom-there}
 use Rattle.tables.proofs.Verdicts.{passed, refused, either-verdict}
-use Rattle.base.proofs.Options.{past, stop, orElse-assoc}
 use Rattle.containment.specs.Contains.{loopFault}
-use Rattle.containment.specs.Scratch.{filled, scratchFault, scratchAfter}
-use Rattle.answers.specs.Meaning.{answer}
-use Rattle.answers.specs.Pairs.{matrixBytes, matrixNumbers}
+use Rattle.containment.specs.Scratch.{scratchFault, earlyFault}
+use Rattle.containment.specs.Steps.{Closure}
+use Rattle.containment.proofs.ScratchLaws.{scratch-room}
+use Rattle.meaning.specs.Pairs.{matrixBytes, matrixNumbers}
+use Rattle.meaning.specs.declared.Entry.{Entry}
+use Rattle.user_rows.specs.Steps.{Drawn}
 use Rattle.answers.specs.Calls.{askedFault, replyOf, entryEarly, entryFault, matrixEarly, matrixFault, bytesAfter, numbersAfter}
-use Rattle.answers.specs.declared.Reply.{Reply}
 use Rattle.answers.specs.declared.Reply.the-variants.{Answered, Refused}
+
+-- ---- checks in a row
+
+pub chained : (a b c d : Option Refusal)
+    → either (either (either (verdictOf a) (verdictOf b)) (verdictOf c)) (verdictOf d) ≡ verdictOf (orElse a (orElse b (orElse c d)))
+chained a b c d = simp (either-verdict, orElse-assoc)
 
 -- where check 11 passes, both boxes are there
 pub asked-there : (boxes rows : List ℕ) (u f : ℕ) → askedFault boxes rows u f ≡ none → (u < length boxes) × (f < length boxes)
 unfolding askedFault
 asked-there boxes rows u f e =
-    let both = and-T (atom boxes rows user u) (atom boxes rows file f)
-    (not-not (atom boxes rows user u && atom boxes rows file f) (given-none (not (atom boxes rows user u && atom boxes rows file f)) (notAtomic u f) e)) in
+    let asked = atom boxes rows user u && atom boxes rows file f in
+    let both = and-T (atom boxes rows user u) (atom boxes rows file f) (not-not asked (given-none (not asked) (notAtomic u f) e)) in
     (atom-there boxes rows user u (both .0), atom-there boxes rows file f (both .1))
 
--- four checks in a row
-pub chained : (a b c d : Option Refusal) → either (either (either (verdictOf a) (verdictOf b)) (verdictOf c)) (verdictOf d) ≡ verdictOf (orElse a (orElse b (orElse c d)))
-chained a b c d = simp (either-verdict, orElse-assoc)
+module _ (pic : Picture) (s : List ℕ) where
+  -- ---- the early checks
 
-module _ (boxes rows arrows s : List ℕ) (m : ℕ) where
-  -- checks 1 to 7, by the verdict on them
-  abbrev Tables : Verdict → Type 0
-  Tables v = verdictOf (tableFault boxes rows arrows) ≡ v
+  -- checks that the tables and the scratch pass
+  abbrev pub Early : Option Refusal → Type 0
+  Early e = e ≡ none → (tableFault pic ≡ none) × (scratchFault (length (pic .boxes)) s ≡ none)
 
-  -- ---- one entry
-  module _ (u f : ℕ) where
-    -- 8 and 9; 10 and 11
-    abbrev pub early : Option Refusal
-    early = orElse (modeFault m) (scratchFault (length boxes) s)
+  pub picture-early : Early (earlyFault pic s)
+  unfolding earlyFault
+  picture-early e = both-none (tableFault pic) (scratchFault (length (pic .boxes)) s) e
 
-    abbrev pub late : Option Refusal
-    late = orElse (loopFault boxes rows) (askedFault boxes rows u f)
+  pub entry-early : (m : ℕ) → Early (entryEarly pic s m)
+  unfolding entryEarly
+  entry-early m e =
+      let a = both-none (tableFault pic) (orElse (modeFault m) (scratchFault (length (pic .boxes)) s)) e in
+      let b = both-none (modeFault m) (scratchFault (length (pic .boxes)) s) (a .1) in
+      (a .0, b .1)
 
-    -- what the call answers, and the scratch at the end
-    abbrev pub EntryEnds : Reply → List ℕ → Type 0
-    EntryEnds r t =
-        (r ≡ replyOf (entryFault boxes rows arrows s m u f) (answer rows arrows m u f))
-        × (t ≡ scratchAfter (entryEarly boxes rows arrows s m) boxes rows s)
+  -- those of the matrix, and the two buffers suffice
+  matrix-parts : (m : ℕ) (bytes numbers : List ℕ) → matrixEarly pic s m bytes numbers ≡ none
+      → (tableFault pic ≡ none) × (scratchFault (length (pic .boxes)) s ≡ none)
+      × (pairCount (pic .boxes) (pic .rows) ≤ length bytes) × (pairCount (pic .boxes) (pic .rows) ≤ length numbers)
+  unfolding matrixEarly
+  matrix-parts m bytes numbers e =
+      let pairs = pairCount (pic .boxes) (pic .rows) in
+      let last = orElse (roomFault 1 (length bytes) pairs) (roomFault 2 (length numbers) pairs) in
+      let a = both-none (tableFault pic) (orElse (modeFault m) (orElse (scratchFault (length (pic .boxes)) s) last)) e in
+      let b = both-none (modeFault m) (orElse (scratchFault (length (pic .boxes)) s) last) (a .1) in
+      let c = both-none (scratchFault (length (pic .boxes)) s) last (b .1) in
+      let d = both-none (roomFault 1 (length bytes) pairs) (roomFault 2 (length numbers) pairs) (c .1) in
+      (a .0, c .0, room-passed 1 (length bytes) pairs (d .0), room-passed 2 (length numbers) pairs (d .1))
 
-    pub entry-tables : (r : Refusal) → Tables (Stopped r) → EntryEnds (Refused r) s
-    unfolding entryEarly entryFault replyOf
-    entry-tables r t =
-        let e = stop _ early (refused (tableFault boxes rows arrows) r t) in
-        (rw (stop _ late e), rw e)
+  pub matrix-early : (m : ℕ) (bytes numbers : List ℕ) → Early (matrixEarly pic s m bytes numbers)
+  matrix-early m bytes numbers e = let p = matrix-parts m bytes numbers e in (p .0, p .1)
 
-    pub entry-early : (r : Refusal) → Tables Passed → verdictOf early ≡ Stopped r → EntryEnds (Refused r) s
-    unfolding entryEarly entryFault replyOf
-    entry-early r t v =
-        let e = past _ early (passed (tableFault boxes rows arrows) t) ∙ refused early r v in
-        (rw (stop _ late e), rw e)
+  -- ---- the stage that all calls share: v is the verdict on the early checks, r that on check 10 too
 
-    module _ (t : Tables Passed) (v : verdictOf early ≡ Passed) where
-      early-none : entryEarly boxes rows arrows s m ≡ none
-      unfolding entryEarly
-      early-none = past _ early (passed (tableFault boxes rows arrows) t) ∙ passed early v
+  module _ (e : Option Refusal) (early : Early e) where
+    pub ready-asks : (v : Verdict) → v ≡ verdictOf e → v ≡ Passed
+        → SoundRows (pic .boxes) (pic .rows) × (length (pic .boxes) * length (pic .boxes) ≤ length s)
+    ready-asks v is p =
+        let f = early (passed e (sym is ∙ p)) in
+        (sound-rows (pic .boxes) (pic .rows) (pic .arrows) (f .0), scratch-room (length (pic .boxes)) s (f .1))
 
-      scratch-is : filled (length boxes) rows s ≡ scratchAfter (entryEarly boxes rows arrows s m) boxes rows s
-      scratch-is = rw early-none
+    pub ready-drawn : (r : Verdict) (closure : List ℕ) → r ≡ verdictOf (orElse e (loopFault (pic .boxes) (pic .rows)))
+        → (r ≡ Passed → Closure (length (pic .boxes)) (pic .rows) closure) → r ≡ Passed → Drawn pic closure
+    ready-drawn r closure is closed p =
+        let f = both-none e (loopFault (pic .boxes) (pic .rows)) (passed (orElse e (loopFault (pic .boxes) (pic .rows))) (sym is ∙ p)) in
+        let t = early (f .0) .0 in
+        record {
+          rows-sound = sound-rows (pic .boxes) (pic .rows) (pic .arrows) t;
+          arrows-sound = sound-arrows (pic .boxes) (pic .rows) (pic .arrows) t;
+          no-loops = f .1;
+          closed = closed p;
+        }
 
-      fault-is : entryFault boxes rows arrows s m u f ≡ late
-      unfolding entryFault
-      fault-is = past _ late early-none
+  -- ---- one entry, after that stage
 
-      pub entry-late : (r : Refusal) → verdictOf late ≡ Stopped r → EntryEnds (Refused r) (filled (length boxes) rows s)
+  module _ (m u f : ℕ) (x : Entry) where
+    abbrev pub entryReady : Option Refusal
+    entryReady = orElse (entryEarly pic s m) (loopFault (pic .boxes) (pic .rows))
+
+    abbrev pub asked : Option Refusal
+    asked = askedFault (pic .boxes) (pic .rows) u f
+
+    whole : entryFault pic s m u f ≡ orElse entryReady asked
+    unfolding entryFault
+    whole = sym (orElse-assoc (entryEarly pic s m) (loopFault (pic .boxes) (pic .rows)) asked)
+
+    pub entry-stopped : (r : Refusal) → verdictOf entryReady ≡ Stopped r → Refused r ≡ replyOf (entryFault pic s m u f) x
+    unfolding replyOf orElse
+    entry-stopped r e = rw (whole, refused entryReady r e)
+
+    module _ (clear : verdictOf entryReady ≡ Passed) where
+      pub entry-not-asked : (r : Refusal) → verdictOf asked ≡ Stopped r → Refused r ≡ replyOf (entryFault pic s m u f) x
       unfolding replyOf
-      entry-late r w = (rw (fault-is, refused late r w), scratch-is)
+      entry-not-asked r e = rw (whole, past entryReady asked (passed entryReady clear), refused asked r e)
 
-      pub entry-answered : verdictOf late ≡ Passed → EntryEnds (Answered (answer rows arrows m u f)) (filled (length boxes) rows s)
+      pub entry-answered : verdictOf asked ≡ Passed → Answered x ≡ replyOf (entryFault pic s m u f) x
       unfolding replyOf
-      entry-answered w = (rw (fault-is, passed late w), scratch-is)
+      entry-answered e = rw (whole, past entryReady asked (passed entryReady clear), passed asked e)
 
-  -- ---- the matrix
-  module _ (bytes numbers : List ℕ) where
-    -- 8, and 9 for the three buffers
-    abbrev pub rest : Option Refusal
-    rest =
-        orElse (modeFault m)
-        (orElse (scratchFault (length boxes) s)
-        (orElse (roomFault 1 (length bytes) (pairCount boxes rows)) (roomFault 2 (length numbers) (pairCount boxes rows))))
+  -- ---- the matrix, after that stage
 
-    -- where they pass, the buffers suffice
-    pub rest-rooms : rest ≡ none
-        → (scratchFault (length boxes) s ≡ none) × (pairCount boxes rows ≤ length bytes) × (pairCount boxes rows ≤ length numbers) × (m < 8)
-    rest-rooms e =
-        let first = roomFault 1 (length bytes) (pairCount boxes rows) in
-        let last = roomFault 2 (length numbers) (pairCount boxes rows) in
-        let x = both-none (modeFault m) (orElse (scratchFault (length boxes) s) (orElse first last)) e in
-        let a = both-none (scratchFault (length boxes) s) (orElse first last) (x .1) in
-        let b = both-none first last (a .1) in (
-          a .0,
-          room-passed 1 (length bytes) (pairCount boxes rows) (b .0),
-          room-passed 2 (length numbers) (pairCount boxes rows) (b .1),
-          mode-passed m (x .0),
-        )
+  module _ (m : ℕ) (bytes numbers : List ℕ) where
+    abbrev pub matrixReady : Option Refusal
+    matrixReady = orElse (matrixEarly pic s m bytes numbers) (loopFault (pic .boxes) (pic .rows))
 
-    -- what the call answers, and the scratch and the two buffers at the end
-    abbrev pub MatrixEnds : Verdict → List ℕ → List ℕ → List ℕ → Type 0
-    MatrixEnds v t b n =
-        (v ≡ verdictOf (matrixFault boxes rows arrows s m bytes numbers))
-        × ((t ≡ scratchAfter (matrixEarly boxes rows arrows s m bytes numbers) boxes rows s)
-        × ((b ≡ bytesAfter boxes rows arrows s m bytes numbers)
-        × (n ≡ numbersAfter boxes rows arrows s m bytes numbers)))
+    -- the verdict, and the two buffers at the end
+    abbrev pub MatrixEnds : Verdict → List ℕ → List ℕ → Type 0
+    MatrixEnds v b n =
+        (v ≡ verdictOf (matrixFault pic s m bytes numbers))
+        × (b ≡ bytesAfter pic s m bytes numbers) × (n ≡ numbersAfter pic s m bytes numbers)
 
-    -- the fault decides what the buffers hold
-    ends : (o e : Option Refusal) → matrixFault boxes rows arrows s m bytes numbers ≡ o → matrixEarly boxes rows arrows s m bytes numbers ≡ e
-        → MatrixEnds (verdictOf o) (scratchAfter e boxes rows s)
-        (unlessRefused o (written (matrixBytes boxes rows arrows m) bytes) bytes)
-        (unlessRefused o (written (matrixNumbers boxes rows arrows m) numbers) numbers)
-    unfolding bytesAfter numbersAfter
-    ends o e p q = (rw p, (rw q, (rw p, rw p)))
+    pub matrix-stopped : (r : Refusal) → verdictOf matrixReady ≡ Stopped r → MatrixEnds (Stopped r) bytes numbers
+    unfolding matrixFault bytesAfter numbersAfter
+    matrix-stopped r e = let f = refused matrixReady r e in (rw f, rw f, rw f)
 
-    pub matrix-tables : (r : Refusal) → Tables (Stopped r) → MatrixEnds (Stopped r) s bytes numbers
-    unfolding matrixEarly matrixFault
-    matrix-tables r t =
-        let e = stop _ rest (refused (tableFault boxes rows arrows) r t) in
-        ends (some r) (some r) (stop _ (loopFault boxes rows) e) e
+    module _ (clear : verdictOf matrixReady ≡ Passed) where
+      pub matrix-filled : MatrixEnds Passed (written (matrixBytes pic m) bytes) (written (matrixNumbers pic m) numbers)
+      unfolding matrixFault bytesAfter numbersAfter
+      matrix-filled = let f = passed matrixReady clear in (rw f, rw f, rw f)
 
-    pub matrix-early : (r : Refusal) → Tables Passed → verdictOf rest ≡ Stopped r → MatrixEnds (Stopped r) s bytes numbers
-    unfolding matrixEarly matrixFault
-    matrix-early r t v =
-        let e = past _ rest (passed (tableFault boxes rows arrows) t) ∙ refused rest r v in
-        ends (some r) (some r) (stop _ (loopFault boxes rows) e) e
-
-    module _ (t : Tables Passed) (v : verdictOf rest ≡ Passed) where
-      matrix-none : matrixEarly boxes rows arrows s m bytes numbers ≡ none
-      unfolding matrixEarly
-      matrix-none = past _ rest (passed (tableFault boxes rows arrows) t) ∙ passed rest v
-
-      loops-is : matrixFault boxes rows arrows s m bytes numbers ≡ loopFault boxes rows
-      unfolding matrixFault
-      loops-is = past _ (loopFault boxes rows) matrix-none
-
-      pub matrix-loops : (r : Refusal) → verdictOf (loopFault boxes rows) ≡ Stopped r → MatrixEnds (Stopped r) (filled (length boxes) rows s) bytes numbers
-      matrix-loops r w = ends (some r) none (loops-is ∙ refused (loopFault boxes rows) r w) matrix-none
-
-      pub matrix-filled : verdictOf (loopFault boxes rows) ≡ Passed
-          → MatrixEnds Passed (filled (length boxes) rows s) (written (matrixBytes boxes rows arrows m) bytes) (written (matrixNumbers boxes rows arrows m) numbers)
-      matrix-filled w = ends none none (loops-is ∙ passed (loopFault boxes rows) w) matrix-none
+      pub matrix-rooms : (pairCount (pic .boxes) (pic .rows) ≤ length bytes) × (pairCount (pic .boxes) (pic .rows) ≤ length numbers)
+      matrix-rooms =
+          let e = both-none (matrixEarly pic s m bytes numbers) (loopFault (pic .boxes) (pic .rows)) (passed matrixReady clear) .0 in
+          let p = matrix-parts m bytes numbers e in
+          (p .2, p .3)

@@ -1,6 +1,2 @@
-pub mod Meaning
-pub mod Among
-pub mod Table
-pub mod Pairs
 pub mod Calls
-pub mod Cases
+pub mod Steps

@@ -6,9 +6,10 @@ use mathlib.Core.Logic.{⊎-elim}
 use Prim.Native.Nat.{ℕ, zero, suc, _+_, _-_, _<_, _≤_}
 use native.Mathlib.Numerals.{add-one}
 use native.Mathlib.Omega.{arith}
+use native.Mathlib.Decide.{decLt}
 use native.Mathlib.Nat.{eq-or-lt-of-le, le-of-suc-le-suc}
 use lib.ListN.{length, getD, set, drop, replicate, length-append, length-drop, length-replicate, getD-replicate, replicate-append-replicate, List·getD-append}
-use lib.Seq.{drop-cons, drop-drop, drop-append-add, take-append-seam, set-append-seam, sets, sets-eq, getD-append-add, getD-append-seam, getD-drop}
+use lib.Seq.{drop-cons, drop-drop, drop-append-add, take-append-seam, set-append-seam, sets, sets-eq, getD-append-add, getD-append-seam, getD-drop, ext-getD}
 use Rattle.base.specs.Search.{select}
 use Rattle.base.specs.Buffers.{build, written, zeros}
 
@@ -52,6 +53,26 @@ written-rest new old p h =
     ap (λ (k : ℕ). getD (new ++ drop (length new) old) k 0) e
     ∙ getD-append-add new (drop (length new) old) (p - length new) 0
     ∙ rw (getD-drop, ← e)
+
+-- what is written over at least as many places
+pub written-over : (a b old : List ℕ) → length b ≤ length a → length a ≤ length old → written a (written b old) ≡ written a old
+written-over a b old h l =
+    let lb = written-length b old (omega arith) in
+    let la = written-length a old l in
+    let lab = written-length a (written b old) (omega arith) in
+    ext-getD 0 (written a (written b old)) (written a old) (lab ∙ lb ∙ sym la) (λ p k. go p (decLt p (length a)))
+  where
+    go : (p : ℕ) → Dec (p < length a) → getD (written a (written b old)) p 0 ≡ getD (written a old) p 0
+    go p (yes k) = written-at a (written b old) p k ∙ sym (written-at a old p k)
+    go p (no k) =
+        written-rest a (written b old) p (omega arith) ∙ written-rest b old p (omega arith) ∙ sym (written-rest a old p (omega arith))
+
+-- place n of a buffer that a loop fills with one value
+pub written-same : (v n : ℕ) (old : List ℕ) → n < length old → set (written (replicate n v) old) n v ≡ written (replicate (n + 1) v) old
+written-same v n old h =
+    ap (λ (k : ℕ). set (written (replicate n v) old) k v) (sym (length-replicate {A = ℕ} n v))
+    ∙ written-more (replicate n v) old v (rw (length-replicate {A = ℕ} n v) h)
+    ∙ ap (λ (l : List ℕ). written l old) (replicate-append-replicate n 1 v)
 
 -- ---- `build`
 
@@ -150,7 +171,4 @@ zeros-at n k h = getD-replicate n k 0 0 h
 -- place n of a buffer that a loop clears
 pub written-zeros : (n : ℕ) (old : List ℕ) → n < length old → set (written (zeros n) old) n 0 ≡ written (zeros (n + 1)) old
 unfolding zeros
-written-zeros n old h =
-    ap (λ (k : ℕ). set (written (zeros n) old) k 0) (sym (zeros-length n))
-    ∙ written-more (zeros n) old 0 (rw zeros-length h)
-    ∙ ap (λ (l : List ℕ). written l old) (replicate-append-replicate n 1 0)
+written-zeros n old h = written-same 0 n old h

@@ -2,6 +2,7 @@
 pub mod Tests
 pub mod Options
 pub mod SearchLaws
+pub mod AnyLaws
 pub mod SelectLaws
 pub mod FoldLaws
 pub mod Bits

@@ -96,8 +96,14 @@ module _ (p : ℕ → Bool) where
       let on : ¬ (i < j) = λ k. let r = select-rising n i j k hj in absurd (omega arith) in
       omega arith
 
--- a test that holds at fewer numbers selects fewer
 module _ (p q : ℕ → Bool) where
+  -- tests that agree select the same numbers
+  pub select-alike : (n : ℕ) → ((k : ℕ) → k < n → p k ≡ q k) → select p n ≡ select q n
+  unfolding select
+  select-alike zero h = refl
+  select-alike (suc n) h = rw (h n (omega arith), select-alike n (λ k l. h k (omega arith)))
+
+  -- a test that holds at fewer numbers selects fewer
   pub select-within : (n : ℕ) → ((j : ℕ) → j < n → T (p j) → T (q j)) → length (select p n) ≤ length (select q n)
   unfolding select
   select-within zero h = omega arith

@@ -1,8 +1,12 @@
 -- Searches over the numbers below n, from 0 up. Assumes nothing.
-use mathlib.Core.Bool.{Bool, true, false, _&&_, cond}
+use mathlib.Core.Bool.{Bool, true, false, not, _&&_, _||_, cond}
 use mathlib.Core.List.{List, [], _∷_, _++_}
 use mathlib.Core.Option.{Option, none, some}
 use Prim.Native.Nat.{ℕ, zero, suc}
+
+-- where the first holds, the second does
+abbrev pub implies : Bool → Bool → Bool
+implies a b = not a || b
 
 -- the first of two that is there
 unfoldable pub orElse : {A : Type 0} → Option A → Option A → Option A
@@ -27,6 +31,11 @@ lowest p n = first (λ k. given (p k) k) n
 unfoldable pub every : (ℕ → Bool) → ℕ → Bool
 every p zero = true
 every p (suc n) = every p n && p n
+
+-- the test holds at some number
+unfoldable pub anyBelow : (ℕ → Bool) → ℕ → Bool
+anyBelow p zero = false
+anyBelow p (suc n) = anyBelow p n || p n
 
 -- the numbers at which the test holds, rising
 unfoldable pub select : (ℕ → Bool) → ℕ → List ℕ

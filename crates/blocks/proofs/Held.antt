@@ -24,9 +24,9 @@ use denote.Struct.Declared.{Declared}
 use denote.Struct.Laws as LL
 use denote.Struct.Rest.{all-own, own-open, own-put}
 use denote.Struct.Values.{Values}
-use Rattle.blocks.specs.declared.BlockReader.{BlockReader}
-use Rattle.blocks.proofs.BlockReader as T
-use Rattle.blocks.proofs.BlockReader.Laws as T′
+use Rattle.blocks.specs.declared.reader.BlockReader.{BlockReader}
+use Rattle.blocks.proofs.reader.BlockReader as T
+use Rattle.blocks.proofs.reader.BlockReader.Laws as T′
 
 -- the type and its laws, over the lifetimes of a signature
 abbrev pub Row : Lfts 1 → RattleType

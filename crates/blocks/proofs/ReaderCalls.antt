@@ -24,12 +24,12 @@ use denote.Triple.Statement.{Contract}
 use denote.Triple.Spec.{tripleOf}
 use denote.Triple.Clauses.{ensured, lasts}
 use Rattle.blocks.specs.Reader.{seenAt, nextBlock}
-use Rattle.blocks.specs.declared.BlockReader.{BlockReader}
+use Rattle.blocks.specs.declared.reader.BlockReader.{BlockReader}
 use Rattle.blocks.specs.declared.Seen.{Seen}
 use Rattle.blocks.proofs.Held.{Row}
-use Rattle.blocks.proofs.BlockReader.at as made-at
-use Rattle.blocks.proofs.BlockReader.next as next
-use Rattle.blocks.proofs.BlockReader.seen as seen
+use Rattle.blocks.proofs.reader.BlockReader.at as made-at
+use Rattle.blocks.proofs.reader.BlockReader.next as next
+use Rattle.blocks.proofs.reader.BlockReader.seen as seen
 
 -- the contracts
 module _ {M : Type 1} (𝓤 : URA M) (H : Heap 𝓤) (A : Atoms 𝓤) (mem : Memory → SProp 𝓤) (run : Routine → Fun 𝓤) where

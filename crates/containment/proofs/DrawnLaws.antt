@@ -1,4 +1,4 @@
--- The byte of two boxes: what it says in rows and chains, and how the two passes over the rows make it. Assumes nothing.
+-- The byte of two boxes: what it says in rows and chains, and how a pass over the rows makes it. Assumes nothing.
 use mathlib.Core.Path.{_≡_, refl, sym, subst}
 use mathlib.Core.Logic.{_↔_}
 use mathlib.Core.Bool.{Bool, true, false, not, cond}
@@ -62,15 +62,10 @@ module _ (rows : List ℕ) (a b : ℕ) where
       go true h = sym (T-true (contains rows a b) (h tt))
       go false h = bit-test (contains rows a b)
 
-  -- the first pass: 1 at the rows and 0 elsewhere
-  pub first-pass : over rows 1 (λ a b. 0) a b ≡ bit (direct rows a b)
-  unfolding over
-  first-pass = sym (bit-is (direct rows a b))
-
-  -- the second: 2 at the rows, once the bytes say what contains what
-  pub second-pass : over rows 2 (λ a b. bit (contains rows a b)) a b ≡ drawn rows a b
+  -- 2 at the rows, once the bytes say what contains what
+  pub rows-drawn : over rows 2 (λ a b. bit (contains rows a b)) a b ≡ drawn rows a b
   unfolding over drawn
-  second-pass = refl
+  rows-drawn = refl
 
 -- "A repeated pair changes nothing": tables with the same rows fill the scratch alike
 module _ (rows new : List ℕ) (same : (a b : ℕ) → Row rows a b ↔ Row new a b) where

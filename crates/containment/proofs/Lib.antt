@@ -2,6 +2,11 @@
 pub mod ContainsLaws
 pub mod DrawnLaws
 pub mod ScratchLaws
-mod Rounds
-mod StepLaws
 pub mod PictureLaws
+pub mod ClosureLaws
+mod Rounds
+mod ClosingLaws
+mod SelvesLaws
+mod OnesLaws
+mod SpreadLaws
+mod MarkLaws

@@ -1,43 +1,62 @@
 -- What holds of a picture that passes checks 1 to 7, 9 for the scratch, and 10. Assumes nothing.
-use mathlib.Core.Path.{_≡_}
+use mathlib.Core.Path.{_≡_, refl}
 use mathlib.Core.List.{List}
 use mathlib.Core.Option.{Option, none}
 use Rattle.tables.specs.declared.Refusal.{Refusal}
-use Prim.Native.Nat.{ℕ}
+use Prim.Native.Nat.{ℕ, _*_, _≤_}
 use lib.ListN.{length}
+use Rattle.base.specs.Search.{orElse}
+use Rattle.tables.specs.Rows.{picture}
 use Rattle.tables.specs.Faults.{tableFault}
 use Rattle.tables.specs.Steps.{SoundRows, SoundArrows}
 use Rattle.tables.proofs.TableLaws.{both-none, sound-rows, sound-arrows}
 use Rattle.containment.specs.Contains.{loopFault}
 use Rattle.containment.specs.Scratch.{filled, scratchFault, scratchAfter, earlyFault, pictureFault}
-use Rattle.containment.specs.Steps.{Says}
-use Rattle.containment.proofs.ScratchLaws.{filled-says, scratch-room}
+use Rattle.containment.proofs.ScratchLaws.{scratch-room}
 
 pub record Prepared (boxes rows arrows s : List ℕ) : Type 0 where
   pub rows-sound : SoundRows boxes rows
   pub arrows-sound : SoundArrows boxes arrows
-  pub says : Says (length boxes) rows (filled (length boxes) rows s)
+  pub room : length boxes * length boxes ≤ length s
 
-pub prepared : (boxes rows arrows s : List ℕ) → tableFault boxes rows arrows ≡ none → scratchFault (length boxes) s ≡ none → Prepared boxes rows arrows s
+pub prepared : (boxes rows arrows s : List ℕ) → tableFault (picture boxes rows arrows) ≡ none → scratchFault (length boxes) s ≡ none → Prepared boxes rows arrows s
 prepared boxes rows arrows s t r = record {
   rows-sound = sound-rows boxes rows arrows t;
   arrows-sound = sound-arrows boxes rows arrows t;
-  says = filled-says (length boxes) rows s (scratch-room (length boxes) s r);
+  room = scratch-room (length boxes) s r;
 }
 
 -- the scratch is filled where checks 1 to 9 found nothing
 pub scratch-filled : (boxes rows s : List ℕ) {fault : Option Refusal} → fault ≡ none → scratchAfter fault boxes rows s ≡ filled (length boxes) rows s
 scratch-filled boxes rows s e = rw e
 
-pub picture-prepared : (boxes rows arrows s : List ℕ) → pictureFault boxes rows arrows s ≡ none → Prepared boxes rows arrows s × (earlyFault boxes rows arrows s ≡ none)
+pub picture-prepared : (boxes rows arrows s : List ℕ) → pictureFault (picture boxes rows arrows) s ≡ none → Prepared boxes rows arrows s × (earlyFault (picture boxes rows arrows) s ≡ none)
 unfolding pictureFault earlyFault
 picture-prepared boxes rows arrows s e =
-    let early = both-none (earlyFault boxes rows arrows s) (loopFault boxes rows) e .0 in
-    let two = both-none (tableFault boxes rows arrows) (scratchFault (length boxes) s) early in
+    let early = both-none (earlyFault (picture boxes rows arrows) s) (loopFault boxes rows) e .0 in
+    let two = both-none (tableFault (picture boxes rows arrows)) (scratchFault (length boxes) s) early in
     (prepared boxes rows arrows s (two .0) (two .1), early)
+
+-- the checks before the closure found nothing
+pub early-prepared : (boxes rows arrows s : List ℕ) → earlyFault (picture boxes rows arrows) s ≡ none → Prepared boxes rows arrows s
+unfolding earlyFault
+early-prepared boxes rows arrows s e =
+    let two = both-none (tableFault (picture boxes rows arrows)) (scratchFault (length boxes) s) e in
+    prepared boxes rows arrows s (two .0) (two .1)
+
+-- the checks before the closure, then the loops, are all checks
+pub picture-stages : (boxes rows arrows s : List ℕ)
+    → orElse (earlyFault (picture boxes rows arrows) s) (loopFault boxes rows) ≡ pictureFault (picture boxes rows arrows) s
+unfolding pictureFault
+picture-stages boxes rows arrows s = refl
+
+-- all checks found nothing
+pub picture-clear : (boxes rows arrows s : List ℕ) → pictureFault (picture boxes rows arrows) s ≡ none → loopFault boxes rows ≡ none
+unfolding pictureFault
+picture-clear boxes rows arrows s e = both-none (earlyFault (picture boxes rows arrows) s) (loopFault boxes rows) e .1
 
 -- of the scratch, the checks read its length only
 pub picture-room : (boxes rows arrows s t : List ℕ) → length s ≡ length t
-    → pictureFault boxes rows arrows s ≡ pictureFault boxes rows arrows t
+    → pictureFault (picture boxes rows arrows) s ≡ pictureFault (picture boxes rows arrows) t
 unfolding pictureFault earlyFault scratchFault
 picture-room boxes rows arrows s t e = rw e

@@ -1,27 +1,26 @@
--- What the filled scratch says. Assumes nothing.
+-- What the filled scratch says, and when it is filled. Assumes nothing.
 use mathlib.Core.Path.{_≡_, sym, subst, _∙_}
 use mathlib.Core.List.{List}
-use mathlib.Core.Option.{none}
+use mathlib.Core.Option.{Option, none}
 use Prim.Native.Nat.{ℕ, zero, suc, _+_, _*_, _/_, _%_, _<_, _≤_}
 use native.Mathlib.Nat.{not-suc-le-zero, mod-lt, div-lt-iff-lt-mul}
 use native.Mathlib.Decide.{decLt}
 use native.Mathlib.Omega.{arith}
 use lib.ListN.{length, getD}
 use lib.Seq.{ext-getD}
-use Rattle.tables.specs.Faults.{tableFault}
+use Rattle.base.specs.Search.{orElse}
+use Rattle.base.specs.Buffers.{build}
+use Rattle.base.proofs.BufferLaws.{written-length, written-at, written-rest, build-length, build-at}
+use Rattle.base.proofs.Index.{in-table, at-div, at-mod, place}
 use Rattle.tables.specs.Refusals.{verdictOf}
 use Rattle.tables.specs.declared.Refusal.{Refusal}
 use Rattle.tables.specs.declared.Verdict.{Verdict}
-use Rattle.tables.specs.declared.Verdict.the-variants.{Refused}
-use Rattle.base.specs.Buffers.{build}
-use Rattle.containment.specs.Contains.{loopFault}
-use Rattle.containment.specs.Scratch.{Drawn, drawn, filled, scratchFault, scratchAfter, earlyFault, pictureFault}
-use Rattle.containment.specs.Steps.{Says, Bytes, SameFrom}
-use Rattle.tables.proofs.Verdicts.{refused}
-use Rattle.base.proofs.Options.{past, stop}
+use Rattle.tables.specs.declared.Verdict.the-variants.{Passed, Refused}
+use Rattle.tables.proofs.Verdicts.{passed, refused, passes, refuses}
 use Rattle.tables.proofs.TableLaws.{room-passed}
-use Rattle.base.proofs.BufferLaws.{written-length, written-at, written-rest, build-length, build-at}
-use Rattle.base.proofs.Index.{in-table, at-div, at-mod, place}
+use Rattle.containment.specs.Contains.{loopFault}
+use Rattle.containment.specs.Scratch.{Drawn, drawn, filled, scratchFault, scratchAfter}
+use Rattle.containment.specs.Steps.{Bytes, SameFrom}
 use Rattle.containment.proofs.DrawnLaws.{drawn-iff}
 
 module _ (n : ℕ) (rows s : List ℕ) where
@@ -40,16 +39,12 @@ module _ (n : ℕ) (rows s : List ℕ) where
   unfolding filled
   filled-rest p h = written-rest (build cell (n * n)) s p (rw build-length h)
 
-  -- upper layers go by this
-  pub filled-says : n * n ≤ length s → Says n rows (filled n rows s)
-  filled-says h = record {
-    room = rw (filled-length h) h;
-    cell = λ a b la lb. filled-place (a * n + b) (in-table n n a b la lb) ∙ rw (at-div n a b lb, at-mod n a b lb);
-  }
+  pub filled-cell : (a b : ℕ) → a < n → b < n → getD (filled n rows s) (a * n + b) 0 ≡ drawn rows a b
+  filled-cell a b la lb = filled-place (a * n + b) (in-table n n a b la lb) ∙ rw (at-div n a b lb, at-mod n a b lb)
 
   -- "Byte a × n + b of the containment scratch shall hold 2 where .., 1 where .., 0 otherwise"
-  pub filled-drawn : n * n ≤ length s → (a b : ℕ) → a < n → b < n → Drawn rows a b (getD (filled n rows s) (a * n + b) 0)
-  filled-drawn h a b la lb = drawn-iff rows a b _ .0 (sym (filled-says h .cell a b la lb))
+  pub filled-drawn : (a b : ℕ) → a < n → b < n → Drawn rows a b (getD (filled n rows s) (a * n + b) 0)
+  filled-drawn a b la lb = drawn-iff rows a b _ .0 (sym (filled-cell a b la lb))
 
   -- bytes that say so in each place, and are as they were from n * n on, are the filled ones
   pub is-filled : (t : List ℕ) → n * n ≤ length s → Bytes n (drawn rows) t → SameFrom (n * n) s t → t ≡ filled n rows s
@@ -66,29 +61,21 @@ module _ (n : ℕ) (rows s : List ℕ) where
           ∙ sym (filled-place p l)
       at p (no l) = g .rest p (omega arith) ∙ sym (filled-rest p (omega arith))
 
--- ---- the stages of `prepare`: a refusal by checks 1 to 7, one by 9, and neither
+-- ---- the stages of `prepare`: an early refusal, and none
 
-module _ (boxes rows arrows s : List ℕ) where
+module _ (boxes rows s : List ℕ) (early : Verdict) where
   abbrev pub Ends : Verdict → List ℕ → Type 0
-  Ends v t = (v ≡ verdictOf (pictureFault boxes rows arrows s)) × (t ≡ scratchAfter (earlyFault boxes rows arrows s) boxes rows s)
+  Ends v t = (e : Option Refusal) → early ≡ verdictOf e → (v ≡ verdictOf (orElse e (loopFault boxes rows))) × (t ≡ scratchAfter e boxes rows s)
 
-  pub ends-tables : (r : Refusal) → verdictOf (tableFault boxes rows arrows) ≡ Refused r → Ends (Refused r) s
-  unfolding pictureFault earlyFault
-  ends-tables r e =
-      let early = stop _ (scratchFault (length boxes) s) (refused (tableFault boxes rows arrows) r e) in
-      (rw (stop _ (loopFault boxes rows) early), rw early)
+  pub ends-refused : (r : Refusal) → early ≡ Refused r → Ends (Refused r) s
+  ends-refused r i e p =
+      let f = refused e r (sym p ∙ i) in
+      (refuses e (loopFault boxes rows) r (sym p ∙ i), rw f)
 
-  pub ends-room : (r : Refusal) → tableFault boxes rows arrows ≡ none → verdictOf (scratchFault (length boxes) s) ≡ Refused r → Ends (Refused r) s
-  unfolding pictureFault earlyFault
-  ends-room r f e =
-      let early = past _ (scratchFault (length boxes) s) f ∙ refused (scratchFault (length boxes) s) r e in
-      (rw (stop _ (loopFault boxes rows) early), rw early)
-
-  pub ends-filled : tableFault boxes rows arrows ≡ none → scratchFault (length boxes) s ≡ none → Ends (verdictOf (loopFault boxes rows)) (filled (length boxes) rows s)
-  unfolding pictureFault earlyFault
-  ends-filled f g =
-      let early = past _ (scratchFault (length boxes) s) f ∙ g in
-      (rw (past _ (loopFault boxes rows) early), rw early)
+  pub ends-filled : early ≡ Passed → (v : Verdict) (t : List ℕ) → v ≡ verdictOf (loopFault boxes rows) → t ≡ filled (length boxes) rows s → Ends v t
+  ends-filled i v t h g e p =
+      let f = passed e (sym p ∙ i) in
+      (h ∙ passes e (loopFault boxes rows) (sym p ∙ i), g ∙ rw f)
 
 -- where check 9 passes, there is room
 pub scratch-room : (n : ℕ) (s : List ℕ) → scratchFault n s ≡ none → n * n ≤ length s

@@ -7,6 +7,7 @@ use Prim.Native.Nat.{ℕ, _+_, _*_, _/_, _%_}
 use lib.ListN.{length}
 use Rattle.base.specs.Search.{bit, orElse}
 use Rattle.base.specs.Buffers.{build, written}
+use Rattle.tables.specs.Rows.{Picture}
 use Rattle.tables.specs.Refusals.{unlessRefused}
 use Rattle.tables.specs.Faults.{tableFault, roomFault}
 use Rattle.tables.specs.declared.Refusal.{Refusal}
@@ -35,9 +36,9 @@ abbrev pub scratchAfter : Option Refusal → List ℕ → List ℕ → List ℕ 
 scratchAfter early boxes rows s = unlessRefused early (filled (length boxes) rows s) s
 
 -- checks 1 to 7 of a picture, 9 for the scratch
-unfoldable pub earlyFault : List ℕ → List ℕ → List ℕ → List ℕ → Option Refusal
-earlyFault boxes rows arrows s = orElse (tableFault boxes rows arrows) (scratchFault (length boxes) s)
+unfoldable pub earlyFault : Picture → List ℕ → Option Refusal
+earlyFault pic s = orElse (tableFault pic) (scratchFault (length (pic .boxes)) s)
 
 -- and 10
-unfoldable pub pictureFault : List ℕ → List ℕ → List ℕ → List ℕ → Option Refusal
-pictureFault boxes rows arrows s = orElse (earlyFault boxes rows arrows s) (loopFault boxes rows)
+unfoldable pub pictureFault : Picture → List ℕ → Option Refusal
+pictureFault pic s = orElse (earlyFault pic s) (loopFault (pic .boxes) (pic .rows))

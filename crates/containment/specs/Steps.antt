@@ -1,20 +1,40 @@
--- What the functions ask of and promise each other: a filled scratch, and how it stands while it is filled. Assumes nothing.
+-- What the functions ask of and promise each other: the closure, and how it and the scratch stand while they are filled. Assumes nothing.
 use mathlib.Core.Path.{_≡_}
-use mathlib.Core.Logic.{_⊎_}
 use mathlib.Core.Bool.{Bool, _&&_, _||_, cond}
 use mathlib.Core.List.{List}
-use Prim.Native.Nat.{ℕ, zero, suc, _+_, _*_, _<_, _≤_}
-use lib.Bits.{bitOr}
+use mathlib.Core.Option.{Option}
+use Prim.Native.Nat.{ℕ, zero, suc, _+_, _*_, _%_, _<_, _≤_}
+use lib.Dec.{T, eqb}
 use lib.ListN.{length, getD}
-use Rattle.base.specs.Search.{bit}
-use Rattle.base.specs.Buffers.{build}
-use Rattle.containment.specs.Contains.{direct}
-use Rattle.containment.specs.Scratch.{drawn}
+use Rattle.base.specs.Search.{bit, first, given}
+use Rattle.tables.specs.Refusals.{inItself}
+use Rattle.tables.specs.Rows.{rowCount, rowAt}
+use Rattle.tables.specs.declared.Refusal.{Refusal}
+use Rattle.boxsets.specs.Sets.{has}
+use Rattle.containment.specs.Contains.{direct, around}
 
--- s is a scratch that was filled from the rows (`filled-says`); `containment::does_contain` reads it
-pub record Says (n : ℕ) (rows s : List ℕ) : Type 0 where
-  pub room : n * n ≤ length s
-  pub cell : (a b : ℕ) → a < n → b < n → getD s (a * n + b) 0 ≡ drawn rows a b
+-- whole rows, of boxes below n
+pub record RowsBelow (n : ℕ) (rows : List ℕ) : Type 0 where
+  pub whole : length rows % 2 ≡ 0
+  pub outer-below : (k : ℕ) → k < rowCount rows → rowAt rows k .outer < n
+  pub inner-below : (k : ℕ) → k < rowCount rows → rowAt rows k .inner < n
+
+-- ---- sets of boxes
+
+-- the table says f for n boxes: set a has b exactly if f a b, and set 256 + b has a exactly if f a b
+pub record Both (n : ℕ) (f : ℕ → ℕ → Bool) (t : List ℕ) : Type 0 where
+  pub len : length t ≡ 2048
+  pub down : (a b : ℕ) → a < n → has t a b ≡ f a b
+  pub up : (a b : ℕ) → b < n → has t (256 + b) a ≡ f a b
+
+-- the closure of the rows of n boxes: what each box is or contains, and what is it or contains it
+abbrev pub Closure : ℕ → List ℕ → List ℕ → Type 0
+Closure n rows t = Both n (around rows) t
+
+-- whatever t says of boxes below 256, u says with g added to it
+pub record Turns (g : (ℕ → ℕ → Bool) → ℕ → ℕ → Bool) (t u : List ℕ) : Type 0 where
+  pub len : length u ≡ length t
+  pub says : (f : ℕ → ℕ → Bool) → Both 256 f t → Both 256 (g f) u
 
 -- f a b, or a way through box k
 unfoldable pub through : (ℕ → ℕ → Bool) → ℕ → ℕ → ℕ → Bool
@@ -24,6 +44,21 @@ through f k a b = f a b || f a k && f k b
 unfoldable pub rounds : (ℕ → ℕ → Bool) → ℕ → ℕ → ℕ → Bool
 rounds f zero a b = f a b
 rounds f (suc k) a b = through (rounds f k) k a b
+
+-- f a b, or a and b are the same box below k
+unfoldable pub selves : (ℕ → ℕ → Bool) → ℕ → ℕ → ℕ → Bool
+selves f zero a b = f a b
+selves f (suc k) a b = selves f k a b || eqb a k && eqb b k
+
+-- 10: the lowest of n boxes whose set has it
+unfoldable pub ownFault : ℕ → List ℕ → Option Refusal
+ownFault n t = first (λ b. given (has t b b) (inItself b)) n
+
+-- no set of the first n has a number from n on
+abbrev pub Square : ℕ → List ℕ → Type 0
+Square n t = (a b : ℕ) → a < n → T (has t a b) → b < n
+
+-- ---- bytes
 
 -- byte a × n + b is g a b
 abbrev pub Bytes : ℕ → (ℕ → ℕ → ℕ) → List ℕ → Type 0
@@ -42,19 +77,12 @@ pub record SameFrom (m : ℕ) (s t : List ℕ) : Type 0 where
   pub len : length t ≡ length s
   pub rest : (p : ℕ) → m ≤ p → getD t p 0 ≡ getD s p 0
 
--- t is s with the bytes from dst + from on, up to dst + to, joined by those of a row
-pub record Joined (row : List ℕ) (dst from to : ℕ) (s t : List ℕ) : Type 0 where
+-- t is s with 1 in place at + b for each b for which the test holds
+pub record Ones (p : ℕ → Bool) (at : ℕ) (s t : List ℕ) : Type 0 where
   pub len : length t ≡ length s
-  pub hit : (j : ℕ) → from ≤ j → j < to → getD t (dst + j) 0 ≡ bitOr (getD s (dst + j) 0) (getD row j 0)
-  pub miss : (p : ℕ) → (p < dst + from) ⊎ (dst + to ≤ p) → getD t p 0 ≡ getD s p 0
+  pub from : (b : ℕ) → getD t (at + b) 0 ≡ cond (p b) 1 (getD s (at + b) 0)
+  pub before : (i : ℕ) → i < at → getD t i 0 ≡ getD s i 0
 
--- r is the first box from i on whose byte for box k is not 0, or n
-pub record NextOuter (n k : ℕ) (s : List ℕ) (i r : ℕ) : Type 0 where
-  pub from-on : i ≤ r
-  pub at-most : r ≤ n
-  pub none-between : (a : ℕ) → i ≤ a → a < r → getD s (a * n + k) 0 ≡ 0
-  pub holds : r < n → getD s (r * n + k) 0 ≡ 0 → ⊥
-
--- n bytes from a place on
-unfoldable pub rowFrom : List ℕ → ℕ → ℕ → List ℕ
-rowFrom s at n = build (λ j. getD s (at + j) 0) n
+-- there is a place for each of them
+abbrev pub Room : (ℕ → Bool) → ℕ → List ℕ → Type 0
+Room p at s = (b : ℕ) → T (p b) → at + b < length s

@@ -5,7 +5,7 @@ use mathlib.Core.Option.{Option, none, some}
 use Prim.Native.Nat.{ℕ, _≤_}
 use lib.ListN.{length}
 use Rattle.base.specs.Buffers.{written}
-use Rattle.tables.specs.Rows.{user, file}
+use Rattle.tables.specs.Rows.{picture, user, file}
 use Rattle.tables.specs.Atoms.{atoms}
 use Rattle.tables.specs.Faults.{tableFault, roomFault}
 use Rattle.tables.specs.Refusals.{verdictOf, unlessRefused, either}
@@ -50,14 +50,14 @@ module _ (boxes rows users files : List ℕ) where
   unfolding usersAfter filesAfter
   ends o e = (rw e, (rw e, rw e))
 
-  pub by-tables : (r : Refusal) → verdictOf (tableFault boxes rows []) ≡ Stopped r → Ends (Refused r) users files
+  pub by-tables : (r : Refusal) → verdictOf (tableFault (picture boxes rows [])) ≡ Stopped r → Ends (Refused r) users files
   unfolding headingsOf headingFault
-  by-tables r t = ends (some r) (stop _ (headingRooms boxes rows users files) (refused (tableFault boxes rows []) r t))
+  by-tables r t = ends (some r) (stop _ (headingRooms boxes rows users files) (refused (tableFault (picture boxes rows [])) r t))
 
-  module _ (t : verdictOf (tableFault boxes rows []) ≡ Passed) where
+  module _ (t : verdictOf (tableFault (picture boxes rows [])) ≡ Passed) where
     rooms-left : headingFault boxes rows users files ≡ headingRooms boxes rows users files
     unfolding headingFault
-    rooms-left = past _ (headingRooms boxes rows users files) (passed (tableFault boxes rows []) t)
+    rooms-left = past _ (headingRooms boxes rows users files) (passed (tableFault (picture boxes rows [])) t)
 
     pub by-rooms : (r : Refusal) → verdictOf (headingRooms boxes rows users files) ≡ Stopped r → Ends (Refused r) users files
     unfolding headingsOf

@@ -5,7 +5,7 @@ use Prim.Native.Nat.{ℕ}
 use lib.ListN.{length}
 use Rattle.base.specs.Search.{orElse}
 use Rattle.base.specs.Buffers.{written}
-use Rattle.tables.specs.Rows.{user, file}
+use Rattle.tables.specs.Rows.{picture, user, file}
 use Rattle.tables.specs.Atoms.{atoms}
 use Rattle.tables.specs.Refusals.{unlessRefused}
 use Rattle.tables.specs.Faults.{tableFault, roomFault}
@@ -28,7 +28,7 @@ module _ (boxes rows : List ℕ) where
 
     -- checks 1 to 7 as on a picture without arrows, then 9
     unfoldable pub headingFault : Option Refusal
-    headingFault = orElse (tableFault boxes rows []) headingRooms
+    headingFault = orElse (tableFault (picture boxes rows [])) headingRooms
 
     -- the buffers at the end: the atomic users, and the atomic files, by rising number
     unfoldable pub usersAfter : List ℕ

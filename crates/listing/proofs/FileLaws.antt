@@ -3,37 +3,38 @@ use mathlib.Core.Path.{_≡_, refl, sym, ap, _∙_}
 use mathlib.Core.List.{List}
 use mathlib.Core.Option.{Option, none, some}
 use Prim.Native.Nat.{ℕ, _+_, _-_, _*_}
+use native.Mathlib.Nat.{add-zero}
 use lib.ListN.{length, take}
-use Rattle.base.specs.Buffers.{written, zeros}
+use Rattle.base.specs.Buffers.{zeros}
+use Rattle.base.proofs.BufferLaws.{zeros-length}
+use Rattle.base.proofs.Options.{past, stop}
+use Rattle.base.proofs.PartLaws.{part-is}
+use Rattle.tables.specs.Rows.{Picture, picture, rowCount, arrowCount}
 use Rattle.tables.specs.Refusals.{verdictOf}
 use Rattle.tables.specs.declared.Refusal.{Refusal}
 use Rattle.tables.specs.declared.Verdict.{Verdict}
 use Rattle.tables.specs.declared.Verdict.the-variants.{Passed, Refused}
-use Rattle.base.proofs.BufferLaws.{zeros-length}
-use Rattle.base.proofs.PartLaws.{part-is}
 use Rattle.tables.proofs.Verdicts.{passed, refused}
-use Rattle.base.proofs.Options.{past, stop}
 use Rattle.containment.specs.Scratch.{pictureFault}
 use Rattle.containment.proofs.PictureLaws.{picture-room}
-use Rattle.blocks.specs.Files.{boxesOf, containmentsOf, arrowsOf}
+use Rattle.meaning.specs.Cases.{picture-B}
 use Rattle.blocks.specs.Reads.{readFault, ReadDone}
-use Rattle.blocks.specs.declared.Counts.{Counts}
-use Rattle.answers.specs.Cases.{picture-B}
+use Rattle.blocks.specs.declared.Counts.{Counts as Three}
 use Rattle.blocks.specs.declared.Reading.the-variants.{Tables, Refused as Stops}
 use Rattle.blocks.proofs.Made.{joined-same}
 use Rattle.blocks.proofs.Rooms.{read-stopped, read-tables}
 use Rattle.listing.specs.Text.{text}
 use Rattle.listing.specs.Lines.{lineText}
-use Rattle.listing.specs.Listing.{pictureListing}
-use Rattle.listing.specs.Files.{readRefusal, pictureRefusal, fileRefusal, refusedOr, fileListing}
-use Rattle.listing.specs.Numbered.{lineCount, lineAt, linesFrom, stoppedOr, oneOr, fileLineCount, fileLine}
-use Rattle.listing.specs.Steps.{Filled, Read, Good}
+use Rattle.listing.specs.Listing.{countsLine, pictureListing}
+use Rattle.listing.specs.Files.{filePicture, readRefusal, pictureRefusal, fileRefusal, refusedOr, fileListing}
+use Rattle.listing.specs.Numbered.{lineCount, lineAt, lineRows, linesFrom, stoppedOr, oneOr, fileLineCount, fileLine}
+use Rattle.listing.specs.Steps.{Holds, Stands, Filled, Read, Good}
 use Rattle.listing.specs.Cases.{case-B}
 use Rattle.listing.specs.declared.Line.{Line}
-use Rattle.listing.specs.declared.Line.the-variants.{Stopped}
+use Rattle.listing.specs.declared.Line.the-variants.{Counts, Last, Stopped}
+use Rattle.listing.specs.declared.Place.{Place}
 use Rattle.listing.specs.declared.Chunk.{Chunk}
-use Rattle.listing.proofs.ChunkLaws.{lines-none, lines-more}
-use Rattle.listing.proofs.WholeLaws.{picture-whole}
+use Rattle.listing.proofs.WholeLaws.{joined-one, picture-whole, last-is}
 
 lines-same : (a b : ℕ → Line) (from n : ℕ) → ((k : ℕ) → a k ≡ b k) → linesFrom a from n ≡ linesFrom b from n
 unfolding linesFrom
@@ -41,8 +42,13 @@ lines-same a b from n e =
     joined-same (λ k. lineText (a (from + k))) (λ k. lineText (b (from + k))) n (λ k l. ap lineText (e (from + k)))
 
 -- a single line
-one-line : (lines : ℕ → Line) → linesFrom lines 0 1 ≡ lineText (lines 0)
-one-line lines = lines-more lines 0 0 ∙ rw (lines-none lines 0)
+one-line : (lines : ℕ → Line) (i : ℕ) → linesFrom lines i 1 ≡ lineText (lines i)
+unfolding linesFrom
+one-line lines i = joined-one (λ k. lineText (lines (i + k))) ∙ rw (add-zero i)
+
+-- the part of a buffer that holds a text
+held : {text old new : List ℕ} {n : ℕ} → Holds text old new n → take n new ≡ text
+held {text} {old} {new} {n} h = part-is text old n new (h .bytes-are, h .written-are)
 
 -- ---- a refused file or picture
 module _ (file : List ℕ) (r : Refusal) (w : fileRefusal file ≡ some r) where
@@ -50,35 +56,45 @@ module _ (file : List ℕ) (r : Refusal) (w : fileRefusal file ≡ some r) where
   unfolding fileLineCount oneOr
   stopped-count = rw w
 
-  stopped-lines : lineText (Stopped r) ≡ linesFrom (fileLine file) 0 1
+  stopped-is : fileLine file 0 ≡ Stopped r
   unfolding fileLine stoppedOr
-  stopped-lines = sym (one-line (fileLine file) ∙ rw w)
+  stopped-is = rw w
 
   -- its line, as it was written
-  pub stopped-line : (old new : List ℕ) (n : ℕ) → n ≡ length (lineText (Stopped r)) → new ≡ written (lineText (Stopped r)) old
-      → take n new ≡ linesFrom (fileLine file) 0 1
-  stopped-line old new n e f = part-is (lineText (Stopped r)) old n new (e, f) ∙ stopped-lines
+  pub stopped-line : {old new : List ℕ} {n : ℕ} → Holds (lineText (Stopped r)) old new n → take n new ≡ linesFrom (fileLine file) 0 1
+  stopped-line h = held h ∙ ap lineText (sym stopped-is) ∙ sym (one-line (fileLine file) 0)
 
 -- ---- a good one
-module _ {file boxes rows arrows : List ℕ} (g : Good file boxes rows arrows) where
-  pub good-count : lineCount boxes rows arrows ≡ fileLineCount file
+module _ {file : List ℕ} {pic : Picture} (g : Good file pic) where
+  pub good-count : lineCount pic ≡ fileLineCount file
   unfolding fileLineCount oneOr
-  good-count = rw (g .boxes-are, g .rows-are, g .arrows-are, g .right)
+  good-count = rw (g .picture-is, g .right)
 
-  good-line : (k : ℕ) → lineAt boxes rows arrows k ≡ fileLine file k
+  good-line : (k : ℕ) → lineAt pic k ≡ fileLine file k
   unfolding fileLine stoppedOr
-  good-line k = rw (g .boxes-are, g .rows-are, g .arrows-are, g .right)
+  good-line k = rw (g .picture-is, g .right)
 
-  -- its lines, as a chunk of them was written
-  pub good-chunk : (from : ℕ) {old new : List ℕ} {c : Chunk} → Filled boxes rows arrows from old new c
-      → take (c .bytes) new ≡ linesFrom (fileLine file) from (c .next .line - from)
-  good-chunk from {old} {new} {c} f =
-      part-is (linesFrom (lineAt boxes rows arrows) from (c .next .line - from)) old (c .bytes) new (f .bytes-are, f .written-are)
-      ∙ lines-same (lineAt boxes rows arrows) (fileLine file) from (c .next .line - from) good-line
+  -- its first line, rows of it, and its last line, as they were written
+  pub good-first : {old new : List ℕ} {n : ℕ} → Holds (lineText (countsLine pic)) old new n → take n new ≡ linesFrom (fileLine file) 0 1
+  unfolding lineAt
+  good-first h = held h ∙ ap lineText (good-line 0) ∙ sym (one-line (fileLine file) 0)
 
-  pub good-listing : fileListing file ≡ pictureListing boxes rows arrows
+  pub good-chunk : {from : Place} {old new : List ℕ} {c : Chunk} → Filled pic from old new c
+      → take (c .bytes) new ≡ linesFrom (fileLine file) (from .line) (c .next .line - from .line)
+  good-chunk {from} {old} {new} {c} f =
+      held (f .holds) ∙ lines-same (lineAt pic) (fileLine file) (from .line) (c .next .line - from .line) good-line
+
+  module _ {p : Place} (s : Stands pic p) (e : p .row ≡ lineRows pic) where
+    pub good-last : {old new : List ℕ} {n : ℕ} → Holds (lineText (Last (p .seen))) old new n
+        → take n new ≡ linesFrom (fileLine file) (p .line) 1
+    good-last h = held h ∙ ap lineText (last-is s e .0 ∙ good-line (p .line)) ∙ sym (one-line (fileLine file) (p .line))
+
+    pub good-end : p .line + 1 ≡ fileLineCount file
+    good-end = last-is s e .1 ∙ good-count
+
+  pub good-listing : fileListing file ≡ pictureListing pic
   unfolding fileListing refusedOr
-  good-listing = rw (g .boxes-are, g .rows-are, g .arrows-are, g .right)
+  good-listing = rw (g .picture-is, g .right)
 
 -- all lines by number are the listing
 pub file-whole : (file : List ℕ) → linesFrom (fileLine file) 0 (fileLineCount file) ≡ fileListing file
@@ -86,40 +102,39 @@ unfolding fileListing refusedOr
 file-whole file = go (fileRefusal file) refl
   where
     go : (o : Option Refusal) → fileRefusal file ≡ o → linesFrom (fileLine file) 0 (fileLineCount file) ≡ fileListing file
-    go (some r) w = rw (← stopped-count file r w, ← stopped-lines file r w, w)
+    go (some r) w = rw (← stopped-count file r w, one-line (fileLine file) 0, stopped-is file r w, w)
     go none w =
-        let boxes = boxesOf file in
-        let rows = containmentsOf file in
-        let arrows = arrowsOf file in
-        let g : Good file boxes rows arrows = record { boxes-are = refl; rows-are = refl; arrows-are = refl; right = w } in
+        let pic = filePicture file in
+        let g : Good file pic = record { picture-is = refl; right = w } in
         rw (← good-count g)
-        (sym (lines-same (lineAt boxes rows arrows) (fileLine file) 0 (lineCount boxes rows arrows) (good-line g))
-        ∙ picture-whole boxes rows arrows ∙ sym (good-listing g))
+        (sym (lines-same (lineAt pic) (fileLine file) 0 (lineCount pic) (good-line g)) ∙ picture-whole pic ∙ sym (good-listing g))
 
 -- the listing of a file with the picture of case B is the document's text
-pub document-listing : (file : List ℕ) → Good file (picture-B .boxes) (picture-B .rows) (picture-B .arrows)
+pub document-listing : (file : List ℕ) → Good file picture-B
     → fileListing file ≡ text "boxes 4 containments 2 arrows 2\n0 0 3 pos 0\n0 1 3 neg 1\naccepted\n"
 document-listing file g = good-listing g ∙ case-B
 
--- ---- from the checks of the picture
-module _ {file boxes rows arrows : List ℕ} (s : List ℕ) (d : Read file boxes rows arrows) (len : 65536 ≡ length s) where
-  picture-is : pictureFault boxes rows arrows s ≡ pictureRefusal file
-  unfolding pictureRefusal
-  picture-is =
-      picture-room boxes rows arrows s (zeros 65536) (sym len ∙ sym (zeros-length 65536))
-      ∙ rw (d .boxes-are, d .rows-are, d .arrows-are)
+-- the first line, by the tables
+pub counts-are : (boxes rows arrows : List ℕ) → countsLine (picture boxes rows arrows) ≡ Counts (length boxes) (rowCount rows) (arrowCount arrows)
+unfolding countsLine
+counts-are boxes rows arrows = refl
 
-  pub picture-refused : (r : Refusal) {v : Verdict} → v ≡ verdictOf (pictureFault boxes rows arrows s) → v ≡ Refused r
+-- ---- from the checks of the picture
+module _ {file boxes rows arrows : List ℕ} (s : List ℕ) (d : Read file (picture boxes rows arrows)) (len : 65536 ≡ length s) where
+  picture-is : pictureFault (picture boxes rows arrows) s ≡ pictureRefusal file
+  unfolding pictureRefusal
+  picture-is = picture-room boxes rows arrows s (zeros 65536) (sym len ∙ sym (zeros-length 65536)) ∙ rw (d .picture-is)
+
+  pub picture-refused : (r : Refusal) {v : Verdict} → v ≡ verdictOf (pictureFault (picture boxes rows arrows) s) → v ≡ Refused r
       → fileRefusal file ≡ some r
   unfolding fileRefusal
   picture-refused r told e = past (readRefusal file) (pictureRefusal file) (d .read) ∙ sym picture-is ∙ refused _ r (sym told ∙ e)
 
-  pub picture-good : {v : Verdict} → v ≡ verdictOf (pictureFault boxes rows arrows s) → v ≡ Passed → Good file boxes rows arrows
+  pub picture-good : {v : Verdict} → v ≡ verdictOf (pictureFault (picture boxes rows arrows) s) → v ≡ Passed
+      → Good file (picture boxes rows arrows)
   unfolding fileRefusal
   picture-good told e = record {
-    boxes-are = d .boxes-are;
-    rows-are = d .rows-are;
-    arrows-are = d .arrows-are;
+    picture-is = d .picture-is;
     right = past (readRefusal file) (pictureRefusal file) (d .read) ∙ sym picture-is ∙ passed _ (sym told ∙ e);
   }
 
@@ -134,13 +149,9 @@ module _ (file boxes rows arrows boxesEnd rowsEnd arrowsEnd : List ℕ)
   unfolding fileRefusal
   read-refused d = stop (readRefusal file) (pictureRefusal file) (sym fault-is ∙ read-stopped d)
 
-  pub read-good : {c : Counts} → ReadDone file boxes rows arrows boxesEnd rowsEnd arrowsEnd (Tables c)
-      → Read file (take (c .boxes) boxesEnd) (take (2 * c .containments) rowsEnd) (take (4 * c .arrows) arrowsEnd)
+  pub read-good : {c : Three} → ReadDone file boxes rows arrows boxesEnd rowsEnd arrowsEnd (Tables c)
+      → Read file (picture (take (c .boxes) boxesEnd) (take (2 * c .containments) rowsEnd) (take (4 * c .arrows) arrowsEnd))
+  unfolding filePicture
   read-good d =
       let read = read-tables d in
-      record {
-        boxes-are = read .boxes-read;
-        rows-are = read .rows-read;
-        arrows-are = read .arrows-read;
-        read = sym fault-is ∙ read .no-fault;
-      }
+      record { picture-is = rw (read .boxes-read, read .rows-read, read .arrows-read); read = sym fault-is ∙ read .no-fault }

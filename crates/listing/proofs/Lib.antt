@@ -1,7 +1,11 @@
 -- Laws for the proofs of this crate and of the crates above it.
 mod PutLaws
 mod DecimalLaws
+mod ModeLaws
+mod RowLaws
+mod AskLaws
 pub mod LineLaws
-pub mod ChunkLaws
+pub mod StandLaws
 pub mod WholeLaws
+pub mod ChunkLaws
 pub mod FileLaws

@@ -1,146 +1,148 @@
--- The lines of a picture by number, and what the walk over them is given. Assumes nothing.
+-- The lines of a picture by number, and the rows that they are put in. Assumes nothing.
 use mathlib.Core.Path.{_≡_, refl, sym, ap, _∙_}
-use mathlib.Core.List.{List, [], _++_}
-use Prim.Native.Nat.{ℕ, zero, suc, _+_, _-_, _*_, _/_, _%_, _<_, _≤_, min}
+use mathlib.Core.List.{List}
+use mathlib.Core.Option.{Option, none}
+use Prim.Native.Nat.{ℕ, zero, suc, _+_, _-_, _*_, _/_, _%_, _<_}
 use native.Mathlib.Omega.{arith}
-use native.Mathlib.Nat.{mul-le-mul}
+use native.Mathlib.Nat.{add-mul, mul-assoc}
 use native.Mathlib.Numerals.{add-one}
 use borrow.Author.Tests.{lt-ltb, le-ltb}
-use lib.ListN.{length, getD, take}
-use lib.Seq.{getD-take}
-use Rattle.tables.specs.Atoms.{pairCount}
-use Rattle.base.specs.Search.{first, given, select}
-use Rattle.tables.specs.Refusals.{unclearPair, verdictOf, either}
-use Rattle.tables.specs.declared.Verdict.{Verdict}
+use lib.ListN.{length, getD}
+use Rattle.base.specs.Search.{first, orElse}
+use Rattle.base.proofs.FoldLaws.{fold-add, first-fold, orElse-chains}
+use Rattle.base.proofs.Index.{at-div, at-mod, in-table, place, next-row}
+use Rattle.base.proofs.SearchLaws.{first-zero, first-same}
+use Rattle.tables.specs.Rows.{Picture}
+use Rattle.tables.specs.Refusals.{verdictOf, either}
+use Rattle.tables.specs.declared.Refusal.{Refusal}
 use Rattle.tables.specs.declared.Verdict.the-variants.{Passed}
-use Rattle.base.proofs.BufferLaws.{select-most}
-use Rattle.base.proofs.FoldLaws.{first-suc}
-use Rattle.base.proofs.SearchLaws.{first-zero}
-use Rattle.base.proofs.SelectLaws.{select-found}
 use Rattle.tables.proofs.Verdicts.{either-verdict}
-use Rattle.answers.specs.Meaning.{isUnclear}
-use Rattle.answers.specs.Pairs.{userAt, fileAt, answerAt}
-use Rattle.answers.specs.Table.{Tabled}
-use Rattle.answers.specs.declared.Entry.{Entry}
-use Rattle.answers.proofs.PairLaws.{place-in}
-use Rattle.answers.proofs.TableLaws.{tabled-pairs}
-use Rattle.listing.specs.Listing.{used, countsLine, pairLine}
-use Rattle.listing.specs.Numbered.{usedModes, pairLines, modeOf, pairOf, unclearIn, unclearOf, seenBefore, lineCount, lineAt}
-use Rattle.listing.specs.Steps.{Stands, Tells}
-use Rattle.listing.specs.declared.Line.the-variants.{Pair, Last}
-use Rattle.listing.specs.declared.Place.{Place}
-use Rattle.listing.specs.declared.Told.{Told}
+use Rattle.meaning.specs.Pairs.{users, files, pairs, userAt, fileAt, anyUnclear}
+use Rattle.meaning.proofs.ModeLaws.{answer-at}
+use Rattle.meaning.proofs.PairLaws.{place-in, pairs-are, user-read, file-read}
+use Rattle.blocks.proofs.Made.{joined-same}
+use Rattle.listing.specs.Lines.{lineText}
+use Rattle.listing.specs.Listing.{pairLine}
+use Rattle.listing.specs.Numbered.{usedModes, pairLines, modeOf, pairOf, unclearIn, unclearOf, seenBefore}
+use Rattle.listing.specs.Numbered.{lineAt, lineRows, rowStart, linesFrom}
+use Rattle.listing.specs.Steps.{userLine, userUnclear, rowText}
+use Rattle.listing.specs.declared.Line.the-variants.{Last}
 
-pub few-modes : (arrows : List ℕ) → length (usedModes arrows) ≤ 8
-unfolding usedModes
-few-modes arrows = select-most (used arrows) 8
+-- a search in two parts
+first-add : {A : Type 0} (g : ℕ → Option A) (a n : ℕ) → first g (a + n) ≡ orElse (first g a) (first (λ k. g (a + k)) n)
+first-add g a n = first-fold g (a + n) ∙ fold-add none orElse orElse-chains g a n ∙ rw (← first-fold g a, ← first-fold (λ k. g (a + k)) n)
 
-module _ (boxes rows arrows : List ℕ) where
-  -- ---- the first unclear pair before a line
-
-  -- none before the first line
-  pub seen-none : seenBefore boxes rows arrows 0 ≡ Passed
-  unfolding seenBefore
-  seen-none =
-      let e : min (0 - 1) (pairLines boxes rows arrows) ≡ 0 = omega arith in
-      rw (e, first-zero)
-
-  -- one pair line more
-  seen-more : (i : ℕ) → i < pairLines boxes rows arrows
-      → either (seenBefore boxes rows arrows (i + 1)) (verdictOf (unclearOf boxes rows arrows i)) ≡ seenBefore boxes rows arrows (i + 1 + 1)
-  unfolding seenBefore
-  seen-more i h =
-      let a : min (i + 1 - 1) (pairLines boxes rows arrows) ≡ i = omega arith in
-      let b : min (i + 1 + 1 - 1) (pairLines boxes rows arrows) ≡ suc i = omega arith in
-      let f = unclearOf boxes rows arrows in
-      rw (a, b, first-suc f i) (either-verdict (first f i) (f i))
-
-  -- the counts and the last line tell of no pair
-  seen-same : (i : ℕ) → min (i - 1) (pairLines boxes rows arrows) ≡ min (i + 1 - 1) (pairLines boxes rows arrows)
-      → seenBefore boxes rows arrows i ≡ seenBefore boxes rows arrows (i + 1)
-  unfolding seenBefore
-  seen-same i e = ap (λ (n : ℕ). verdictOf (first (unclearOf boxes rows arrows) n)) e
-
+module _ (pic : Picture) where
   -- ---- the line by its number
 
-  pub line-pair : (i : ℕ) → i < pairLines boxes rows arrows
-      → lineAt boxes rows arrows (i + 1) ≡ pairLine boxes rows arrows (modeOf boxes rows arrows i) (pairOf boxes rows arrows i)
+  pub line-pair : (i : ℕ) → i < pairLines pic → lineAt pic (i + 1) ≡ pairLine pic (modeOf pic i) (pairOf pic i)
   unfolding lineAt
-  line-pair i h = rw (add-one, lt-ltb i (pairLines boxes rows arrows) h)
+  line-pair i h = rw (add-one, lt-ltb i (pairLines pic) h)
 
-  pub line-last : (i : ℕ) → pairLines boxes rows arrows < i → lineAt boxes rows arrows i ≡ Last (seenBefore boxes rows arrows i)
+  pub line-last : (i : ℕ) → pairLines pic < i → lineAt pic i ≡ Last (verdictOf (anyUnclear pic))
   unfolding lineAt
   line-last zero h = absurd (omega arith)
-  line-last (suc i) h = rw (le-ltb i (pairLines boxes rows arrows) (omega arith))
+  line-last (suc i) h = rw (le-ltb i (pairLines pic) (omega arith))
 
-  -- what is told of the first line and of the last
-  pub counts-tell : (i : ℕ) (seen : Verdict) → i ≡ 0 → seen ≡ seenBefore boxes rows arrows i
-      → Tells boxes rows arrows i (record { line = countsLine boxes rows arrows; seen = seen })
-  unfolding lineAt
-  counts-tell i seen e s = record { line-is = rw e; seen-is = s ∙ seen-same i (omega arith) }
+  -- ---- rows
 
-  pub last-tells : (i : ℕ) (seen : Verdict) → pairLines boxes rows arrows < i → seen ≡ seenBefore boxes rows arrows i
-      → Tells boxes rows arrows i (record { line = Last seen; seen = seen })
-  last-tells i seen h s = record { line-is = rw s (sym (line-last i h)); seen-is = s ∙ seen-same i (omega arith) }
+  abbrev U : ℕ
+  U = length (users pic)
 
--- ---- a place
-module _ {boxes rows arrows users files table : List ℕ} (t : Tabled boxes rows arrows users files table)
-    {p : Place} (s : Stands boxes rows arrows p) where
-  abbrev pairs : ℕ
-  pairs = length users * length files
+  abbrev F : ℕ
+  F = length (files pic)
 
-  pub few-used : p .used ≤ 8
-  few-used = rw (s .used-are) (few-modes arrows)
+  abbrev modes : List ℕ
+  modes = usedModes (pic .arrows)
 
-  pub lines-are : p .used * pairs ≡ pairLines boxes rows arrows
-  unfolding pairLines
-  lines-are = rw (tabled-pairs t .0, s .used-are)
+  pairs-of : U * F ≡ pairs pic
+  pairs-of = pairs-are pic (users pic) (files pic) refl refl 0
 
-  pub few-lines : p .used * pairs ≤ 524288
-  few-lines = mul-le-mul few-used (tabled-pairs t .1)
+  -- the last row ends with the last pair line
+  pub rows-lines : lineRows pic * F ≡ pairLines pic
+  unfolding lineRows pairLines
+  rows-lines = rw (← pairs-of) (mul-assoc (length modes) U F)
 
-  pub count-is : p .used * pairs + 2 ≡ lineCount boxes rows arrows
-  unfolding lineCount
-  count-is = rw lines-are
+  module _ (r : ℕ) (row : r < lineRows pic) where
+    pub row-in : (r / U < length modes) × (r % U < U)
+    unfolding lineRows
+    row-in = place-in (length modes) U r row
 
-  -- a pair line
-  module _ (after : 0 < p .line) (upto : p .line ≤ pairLines boxes rows arrows) where
-    abbrev i : ℕ
-    i = p .line - 1
+    -- the row's mode and user
+    abbrev m : ℕ
+    m = getD modes (r / U) 0
 
-    pub line-in : (i / pairs < p .used) × (i % pairs < pairs)
-    line-in = place-in (p .used) pairs i (rw lines-are (omega arith))
+    abbrev u : ℕ
+    u = getD (users pic) (r % U) 0
 
-    pub some-pairs : 0 < pairs
-    some-pairs = omega (arith, line-in .1)
+    module _ (c : ℕ) (column : c < F) where
+      abbrev f : ℕ
+      f = getD (files pic) c 0
 
-    pub mode-there : i / pairs < 8
-    mode-there = omega (arith, line-in .0, few-used)
+      abbrev p : ℕ
+      p = r % U * F + c
 
-    pub pair-in : i % pairs < pairCount boxes rows
-    pair-in = let e = tabled-pairs t .0 in rw e (rw e at (line-in .1))
+      pair-there : p < pairs pic
+      pair-there = rw (← pairs-of) (in-table U F (r % U) c (row-in .1) column)
 
-    mode-is : getD (p .modes) (i / pairs) 0 ≡ modeOf boxes rows arrows i
-    unfolding modeOf
-    mode-is = sym (getD-take (p .used) (p .modes) (i / pairs) 0 (line-in .0)) ∙ rw (s .modes-are, tabled-pairs t .0)
+      place-is : r * F + c ≡ r / U * pairs pic + p
+      place-is =
+          let whole : (r / U * U + r % U) * F ≡ r / U * (U * F) + r % U * F = add-mul (r / U * U) (r % U) F ∙ rw (mul-assoc (r / U) U F) in
+          let same : (r / U * U + r % U) * F ≡ r * F = ap (λ (k : ℕ). k * F) (place U r) in
+          rw (← pairs-of) (omega arith)
 
-    pub mode-in : getD (p .modes) (i / pairs) 0 < 8
-    unfolding modeOf usedModes
-    mode-in =
-        let there : i / pairCount boxes rows < length (select (used arrows) 8) = rw (tabled-pairs t .0, s .used-are) at (line-in .0) in
-        rw mode-is (select-found (used arrows) 8 (i / pairCount boxes rows) there .0)
+      mode-is : modeOf pic (r * F + c) ≡ m
+      unfolding modeOf
+      mode-is = rw (place-is, at-div (pairs pic) (r / U) p pair-there)
 
-    -- what is told of it
-    pub pair-tells : (m q u f : ℕ) (e : Entry) (seen : Verdict) → m ≡ getD (p .modes) (i / pairs) 0 → q ≡ i % pairs
-        → u ≡ userAt boxes rows q → f ≡ fileAt boxes rows q → e ≡ answerAt boxes rows arrows m q
-        → seen ≡ either (p .seen) (verdictOf (given (isUnclear e) (unclearPair m u f)))
-        → Tells boxes rows arrows (p .line) (record { line = Pair m u f e; seen = seen })
-    unfolding pairOf pairLine unclearOf unclearIn
-    pair-tells m q u f e seen em eq eu ef ee es =
-        let here : i + 1 ≡ p .line = omega arith in
-        let mode : m ≡ modeOf boxes rows arrows i = em ∙ mode-is in
-        let place : q ≡ i % pairCount boxes rows = eq ∙ rw (tabled-pairs t .0) in
-        record {
-          line-is = rw (ee, eu, ef, mode, place) (sym (rw here at (line-pair boxes rows arrows i (omega arith))));
-          seen-is = es ∙ rw (s .seen-are, ee, eu, ef, mode, place) (rw here at (seen-more boxes rows arrows i (omega arith)));
-        }
+      pair-is : pairOf pic (r * F + c) ≡ p
+      unfolding pairOf
+      pair-is = rw (place-is, at-mod (pairs pic) (r / U) p pair-there)
+
+      user-is : userAt pic p ≡ u
+      user-is = sym (user-read pic (users pic) (files pic) refl refl p) ∙ rw (at-div F (r % U) c column)
+
+      file-is : fileAt pic p ≡ f
+      file-is = sym (file-read pic (users pic) (files pic) refl refl p) ∙ rw (at-mod F (r % U) c column)
+
+      line-there : r * F + c < pairLines pic
+      line-there = rw (← rows-lines) (in-table (lineRows pic) F r c row column)
+
+      line-row : lineAt pic (rowStart pic r + c) ≡ userLine pic m u f
+      unfolding rowStart pairLine userLine
+      line-row =
+          let here : 1 + r * F + c ≡ r * F + c + 1 = omega arith in
+          rw (here, line-pair (r * F + c) line-there, mode-is, pair-is, answer-at, user-is, file-is)
+
+      unclear-row : unclearOf pic (r * F + c) ≡ userUnclear pic m u f
+      unfolding unclearOf unclearIn userUnclear
+      unclear-row = rw (mode-is, pair-is, answer-at, user-is, file-is)
+
+    -- the lines of a row
+    pub row-lines : rowText pic m u (files pic) F ≡ linesFrom (lineAt pic) (rowStart pic r) F
+    unfolding linesFrom
+    row-lines =
+        joined-same (λ c. lineText (userLine pic m u (getD (files pic) c 0))) (λ c. lineText (lineAt pic (rowStart pic r + c))) F
+        (λ c l. ap lineText (sym (line-row c l)))
+
+    -- the next row begins after them
+    pub row-next : rowStart pic (r + 1) ≡ rowStart pic r + F
+    unfolding rowStart
+    row-next = omega (arith, next-row F r)
+
+    -- the first unclear pair with those of the row
+    pub row-seen : either (seenBefore pic (rowStart pic r)) (verdictOf (first (λ c. userUnclear pic m u (getD (files pic) c 0)) F))
+        ≡ seenBefore pic (rowStart pic (r + 1))
+    unfolding seenBefore rowStart
+    row-seen =
+        let here : 1 + r * F - 1 ≡ r * F = omega arith in
+        let next : 1 + (r + 1) * F - 1 ≡ r * F + F = omega (arith, next-row F r) in
+        let g = unclearOf pic in
+        let of-row : ℕ → Option Refusal = λ c. userUnclear pic m u (getD (files pic) c 0) in
+        rw (here, next, first-add g (r * F) F, first-same (λ c. g (r * F + c)) of-row F (λ c l. unclear-row c l))
+        (either-verdict (first g (r * F)) (first of-row F))
+
+  -- no unclear pair is before the first row
+  pub seen-none : seenBefore pic 1 ≡ Passed
+  unfolding seenBefore
+  seen-none = rw first-zero

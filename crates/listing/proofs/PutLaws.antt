@@ -6,15 +6,14 @@ use native.Mathlib.Omega.{arith}
 use native.Mathlib.Numerals.{add-one}
 use lib.ListN.{length, drop, set, getD, length-append}
 use lib.Seq.{sets, length-sets, length-take-le, drop-cons, drop-length}
-use Rattle.io.specs.Counts.{Counts}
 use Rattle.base.specs.Buffers.{written}
 use Rattle.base.proofs.BufferLaws.{written-none, written-run}
 use Rattle.blocks.proofs.Placing.{sets-more}
-use Rattle.answers.specs.declared.Entry.{Entry}
-use Rattle.answers.specs.declared.Entry.the-variants.{Granted, Denied, Default, Unclear}
+use Rattle.meaning.specs.declared.Entry.{Entry}
+use Rattle.meaning.specs.declared.Entry.the-variants.{Granted, Denied, Default, Unclear}
 use Rattle.listing.specs.Text.{text, line}
 use Rattle.listing.specs.Lines.{answerFields}
-use Rattle.listing.specs.Steps.{Put}
+use Rattle.listing.specs.Steps.{Put, Holds}
 
 -- one piece after the other
 pub chain : {old mid new a b : List ℕ} {at x y m k : ℕ} → Put old at a m mid x → Put mid x b k new y → Put old at (a ++ b) (m + k) new y
@@ -44,12 +43,12 @@ put-all old out s at i e f =
     record { placed = g; ends = refl; short = omega arith; same = ap length g ∙ length-sets old at s }
 
 -- at the start of the buffer
-pub at-start : (old new a : List ℕ) (m y : ℕ) → m ≤ length old → Put old 0 a m new y → (y ≡ length a) × (new ≡ written a old) × Counts y new
+pub at-start : (old new a : List ℕ) (m y : ℕ) → m ≤ length old → Put old 0 a m new y → Holds a old new y
 at-start old new a m y h p =
     let e : y ≡ length a = omega arith in
     let fits : y ≤ length new = omega arith in
     let there : sets old 0 a ≡ written a old = rw (written-none old) at (written-run [] a old (omega arith)) in
-    (e, p .placed ∙ there, (fits, sym (length-take-le y new fits)))
+    record { bytes-are = e; written-are = p .placed ∙ there; counted = (fits, sym (length-take-le y new fits)) }
 
 -- nothing put
 pub put-none : (old : List ℕ) (m : ℕ) → Put old 0 [] m old 0

@@ -2,38 +2,39 @@
 use mathlib.Core.Path.{_≡_, refl, sym, ap, ap₂, _∙_}
 use mathlib.Core.Bool.{Bool, true, false, cond}
 use mathlib.Core.List.{List, [], _++_}
-use mathlib.Core.Option.{Option, none}
-use Prim.Native.Nat.{ℕ, _+_, _-_, _*_, _/_, _%_, _<_, _≤_, min}
+use mathlib.Core.Option.{none}
+use Prim.Native.Nat.{ℕ, _+_, _-_, _*_, _/_, _%_}
 use native.Mathlib.Omega.{arith}
 use native.Mathlib.Nat.{zero-add, add-assoc}
 use borrow.Author.Tests.{ltb-false}
 use lib.ListN.{length, getD}
-use Rattle.tables.specs.Atoms.{pairCount}
+use Rattle.tables.specs.Rows.{Picture}
 use Rattle.base.specs.Search.{first, orElse, select}
 use Rattle.tables.specs.Refusals.{verdictOf}
-use Rattle.tables.specs.declared.Refusal.{Refusal}
 use Rattle.base.proofs.FoldLaws.{fold, fold-same, fold-add, fold-grid, fold-select, first-fold, orElse-chains}
-use Rattle.answers.specs.Pairs.{unclearFault, anyUnclear}
-use Rattle.answers.specs.Meaning.{modeArrows}
-use Rattle.answers.proofs.PairLaws.{unclear-is}
-use Rattle.answers.proofs.ClearLaws.{any-unclear, unused-clear}
+use Rattle.meaning.specs.Pairs.{files, pairs, unclearFault, anyUnclear}
+use Rattle.meaning.specs.Meaning.{modeArrows}
+use Rattle.meaning.proofs.PairLaws.{unclear-is}
+use Rattle.meaning.proofs.ClearLaws.{any-unclear, unused-clear}
 use Rattle.blocks.specs.Blocks.{joined}
 use Rattle.blocks.proofs.Made.{joined-same}
 use Rattle.blocks.proofs.JoinedLaws.{joined-none, joined-more, joined-fold, append-chains}
 use Rattle.listing.specs.Lines.{lineText}
-use Rattle.listing.specs.Listing.{used, countsLine, pairLine, modeText, pictureListing}
+use Rattle.listing.specs.Listing.{used, pairLine, modeText, pictureListing}
 use Rattle.listing.specs.Numbered.{usedModes, pairLines, modeOf, pairOf, unclearIn, unclearOf, seenBefore}
-use Rattle.listing.specs.Numbered.{lineCount, lineAt, linesFrom}
+use Rattle.listing.specs.Numbered.{lineCount, lineAt, lineRows, rowStart, linesFrom}
+use Rattle.listing.specs.Steps.{Stands}
 use Rattle.listing.specs.declared.Line.{Line}
+use Rattle.listing.specs.declared.Place.{Place}
 use Rattle.listing.specs.declared.Line.the-variants.{Last}
-use Rattle.listing.proofs.LineLaws.{line-pair, line-last}
+use Rattle.listing.proofs.LineLaws.{line-pair, line-last, rows-lines}
 
 joined-add : (f : ℕ → List ℕ) (a n : ℕ) → joined f (a + n) ≡ joined f a ++ joined (λ p. f (a + p)) n
 joined-add f a n =
     joined-fold f (a + n) ∙ fold-add [] _++_ append-chains f a n
     ∙ ap₂ _++_ (sym (joined-fold f a)) (sym (joined-fold (λ p. f (a + p)) n))
 
-joined-one : (f : ℕ → List ℕ) → joined f 1 ≡ f 0
+pub joined-one : (f : ℕ → List ℕ) → joined f 1 ≡ f 0
 joined-one f = joined-more f 0 ∙ ap (λ (l : List ℕ). l ++ f 0) (joined-none f)
 
 -- n lines, then m lines from there on, are n + m lines
@@ -45,80 +46,87 @@ chunks-join lines from n m =
     ∙ ap (λ (x : List ℕ). joined (λ k. at (from + k)) n ++ x)
     (joined-same (λ p. at (from + (n + p))) (λ p. at (from + n + p)) m (λ p l. ap at (sym (add-assoc from n p))))
 
-module _ (boxes rows arrows : List ℕ) where
-  abbrev pairs : ℕ
-  pairs = pairCount boxes rows
-
+module _ (pic : Picture) where
   abbrev modes : List ℕ
-  modes = select (used arrows) 8
+  modes = select (used (pic .arrows)) 8
 
   -- the text of the pair at place p in mode m
   abbrev textOf : ℕ → ℕ → List ℕ
-  textOf m p = lineText (pairLine boxes rows arrows m p)
+  textOf m p = lineText (pairLine pic m p)
 
   -- the pair lines are those of the modes with an arrow
-  pairs-whole : joined (λ i. textOf (modeOf boxes rows arrows i) (pairOf boxes rows arrows i)) (pairLines boxes rows arrows)
-      ≡ joined (modeText boxes rows arrows) 8
+  pairs-whole : joined (λ i. textOf (modeOf pic i) (pairOf pic i)) (pairLines pic)
+      ≡ joined (modeText pic) 8
   unfolding modeOf pairOf pairLines modeText usedModes
   pairs-whole =
-      joined-fold (λ i. textOf (getD modes (i / pairs) 0) (i % pairs)) (length modes * pairs)
-      ∙ fold-grid [] _++_ append-chains (λ j. textOf (getD modes j 0)) pairs (length modes)
-      ∙ fold-same [] _++_ (λ j. fold [] _++_ (textOf (getD modes j 0)) pairs) (λ j. joined (textOf (getD modes j 0)) pairs) (length modes)
-      (λ j l. sym (joined-fold (textOf (getD modes j 0)) pairs))
-      ∙ fold-select [] _++_ append-chains (used arrows) (λ m. joined (textOf m) pairs) 8
-      ∙ sym (joined-fold (λ m. cond (used arrows m) (joined (textOf m) pairs) []) 8)
+      joined-fold (λ i. textOf (getD modes (i / pairs pic) 0) (i % pairs pic)) (length modes * pairs pic)
+      ∙ fold-grid [] _++_ append-chains (λ j. textOf (getD modes j 0)) (pairs pic) (length modes)
+      ∙ fold-same [] _++_ (λ j. fold [] _++_ (textOf (getD modes j 0)) (pairs pic)) (λ j. joined (textOf (getD modes j 0)) (pairs pic)) (length modes)
+      (λ j l. sym (joined-fold (textOf (getD modes j 0)) (pairs pic)))
+      ∙ fold-select [] _++_ append-chains (used (pic .arrows)) (λ m. joined (textOf m) (pairs pic)) 8
+      ∙ sym (joined-fold (λ m. cond (used (pic .arrows) m) (joined (textOf m) (pairs pic)) []) 8)
 
   -- a mode that is not used has no unclear pair
-  only-used : (m : ℕ) (b : Bool) → used arrows m ≡ b → cond b (unclearFault boxes rows arrows m) none ≡ unclearFault boxes rows arrows m
+  only-used : (m : ℕ) (b : Bool) → used (pic .arrows) m ≡ b → cond b (unclearFault pic m) none ≡ unclearFault pic m
   unfolding used
   only-used m true e = refl
-  only-used m false e = sym (unused-clear boxes rows arrows m (ltb-false 0 (length (modeArrows arrows m)) e))
+  only-used m false e = sym (unused-clear pic m (ltb-false 0 (length (modeArrows (pic .arrows) m)) e))
 
-  mode-first : (m : ℕ) → fold none orElse (unclearIn boxes rows arrows m) pairs ≡ unclearFault boxes rows arrows m
+  mode-first : (m : ℕ) → fold none orElse (unclearIn pic m) (pairs pic) ≡ unclearFault pic m
   unfolding unclearIn
-  mode-first m = sym (first-fold (unclearIn boxes rows arrows m) pairs) ∙ sym (unclear-is boxes rows arrows m)
+  mode-first m = sym (first-fold (unclearIn pic m) (pairs pic)) ∙ sym (unclear-is pic m)
 
   -- the first unclear pair of the pair lines is the picture's
-  unclear-whole : first (unclearOf boxes rows arrows) (pairLines boxes rows arrows) ≡ anyUnclear boxes rows arrows
+  unclear-whole : first (unclearOf pic) (pairLines pic) ≡ anyUnclear pic
   unfolding unclearOf modeOf pairOf pairLines usedModes
   unclear-whole =
-      let at = unclearIn boxes rows arrows in
-      let fault = unclearFault boxes rows arrows in
-      first-fold (λ i. at (getD modes (i / pairs) 0) (i % pairs)) (length modes * pairs)
-      ∙ fold-grid none orElse orElse-chains (λ j. at (getD modes j 0)) pairs (length modes)
-      ∙ fold-same none orElse (λ j. fold none orElse (at (getD modes j 0)) pairs) (λ j. fault (getD modes j 0)) (length modes)
+      let at = unclearIn pic in
+      let fault = unclearFault pic in
+      first-fold (λ i. at (getD modes (i / pairs pic) 0) (i % pairs pic)) (length modes * pairs pic)
+      ∙ fold-grid none orElse orElse-chains (λ j. at (getD modes j 0)) (pairs pic) (length modes)
+      ∙ fold-same none orElse (λ j. fold none orElse (at (getD modes j 0)) (pairs pic)) (λ j. fault (getD modes j 0)) (length modes)
       (λ j l. mode-first (getD modes j 0))
-      ∙ fold-select none orElse orElse-chains (used arrows) fault 8
-      ∙ fold-same none orElse (λ m. cond (used arrows m) (fault m) none) fault 8 (λ m l. only-used m (used arrows m) refl)
+      ∙ fold-select none orElse orElse-chains (used (pic .arrows)) fault 8
+      ∙ fold-same none orElse (λ m. cond (used (pic .arrows) m) (fault m) none) fault 8 (λ m l. only-used m (used (pic .arrows) m) refl)
       ∙ sym (first-fold fault 8)
-      ∙ sym (any-unclear boxes rows arrows)
+      ∙ sym (any-unclear pic)
+
+  -- so what was seen in all rows says the last line
+  seen-all : seenBefore pic (rowStart pic (lineRows pic)) ≡ verdictOf (anyUnclear pic)
+  unfolding seenBefore rowStart
+  seen-all =
+      let e : 1 + lineRows pic * length (files pic) - 1 ≡ pairLines pic = omega (arith, rows-lines pic) in
+      rw (e, unclear-whole)
 
   abbrev at : ℕ → List ℕ
-  at k = lineText (lineAt boxes rows arrows k)
+  at k = lineText (lineAt pic k)
 
-  pairs-numbered : joined (λ p. at (1 + p)) (pairLines boxes rows arrows) ≡ joined (modeText boxes rows arrows) 8
+  pairs-numbered : joined (λ p. at (1 + p)) (pairLines pic) ≡ joined (modeText pic) 8
   pairs-numbered =
-      joined-same (λ p. at (1 + p)) (λ i. textOf (modeOf boxes rows arrows i) (pairOf boxes rows arrows i)) (pairLines boxes rows arrows)
-      (λ p l. let e : 1 + p ≡ p + 1 = omega arith in ap at e ∙ ap lineText (line-pair boxes rows arrows p l))
+      joined-same (λ p. at (1 + p)) (λ i. textOf (modeOf pic i) (pairOf pic i)) (pairLines pic)
+      (λ p l. let e : 1 + p ≡ p + 1 = omega arith in ap at e ∙ ap lineText (line-pair pic p l))
       ∙ pairs-whole
 
-  last-numbered : at (1 + (pairLines boxes rows arrows + 0)) ≡ lineText (Last (verdictOf (anyUnclear boxes rows arrows)))
-  unfolding seenBefore
-  last-numbered =
-      let n = pairLines boxes rows arrows in
-      let e : min (1 + (n + 0) - 1) n ≡ n = omega arith in
-      ap lineText (line-last boxes rows arrows (1 + (n + 0)) (omega arith))
-      ∙ ap (λ (k : ℕ). lineText (Last (verdictOf (first (unclearOf boxes rows arrows) k)))) e
-      ∙ ap (λ (o : Option Refusal). lineText (Last (verdictOf o))) unclear-whole
+  last-numbered : at (1 + (pairLines pic + 0)) ≡ lineText (Last (verdictOf (anyUnclear pic)))
+  last-numbered = ap lineText (line-last pic (1 + (pairLines pic + 0)) (omega arith))
 
   -- all lines by number are the listing
-  pub picture-whole : linesFrom (lineAt boxes rows arrows) 0 (lineCount boxes rows arrows) ≡ pictureListing boxes rows arrows
+  pub picture-whole : linesFrom (lineAt pic) 0 (lineCount pic) ≡ pictureListing pic
   unfolding linesFrom lineCount lineAt pictureListing
   picture-whole =
-      let n = pairLines boxes rows arrows in
+      let n = pairLines pic in
       let two : n + 2 ≡ 1 + (n + 1) = omega arith in
       joined-same (λ k. at (0 + k)) at (n + 2) (λ k l. ap at (zero-add k))
       ∙ ap (λ (k : ℕ). joined at k) two
       ∙ joined-add at 1 (n + 1)
       ∙ ap₂ _++_ (joined-one at)
       (joined-add (λ p. at (1 + p)) n 1 ∙ ap₂ _++_ pairs-numbered (joined-one (λ p. at (1 + (n + p))) ∙ last-numbered))
+
+-- after the last row: the last line, and how many lines there are with it
+pub last-is : {pic : Picture} {p : Place} → Stands pic p → p .row ≡ lineRows pic
+    → (Last (p .seen) ≡ lineAt pic (p .line)) × (p .line + 1 ≡ lineCount pic)
+unfolding lineCount rowStart
+last-is {pic} {p} s e =
+    let end : p .line ≡ 1 + lineRows pic * length (files pic) = s .line-is ∙ rw e in
+    let lines = rows-lines pic in
+    (rw (s .seen-are, s .line-is, e, seen-all pic) (sym (line-last pic (rowStart pic (lineRows pic)) (omega arith))), omega arith)

@@ -7,16 +7,16 @@ use Prim.Native.String.{String}
 use lib.ListN.{length}
 use Rattle.base.specs.Search.{orElse, given, first, lowest, every, select}
 use Rattle.base.specs.Buffers.{zeros}
-use Rattle.tables.specs.Rows.{sideOf, isGroup, onSide}
+use Rattle.tables.specs.Rows.{Picture, sideOf, isGroup, onSide}
 use Rattle.tables.specs.Atoms.{outer, atom, atoms, pairCount}
 use Rattle.tables.specs.Faults.{raggedFault, countFault, byteFault, namesNoBox, acrossSides, wrongEnds, wrongMode}
 use Rattle.tables.specs.Faults.{rowFault, tableFault, roomFault}
 use Rattle.containment.specs.Contains.{contains, around, loopFault}
 use Rattle.containment.specs.Scratch.{scratchFault, earlyFault, pictureFault}
-use Rattle.answers.specs.Cases.{Picture, picture-A, picture-B, picture-C, picture-D, picture-E, picture-F, picture-G}
-use Rattle.answers.specs.Cases.{picture-H, picture-I, picture-J, emptied-group, emptied-both, groups-left}
-use Rattle.answers.specs.Meaning.{hasMode, modeArrows, reaches, nests, level, overrides, settle, hits, certifies, answer, isUnclear}
-use Rattle.answers.specs.Pairs.{userAt, fileAt, firstPair, answerAt, unclearFault, anyUnclear}
+use Rattle.meaning.specs.Cases.{picture-A, picture-B, picture-C, picture-D, picture-E, picture-F, picture-G}
+use Rattle.meaning.specs.Cases.{picture-H, picture-I, picture-J, emptied-group, emptied-both, groups-left}
+use Rattle.meaning.specs.Meaning.{hasMode, modeArrows, reaches, nests, level, overrides, settle, hits, certifies, answer, isUnclear}
+use Rattle.meaning.specs.Pairs.{userAt, fileAt, firstPair, answerAt, unclearFault, anyUnclear}
 use Rattle.blocks.specs.Blocks.{joined}
 use Rattle.listing.specs.Text.{text, digit, decimalTo, decimal, line}
 use Rattle.listing.specs.Lines.{answerFields, threeFields, lineText}
@@ -25,9 +25,9 @@ use Rattle.listing.specs.Files.{refusedOr}
 
 -- the listing of a picture, with a scratch that suffices
 unfoldable pub listingOf : Picture → List ℕ
-listingOf p =
-    let n = length (p .boxes) in
-    refusedOr (pictureFault (p .boxes) (p .rows) (p .arrows) (zeros (n * n))) (pictureListing (p .boxes) (p .rows) (p .arrows))
+listingOf pic =
+    let n = length (pic .boxes) in
+    refusedOr (pictureFault pic (zeros (n * n))) (pictureListing pic)
 
 -- users 0 and 1, file 2; an arrow from 0 to 2 in mode 7
 unfoldable pub picture-default : Picture
@@ -61,7 +61,7 @@ unfolding listingOf table picture-A picture-B picture-C picture-D picture-E pict
 listings-right = refl
 
 -- the document's text for the picture of case B
-pub case-B : pictureListing (picture-B .boxes) (picture-B .rows) (picture-B .arrows)
+pub case-B : pictureListing picture-B
     ≡ text "boxes 4 containments 2 arrows 2\n0 0 3 pos 0\n0 1 3 neg 1\naccepted\n"
 unfolding picture-B text digit decimalTo decimal line answerFields threeFields lineText used countsLine pairLine modeText pictureListing
     joined orElse given first lowest every select sideOf isGroup onSide outer atom atoms pairCount contains around hasMode modeArrows reaches

@@ -4,6 +4,7 @@ use mathlib.Core.Option.{Option, none, some}
 use Prim.Native.Nat.{ℕ}
 use Rattle.base.specs.Buffers.{zeros}
 use Rattle.base.specs.Search.{orElse}
+use Rattle.tables.specs.Rows.{Picture, picture}
 use Rattle.tables.specs.declared.Refusal.{Refusal}
 use Rattle.containment.specs.Scratch.{pictureFault}
 use Rattle.blocks.specs.Files.{boxesOf, containmentsOf, arrowsOf}
@@ -12,13 +13,17 @@ use Rattle.listing.specs.Lines.{lineText}
 use Rattle.listing.specs.Listing.{pictureListing}
 use Rattle.listing.specs.declared.Line.the-variants.{Stopped}
 
+-- the picture that the file says
+unfoldable pub filePicture : List ℕ → Picture
+filePicture file = picture (boxesOf file) (containmentsOf file) (arrowsOf file)
+
 -- the refusal of the file, which is read into tables of 256, 2,048 and 2,048 places
 unfoldable pub readRefusal : List ℕ → Option Refusal
 readRefusal file = readFault file 256 2048 2048
 
 -- that of its picture, with 65,536 bytes of scratch: by any number but 12
 unfoldable pub pictureRefusal : List ℕ → Option Refusal
-pictureRefusal file = pictureFault (boxesOf file) (containmentsOf file) (arrowsOf file) (zeros 65536)
+pictureRefusal file = pictureFault (filePicture file) (zeros 65536)
 
 -- the refusal of the file or of its picture
 unfoldable pub fileRefusal : List ℕ → Option Refusal
@@ -31,4 +36,4 @@ refusedOr (some r) listing = lineText (Stopped r)
 
 -- the whole listing
 unfoldable pub fileListing : List ℕ → List ℕ
-fileListing file = refusedOr (fileRefusal file) (pictureListing (boxesOf file) (containmentsOf file) (arrowsOf file))
+fileListing file = refusedOr (fileRefusal file) (pictureListing (filePicture file))

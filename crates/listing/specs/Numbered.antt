@@ -3,21 +3,20 @@
 use mathlib.Core.Bool.{cond}
 use mathlib.Core.List.{List}
 use mathlib.Core.Option.{Option, none, some}
-use Prim.Native.Nat.{ℕ, zero, suc, _+_, _*_, _-_, _/_, _%_, min}
+use Prim.Native.Nat.{ℕ, zero, suc, _+_, _*_, _-_, _/_, _%_}
 use lib.Dec.{ltb}
 use lib.ListN.{length, getD}
 use Rattle.base.specs.Search.{select, first, given}
-use Rattle.tables.specs.Atoms.{pairCount}
+use Rattle.tables.specs.Rows.{Picture}
 use Rattle.tables.specs.Refusals.{verdictOf, unclearPair}
 use Rattle.tables.specs.declared.Refusal.{Refusal}
 use Rattle.tables.specs.declared.Verdict.{Verdict}
-use Rattle.answers.specs.Meaning.{isUnclear}
-use Rattle.answers.specs.Pairs.{userAt, fileAt, answerAt}
+use Rattle.meaning.specs.Meaning.{isUnclear}
+use Rattle.meaning.specs.Pairs.{users, files, pairs, userAt, fileAt, answerAt, anyUnclear}
 use Rattle.blocks.specs.Blocks.{joined}
-use Rattle.blocks.specs.Files.{boxesOf, containmentsOf, arrowsOf}
 use Rattle.listing.specs.Lines.{lineText}
 use Rattle.listing.specs.Listing.{used, countsLine, pairLine}
-use Rattle.listing.specs.Files.{fileRefusal}
+use Rattle.listing.specs.Files.{filePicture, fileRefusal}
 use Rattle.listing.specs.declared.Line.{Line}
 use Rattle.listing.specs.declared.Line.the-variants.{Last, Stopped}
 
@@ -25,36 +24,44 @@ use Rattle.listing.specs.declared.Line.the-variants.{Last, Stopped}
 unfoldable pub usedModes : List ℕ → List ℕ
 usedModes arrows = select (used arrows) 8
 
-module _ (boxes rows arrows : List ℕ) where
+module _ (pic : Picture) where
   -- how many pair lines there are: one for each mode with an arrow and each pair
   unfoldable pub pairLines : ℕ
-  pairLines = length (usedModes arrows) * pairCount boxes rows
+  pairLines = length (usedModes (pic .arrows)) * pairs pic
 
   -- the mode and the pair of pair line i
   unfoldable pub modeOf : ℕ → ℕ
-  modeOf i = getD (usedModes arrows) (i / pairCount boxes rows) 0
+  modeOf i = getD (usedModes (pic .arrows)) (i / pairs pic) 0
 
   unfoldable pub pairOf : ℕ → ℕ
-  pairOf i = i % pairCount boxes rows
+  pairOf i = i % pairs pic
 
   -- mode, user and file of the pair at place p, where it is unclear in mode m
   unfoldable pub unclearIn : ℕ → ℕ → Option Refusal
-  unclearIn m p = given (isUnclear (answerAt boxes rows arrows m p)) (unclearPair m (userAt boxes rows p) (fileAt boxes rows p))
+  unclearIn m p = given (isUnclear (answerAt pic m p)) (unclearPair m (userAt pic p) (fileAt pic p))
 
   unfoldable pub unclearOf : ℕ → Option Refusal
   unclearOf i = unclearIn (modeOf i) (pairOf i)
 
-  -- the first unclear pair of the lines before line n
+  -- the first unclear pair of the lines before line n, which is a pair line or the last
   unfoldable pub seenBefore : ℕ → Verdict
-  seenBefore n = verdictOf (first unclearOf (min (n - 1) pairLines))
+  seenBefore n = verdictOf (first unclearOf (n - 1))
 
   -- the lines: the counts, the pair lines, the last line
   unfoldable pub lineCount : ℕ
   lineCount = pairLines + 2
 
   unfoldable pub lineAt : ℕ → Line
-  lineAt zero = countsLine boxes rows arrows
-  lineAt (suc i) = cond (ltb i pairLines) (pairLine boxes rows arrows (modeOf i) (pairOf i)) (Last (seenBefore (suc i)))
+  lineAt zero = countsLine pic
+  lineAt (suc i) = cond (ltb i pairLines) (pairLine pic (modeOf i) (pairOf i)) (Last (verdictOf (anyUnclear pic)))
+
+  -- how many rows there are: the pair lines of one mode and one user are a row, by rising file
+  unfoldable pub lineRows : ℕ
+  lineRows = length (usedModes (pic .arrows)) * length (users pic)
+
+  -- the first line of row r
+  unfoldable pub rowStart : ℕ → ℕ
+  rowStart r = 1 + r * length (files pic)
 
 -- n of the lines from line `from` on
 unfoldable pub linesFrom : (ℕ → Line) → ℕ → ℕ → List ℕ
@@ -70,7 +77,7 @@ oneOr none n = n
 oneOr (some r) n = 1
 
 unfoldable pub fileLineCount : List ℕ → ℕ
-fileLineCount file = oneOr (fileRefusal file) (lineCount (boxesOf file) (containmentsOf file) (arrowsOf file))
+fileLineCount file = oneOr (fileRefusal file) (lineCount (filePicture file))
 
 unfoldable pub fileLine : List ℕ → ℕ → Line
-fileLine file i = stoppedOr (fileRefusal file) (lineAt (boxesOf file) (containmentsOf file) (arrowsOf file) i)
+fileLine file i = stoppedOr (fileRefusal file) (lineAt (filePicture file) i)

@@ -1,22 +1,22 @@
 // The program's listing as bytes (document 01, "The program's listing"): which lines there are, and how they are written into a
 // buffer that the caller lends.
 mod put;
+mod row;
 
 ghost use mathlib.Core.Path.{_≡_};
-ghost use mathlib.Core.List.{List};
-ghost use Prim.Native.Nat.{ℕ, _+_, _*_, _<_, _≤_};
+ghost use Prim.Native.Nat.{_+_, _*_, _<_, _≤_};
 ghost use lib.ListN.{length};
-ghost use Rattle.io.specs.Counts.{Counts};
-ghost use Rattle.tables.specs.Rows.{arrowCount};
 ghost use Rattle.base.specs.Buffers.{written};
-ghost use Rattle.answers.specs.Table.{Tabled};
+ghost use Rattle.tables.specs.Refusals.{either};
+ghost use Rattle.tables.specs.Rows.{Picture};
 ghost use Rattle.listing.specs.Lines.{lineText};
 ghost use Rattle.listing.specs.Listing.{used};
-ghost use Rattle.listing.specs.Numbered.{usedModes, pairLines, lineCount};
-ghost use Rattle.listing.specs.Steps.{Stands, Tells, Filled};
-use answers::Entry;
-use base::wide;
+ghost use Rattle.listing.specs.Numbered.{usedModes};
+ghost use Rattle.listing.specs.Steps.{Holds, Sized, Fits, Ready, Stands, Filled};
+use meaning::Entry;
 use put::put_line;
+use row::put_row;
+use tables::Arrow;
 use tables::Refusal;
 use tables::Verdict;
 
@@ -37,55 +37,91 @@ impl Line {
     pub const MOST: usize = 111;
 }
 
-// The line of a refused file or picture, at the start of the buffer, and its length.
-pub fn stopped(r: Refusal, out: &mut [u8]) -> usize
+// ---- The lines that are no pair lines, each alone at the start of the buffer: its length.
+
+fn put_alone(l: Line, out: &mut [u8]) -> usize
     requires { ⌜ 111 ≤ length (now out) ⌝ }
-    ensures { λ e. ⌜ e ≡ length (lineText (Line.Stopped r)) ⌝ }
-    ensures { λ e. ⌜ Counts e (now (out .exit)) ⌝ }
-    ensures { λ _. ⌜ now (out .exit) ≡ written (lineText (Line.Stopped r)) (now (out .entry)) ⌝ }
+    ensures { λ n. ⌜ Holds (lineText l) (now (out .entry)) (now (out .exit)) n ⌝ }
 {
-    put_line(out, 0, Line::Stopped(r))
+    put_line(out, 0, l)
 }
 
-// ---- The lines of a picture, by number.
+// The first line, by the counts of rows.
+pub fn counts_line(boxes: usize, rows: usize, arrows: usize, out: &mut [u8]) -> usize
+    requires { ⌜ 111 ≤ length (now out) ⌝ }
+    ensures { λ n. ⌜ Holds (lineText (Line.Counts boxes rows arrows)) (now (out .entry)) (now (out .exit)) n ⌝ }
+{
+    put_alone(Line::Counts(boxes, rows, arrows), out)
+}
 
-// A place among the lines of a picture: the modes with an arrow, rising, and how many; the next line; and the first unclear pair of
-// the lines before it, so that no pair is answered again for the last line.
+// The last line, by the first unclear pair.
+pub fn last_line(seen: Verdict, out: &mut [u8]) -> usize
+    requires { ⌜ 111 ≤ length (now out) ⌝ }
+    ensures { λ n. ⌜ Holds (lineText (Line.Last seen)) (now (out .entry)) (now (out .exit)) n ⌝ }
+{
+    put_alone(Line::Last(seen), out)
+}
+
+// The line of a refused file or picture.
+pub fn stopped(r: Refusal, out: &mut [u8]) -> usize
+    requires { ⌜ 111 ≤ length (now out) ⌝ }
+    ensures { λ n. ⌜ Holds (lineText (Line.Stopped r)) (now (out .entry)) (now (out .exit)) n ⌝ }
+{
+    put_alone(Line::Stopped(r), out)
+}
+
+// ---- The pair lines, row by row: a row is the lines of one mode and one user.
+
+// A place among the rows: the modes with an arrow, rising, and how many; the next row and the number of its first line; and the first
+// unclear pair of the rows before it, so that no pair is answered again for the last line.
 pub struct Place {
     pub modes: [u16; 8],
     pub used: usize,
+    pub row: usize,
     pub line: usize,
     pub seen: Verdict,
 }
 
 impl Place {
-    // The next place, by the first unclear pair up to there.
-    fn after(self, seen: Verdict) -> Self
-        requires { ⌜ self .line < 1000000 ⌝ }
-        ensures { λ r. ⌜ r ≡ record { modes = self .modes; used = self .used; line = self .line + 1; seen = seen } ⌝ }
+    // The place after a row of so many lines, by the row's first unclear pair.
+    fn after(self, lines: usize, unclear: Verdict) -> Self
+        requires { ⌜ (self .row < 65536) × (self .line < 1000000) × (lines ≤ 256) ⌝ }
+        ensures { λ r. ⌜ r ≡ record {
+          modes = self .modes;
+          used = self .used;
+          row = self .row + 1;
+          line = self .line + lines;
+          seen = either (self .seen) unclear;
+        } ⌝ }
     {
         let modes = self.modes;
+        let seen = self.seen;
         Self {
             modes,
             used: self.used,
-            line: self.line + 1,
-            seen,
+            row: self.row + 1,
+            line: self.line + lines,
+            seen: seen.or_else(unclear),
         }
     }
 }
 
 // Whether the mode has an arrow.
 fn is_used(arrows: &[u16], mode: u16) -> bool
-    requires { ⌜ arrowCount (now arrows) ≤ 512 ⌝ }
     ensures { λ r. ⌜ r ≡ used (now (arrows .entry)) mode ⌝ }
 {
-    let mut numbers = answers::no_numbers();
-    0 < answers::mode_arrows(arrows, mode, &mut numbers)
+    for k in 0..arrows.len() / 4 {
+        let a = Arrow::at(arrows, k);
+        if a.mode == mode {
+            return true;
+        }
+    }
+    false
 }
 
 // Writes the modes with an arrow, rising, and answers how many.
 fn used_modes(arrows: &[u16], out: &mut [u16]) -> usize
-    requires { ⌜ (arrowCount (now arrows) ≤ 512) × (8 ≤ length (now out)) ⌝ }
+    requires { ⌜ 8 ≤ length (now out) ⌝ }
     ensures { λ r. ⌜ r ≡ length (usedModes (now (arrows .entry))) ⌝ }
     ensures { λ _. ⌜ now (out .exit) ≡ written (usedModes (now (arrows .entry))) (now (out .entry)) ⌝ }
 {
@@ -99,129 +135,66 @@ fn used_modes(arrows: &[u16], out: &mut [u16]) -> usize
     count
 }
 
-// The first place.
+// The first row, whose first line is behind the counts.
 pub fn start(arrows: &[u16]) -> Place
-    requires { ⌜ arrowCount (now arrows) ≤ 512 ⌝ }
-    ensures { λ r. ⌜ r .line ≡ 0 ⌝ }
-    ensures { λ r. ⌜ ((boxes rows : List ℕ) → Stands boxes rows (now (arrows .entry)) r) ⌝ }
+    ensures { λ r. ⌜ ((pic : Picture) → now (arrows .entry) ≡ pic .arrows → Stands pic r) ⌝ }
 {
     let mut modes = [0u16; 8];
     let used = used_modes(arrows, &mut modes);
     Place {
         modes,
         used,
-        line: 0,
+        row: 0,
+        line: 1,
         seen: Verdict::Passed,
     }
 }
 
-// A line, and the first unclear pair up to and with it.
-struct Told {
-    line: Line,
-    seen: Verdict,
-}
-
-// The pair line at a place.
-fn pair_line(
-    boxes: &[u8],
-    rows: &[u16],
-    arrows: &[u16],
-    users: &[u16],
-    files: &[u16],
-    table: &[u64],
-    place: Place,
-) -> Told
-    requires { ⌜ Tabled (now boxes) (now rows) (now arrows) (now users) (now files) (now table) ⌝ }
-    requires { ⌜ Stands (now boxes) (now rows) (now arrows) place ⌝ }
-    requires { ⌜ (0 < place .line) × (place .line ≤ pairLines (now boxes) (now rows) (now arrows)) ⌝ }
-    ensures { λ r. ⌜ Tells (now (boxes .entry)) (now (rows .entry)) (now (arrows .entry)) (place .line) r ⌝ }
+// How many rows there are.
+pub fn row_count(users: &[u16], place: Place) -> usize
+    requires { ⌜ (length (now users) ≤ 256) × (place .used ≤ 8) ⌝ }
+    ensures { λ r. ⌜ r ≡ place .used * length (now (users .entry)) ⌝ }
 {
-    let pairs = users.len() * files.len();
-    let i = place.line - 1;
-    let j = i / pairs;
-    let mode = place.modes[j];
-    let p = i % pairs;
-    let e = answers::answer_at(boxes, rows, arrows, users, files, table, mode, p);
-    let pair = answers::pair_at(boxes, rows, users, files, p);
-    let unclear = Verdict::refused_if(
-        answers::is_unclear(e),
-        12,
-        wide(mode),
-        wide(pair.user),
-        wide(pair.file),
-    );
-    Told {
-        line: Line::Pair(mode, pair.user, pair.file, e),
-        seen: place.seen.or_else(unclear),
-    }
+    place.used * users.len()
 }
 
-// The line at a place: the counts, a pair line, or the last line.
-fn line_at(
-    boxes: &[u8],
-    rows: &[u16],
-    arrows: &[u16],
-    users: &[u16],
-    files: &[u16],
-    table: &[u64],
-    place: Place,
-) -> Told
-    requires { ⌜ Tabled (now boxes) (now rows) (now arrows) (now users) (now files) (now table) ⌝ }
-    requires { ⌜ Stands (now boxes) (now rows) (now arrows) place ⌝ }
-    ensures { λ r. ⌜ Tells (now (boxes .entry)) (now (rows .entry)) (now (arrows .entry)) (place .line) r ⌝ }
-{
-    let seen = place.seen;
-    if place.line == 0 {
-        let line = Line::Counts(boxes.len(), rows.len() / 2, arrows.len() / 4);
-        return Told { line, seen };
-    }
-    if place.line <= place.used * (users.len() * files.len()) {
-        return pair_line(boxes, rows, arrows, users, files, table, place);
-    }
-    let line = Line::Last(seen);
-    Told { line, seen }
+// The place in the buffer after a row, and the row's first unclear pair.
+pub struct Told {
+    pub next: usize,
+    pub unclear: Verdict,
 }
 
-// How many lines there are.
-pub fn line_count(users: &[u16], files: &[u16], place: Place) -> usize
-    requires { ⌜ (length (now users) * length (now files) ≤ 65536) × (place .used ≤ 8) ⌝ }
-    ensures { λ r. ⌜ r ≡ place .used * (length (now (users .entry)) * length (now (files .entry))) + 2 ⌝ }
-{
-    place.used * (users.len() * files.len()) + 2
-}
-
-// So many bytes are whole lines, and the place after them.
+// So many bytes are whole rows, and the place after them.
 pub struct Chunk {
     pub bytes: usize,
     pub next: Place,
 }
 
-// Puts as many whole lines as are sure to fit at the start of the buffer, from a place on.
+// Puts as many whole rows as are sure to fit at the start of the buffer, from a place on.
 pub fn fill(
-    boxes: &[u8],
-    rows: &[u16],
+    closure: &[u64],
     arrows: &[u16],
     users: &[u16],
     files: &[u16],
-    table: &[u64],
     from: Place,
     out: &mut [u8],
 ) -> Chunk
-    requires { ⌜ Tabled (now boxes) (now rows) (now arrows) (now users) (now files) (now table) ⌝ }
-    requires { ⌜ Stands (now boxes) (now rows) (now arrows) from × (111 ≤ length (now out)) ⌝ }
-    ensures { λ r. ⌜ Filled (now (boxes .entry)) (now (rows .entry)) (now (arrows .entry)) (from .line)
-        (now (out .entry)) (now (out .exit)) r ⌝ }
+    requires { ⌜ Sized (now closure) (now arrows) (now users) (now files) × Fits (now users) (now files) from ⌝ }
+    requires { ⌜ length (now files) * 111 ≤ length (now out) ⌝ }
+    ensures { λ r. ⌜ ((pic : Picture) → Ready pic (now (closure .entry)) (now (arrows .entry)) (now (users .entry)) (now (files .entry))
+        → Stands pic from → Filled pic from (now (out .entry)) (now (out .exit)) r) ⌝ }
 {
-    let count = line_count(users, files, from);
-    let most = out.len() - Line::MOST;
+    let count = row_count(users, from);
+    let most = out.len() - files.len() * Line::MOST;
     let mut at = 0;
     let mut place = from;
-    while place.line < count && at <= most {
-        let told = line_at(boxes, rows, arrows, users, files, table, place);
-        let line = told.line;
-        at = put_line(out, at, line);
-        let seen = told.seen;
-        place = place.after(seen);
+    while place.row < count && at <= most {
+        let mode = place.modes[place.row / users.len()];
+        let user = users[place.row % users.len()];
+        let told = put_row(closure, arrows, mode, user, files, out, at);
+        at = told.next;
+        let unclear = told.unclear;
+        place = place.after(files.len(), unclear);
     }
     Chunk {
         bytes: at,

@@ -6,8 +6,8 @@ ghost use Rattle.listing.specs.Text.{text, decimal, line};
 ghost use Rattle.listing.specs.Lines.{answerFields, threeFields, lineText};
 ghost use Rattle.listing.specs.Steps.{Put};
 use super::Line;
-use answers::Entry;
 use base::wide;
+use meaning::Entry;
 use tables::Refusal;
 use tables::Verdict;
 

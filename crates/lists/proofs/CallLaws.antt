@@ -1,108 +1,150 @@
 -- What the call answers and leaves, stage by stage. Assumes nothing.
 use mathlib.Core.Path.{_≡_, refl, sym, ap, _∙_}
-use mathlib.Core.List.{List, []}
-use mathlib.Core.Option.{none, some}
-use Prim.Native.Nat.{ℕ, _≤_}
+use mathlib.Core.List.{List}
+use mathlib.Core.Option.{Option, none, some}
+use Prim.Native.Nat.{ℕ, _*_, _<_, _≤_}
 use native.Mathlib.Omega.{arith}
-use lib.ListN.{length, take, length-replicate}
+use lib.ListN.{length, length-replicate}
+use Rattle.base.specs.Search.{orElse}
 use Rattle.base.specs.Buffers.{written, zeros}
-use Rattle.tables.specs.Atoms.{pairCount}
+use Rattle.base.proofs.Options.{past, stop, orElse-assoc}
+use Rattle.base.proofs.BufferLaws.{written-over}
+use Rattle.tables.specs.Rows.{Picture}
+use Rattle.tables.specs.Refusals.{verdictOf, either}
+use Rattle.tables.specs.Faults.{tableFault, modeFault, roomFault}
 use Rattle.tables.specs.declared.Refusal.{Refusal}
-use Rattle.answers.specs.Meaning.{modeArrows}
-use Rattle.answers.specs.Pairs.{unclearFault}
+use Rattle.tables.proofs.Verdicts.{either-verdict}
+use Rattle.tables.proofs.TableLaws.{both-none, mode-passed, room-passed}
+use Rattle.containment.specs.Scratch.{scratchFault, scratchAfter}
+use Rattle.containment.specs.Contains.{loopFault}
+use Rattle.containment.proofs.ScratchLaws.{scratch-room}
+use Rattle.meaning.specs.Pairs.{pairs, unclearFault}
 use Rattle.lists.specs.Greedy.{greedy, orderFault}
-use Rattle.lists.specs.Calls.{blanks, listRoom, listedOf, placesOf, listAnswer, listAfter, workAfter}
-use Rattle.lists.specs.Steps.{Listing, leftIn, workOf, Ordered}
+use Rattle.lists.specs.Calls.{blanks, listRoom, listEarly, listBefore, listedOf, placesOf, listAnswer, listAfter, workAfter}
+use Rattle.lists.specs.Steps.{Listing}
 use Rattle.lists.specs.declared.Listed.{Listed}
 use Rattle.lists.specs.declared.Listed.the-variants.{Written, Refused}
-use Rattle.base.proofs.PartLaws.{part-is}
-use Rattle.base.proofs.BufferLaws.{zeros-length}
-use Rattle.base.proofs.Options.{past, stop}
+use Rattle.lists.proofs.GreedyLaws.{mode-room}
 use Rattle.lists.proofs.NextLaws.{greedy-grown}
-use Rattle.lists.proofs.GrowLaws.{written-over, work-length, left-by, own-room}
 
-module _ (boxes rows arrows : List ℕ) (m : ℕ) where
+module _ (pic : Picture) (m : ℕ) where
   -- what is answered and left by the list places, where checks 1 to 12 found nothing
   abbrev pub Answered : Listed → List ℕ → List ℕ → Type 0
-  Answered r out out′ = (r ≡ listAnswer boxes rows arrows m none) × (out′ ≡ listAfter boxes rows arrows m none out)
+  Answered r out out′ = (r ≡ listAnswer pic m none) × (out′ ≡ listAfter pic m none out)
 
   -- there is a list, or 13 is said
-  pub answered-list : orderFault boxes rows arrows m ≡ none → (out : List ℕ)
-      → Answered (Written (length (greedy boxes rows arrows m))) out (written (greedy boxes rows arrows m) out)
+  pub answered-list : orderFault pic m ≡ none → (out : List ℕ) → Answered (Written (length (greedy pic m))) out (written (greedy pic m) out)
   unfolding listAnswer listedOf listAfter placesOf
   answered-list e out = (rw (past none _ refl, e), rw e)
 
-  pub answered-none : (x : Refusal) → orderFault boxes rows arrows m ≡ some x → (out : List ℕ)
-      → Answered (Refused x) out (written (blanks (listRoom boxes rows arrows m)) out)
+  pub answered-none : (x : Refusal) → orderFault pic m ≡ some x → (out : List ℕ)
+      → Answered (Refused x) out (written (blanks (listRoom pic m)) out)
   unfolding listAnswer listedOf listAfter placesOf
   answered-none x e out = (rw (past none _ refl, e), rw e)
 
-module _ (boxes rows arrows : List ℕ) (m : ℕ) (out work : List ℕ) (count : ℕ) (out′ work′ : List ℕ)
-    (o : Ordered boxes rows arrows m out work count out′ work′) where
-  -- what the work bytes leave is refusal 13
-  left-order : leftIn boxes rows m work′ ≡ orderFault boxes rows arrows m
-  unfolding orderFault
-  left-order = ap (leftIn boxes rows m) (o .shown) ∙ left-by boxes rows arrows m (greedy boxes rows arrows m) work
+  -- ---- checks 1 to 9
 
+  module _ (s out work : List ℕ) where
+    -- checks 8 and 9, one after the other
+    pub asked-is : either (either (either (verdictOf (modeFault m)) (verdictOf (scratchFault (length (pic .boxes)) s)))
+        (verdictOf (roomFault 3 (length out) (listRoom pic m)))) (verdictOf (roomFault 4 (length work) (pairs pic)))
+        ≡ verdictOf (orElse (modeFault m) (orElse (scratchFault (length (pic .boxes)) s)
+        (orElse (roomFault 3 (length out) (listRoom pic m)) (roomFault 4 (length work) (pairs pic)))))
+    asked-is = simp (either-verdict, orElse-assoc)
+
+    -- where they pass, the mode is one and there is room
+    pub record Rooms : Type 0 where
+      pub no-fault : tableFault pic ≡ none
+      pub mode-few : m < 8
+      pub scratch-room : length (pic .boxes) * length (pic .boxes) ≤ length s
+      pub out-room : listRoom pic m ≤ length out
+      pub work-room : pairs pic ≤ length work
+
+    pub rooms : listEarly pic m s out work ≡ none → Rooms
+    unfolding listEarly
+    rooms e =
+        let t = both-none (tableFault pic) _ e in
+        let a = both-none (modeFault m) _ (t .1) in
+        let b = both-none (scratchFault (length (pic .boxes)) s) _ (a .1) in
+        let c = both-none (roomFault 3 (length out) (listRoom pic m)) _ (b .1) in
+        record {
+          no-fault = t .0;
+          mode-few = mode-passed m (a .0);
+          scratch-room = scratch-room (length (pic .boxes)) s (b .0);
+          out-room = room-passed 3 (length out) (listRoom pic m) (c .0);
+          work-room = room-passed 4 (length work) (pairs pic) (c .1);
+        }
+
+-- ---- check 13
+
+module _ (pic : Picture) (m : ℕ) (count : ℕ) (out old : List ℕ) (counted : count ≡ length (greedy pic m)) (listed : out ≡ written (greedy pic m) old) where
   -- nothing is left: the list is the answer
-  pub finish-written : leftIn boxes rows m work′ ≡ none → Answered boxes rows arrows m (Written count) out out′
-  finish-written e = rw (o .counted, o .listed) (answered-list boxes rows arrows m (sym left-order ∙ e) out)
+  pub finish-written : orderFault pic m ≡ none → Answered pic m (Written count) old out
+  finish-written e = rw (counted, listed) (answered-list pic m e old)
 
   -- a pair is left: 65,535 in each needed place
-  pub finish-refused : (own : List ℕ) → own ≡ modeArrows arrows m → length own ≤ length out
-      → (x : Refusal) → leftIn boxes rows m work′ ≡ some x
-      → Answered boxes rows arrows m (Refused x) out (written (blanks (length own)) out′)
+  pub finish-refused : (x : Refusal) → orderFault pic m ≡ some x → (need : ℕ) → need ≡ listRoom pic m → need ≤ length old
+      → Answered pic m (Refused x) old (written (blanks need) out)
   unfolding blanks
-  finish-refused own own-are out-room x e =
-      let n : length (blanks (length own)) ≡ length own = length-replicate {A = ℕ} (length own) 65535 in
-      let short = own-room boxes rows arrows m own own-are (greedy boxes rows arrows m) (greedy-grown boxes rows arrows m) in
-      let a = answered-none boxes rows arrows m x (sym left-order ∙ e) out in (
+  finish-refused x e need is room =
+      let n : length (blanks need) ≡ need = length-replicate {A = ℕ} need 65535 in
+      let short = mode-room pic m (greedy pic m) (greedy-grown pic m) in
+      let a = answered-none pic m x e old in (
         a .0,
-        ap (written (blanks (length own))) (o .listed)
-            ∙ written-over (blanks (length own)) (greedy boxes rows arrows m) out (omega (arith, short)) (omega arith)
-            ∙ ap (λ (l : List ℕ). written (blanks (length l)) out) own-are
+        ap (written (blanks need)) listed
+            ∙ written-over (blanks need) (greedy pic m) old (omega (arith, short)) (omega arith)
+            ∙ ap (λ (k : ℕ). written (blanks k) old) is
             ∙ a .1,
       )
 
-  pub finish-work : {n : ℕ} → n ≡ pairCount boxes rows → pairCount boxes rows ≤ length work
-      → written (zeros n) work′ ≡ written (zeros (pairCount boxes rows)) work
-  finish-work e h =
-      ap (λ (k : ℕ). written (zeros k) work′) e
-      ∙ ap (written (zeros (pairCount boxes rows))) (o .shown)
-      ∙ written-over (zeros (pairCount boxes rows)) (workOf boxes rows arrows m (greedy boxes rows arrows m)) work
-      (omega (arith, work-length boxes rows arrows m (greedy boxes rows arrows m), zeros-length (pairCount boxes rows))) (omega (arith, zeros-length (pairCount boxes rows)))
+-- ---- once checks 1 to 10 have passed
 
-module _ (boxes rows arrows : List ℕ) (m : ℕ) (out work : List ℕ) where
+module _ (pic : Picture) (m : ℕ) (out work : List ℕ) where
   -- check 12 refuses
-  pub listing-refused : (x : Refusal) → unclearFault boxes rows arrows m ≡ some x → Listing boxes rows arrows m out work (Refused x) out work
+  pub listing-refused : (x : Refusal) → unclearFault pic m ≡ some x → Listing pic m out work (Refused x) out work
   unfolding listAnswer listedOf listAfter workAfter
   listing-refused x e = record { answered = rw (e, stop (some x) _ refl); list-after = rw e; work-after = rw e }
 
-  -- the bytes of the empty list are copied
-  pub copied : (bytes old : List ℕ) (n : ℕ) → n ≡ pairCount boxes rows → bytes ≡ written (workOf boxes rows arrows m []) old
-      → written (take n bytes) work ≡ written (workOf boxes rows arrows m []) work
-  copied bytes old n e w =
-      ap (λ (l : List ℕ). written l work) (part-is (workOf boxes rows arrows m []) old n bytes (e ∙ sym (work-length boxes rows arrows m []), w))
+  -- it passes
+  pub listing-done : unclearFault pic m ≡ none → (r : Listed) (out′ work′ : List ℕ) → Answered pic m r out out′
+      → work′ ≡ written (zeros (pairs pic)) work → Listing pic m out work r out′ work′
+  unfolding workAfter
+  listing-done e r out′ work′ a w = record { answered = rw e (a .0); list-after = rw e (a .1); work-after = rw e w }
 
-  module _ (h : pairCount boxes rows ≤ length work) (work₁ : List ℕ) (e : work₁ ≡ written (workOf boxes rows arrows m []) work) where
-    fits : length (workOf boxes rows arrows m []) ≤ length work
-    fits = omega (arith, work-length boxes rows arrows m [])
+-- ---- how the call ends
 
-    pub copied-again : work₁ ≡ written (workOf boxes rows arrows m []) work₁
-    copied-again =
-        e ∙ sym (ap (written (workOf boxes rows arrows m [])) e ∙ written-over (workOf boxes rows arrows m []) (workOf boxes rows arrows m []) work (omega arith) fits)
+module _ (pic : Picture) (m : ℕ) (s out work : List ℕ) where
+  abbrev early : Option Refusal
+  early = listEarly pic m s out work
 
-    pub listing-done : unclearFault boxes rows arrows m ≡ none → (r : Listed) (out′ work′ : List ℕ)
-        → Answered boxes rows arrows m r out out′
-        → work′ ≡ written (zeros (pairCount boxes rows)) work₁ → Listing boxes rows arrows m out work r out′ work′
-    unfolding workAfter
-    listing-done u r out′ work′ a z = record {
-      answered = rw u (a .0);
-      list-after = rw u (a .1);
-      work-after =
-          rw u
-          (z
-          ∙ rw e
-          (written-over (zeros (pairCount boxes rows)) (workOf boxes rows arrows m []) work
-          (omega (arith, work-length boxes rows arrows m [], zeros-length (pairCount boxes rows))) (omega (arith, zeros-length (pairCount boxes rows)))));
-    }
+  -- checks 1 to 10
+  abbrev pub tenFault : Option Refusal
+  tenFault = orElse early (loopFault (pic .boxes) (pic .rows))
+
+  -- what the call answers, and the scratch, the list places and the work bytes at the end
+  abbrev pub ListEnds : Listed → List ℕ → List ℕ → List ℕ → Type 0
+  ListEnds r s′ out′ work′ =
+      (r ≡ listAnswer pic m (listBefore pic m s out work))
+      × ((s′ ≡ scratchAfter early (pic .boxes) (pic .rows) s)
+      × ((out′ ≡ listAfter pic m (listBefore pic m s out work) out) × (work′ ≡ workAfter pic m (listBefore pic m s out work) work)))
+
+  before-is : listBefore pic m s out work ≡ orElse tenFault (unclearFault pic m)
+  unfolding listBefore
+  before-is = sym (orElse-assoc early (loopFault (pic .boxes) (pic .rows)) (unclearFault pic m))
+
+  pub end-refused : (x : Refusal) → tenFault ≡ some x → (s′ : List ℕ) → s′ ≡ scratchAfter early (pic .boxes) (pic .rows) s
+      → ListEnds (Refused x) s′ out work
+  unfolding listAnswer listedOf listAfter workAfter
+  end-refused x e s′ w =
+      let f = before-is ∙ stop tenFault (unclearFault pic m) e in
+      (rw (f, stop (some x) _ refl), (w, (rw f, rw f)))
+
+  pub end-listing : tenFault ≡ none → (s′ : List ℕ) → s′ ≡ scratchAfter early (pic .boxes) (pic .rows) s
+      → (r : Listed) (out′ work′ : List ℕ) → Listing pic m out work r out′ work′ → ListEnds r s′ out′ work′
+  end-listing e s′ w r out′ work′ g =
+      let f = before-is ∙ past tenFault (unclearFault pic m) e in
+      (rw f (g .answered), (w, (rw f (g .list-after), rw f (g .work-after))))
+
+  -- what the closure is made for
+  pub ten-none : tenFault ≡ none → Rooms pic m s out work × (loopFault (pic .boxes) (pic .rows) ≡ none)
+  ten-none e = let b = both-none early _ e in (rooms pic m s out work (b .0), b .1)

@@ -4,13 +4,14 @@ use mathlib.Core.Path.{_≡_, refl, sym, subst}
 use mathlib.Core.Logic.{⊎-elim}
 use mathlib.Core.Bool.{Bool, true, false, not, _&&_, _||_}
 use mathlib.Core.List.{List, [], _∷_, _++_}
-use Prim.Native.Nat.{ℕ, _<_, _≤_}
+use Prim.Native.Nat.{ℕ, _+_, _<_, _≤_}
 use native.Mathlib.Omega.{arith}
 use lib.Dec.{T, T-not, not-T, eqb, eqb→eq, eqb-refl}
-use lib.ListN.{length}
+use lib.ListN.{length, length-append}
 use Rattle.base.specs.Search.{select}
 use Rattle.lists.specs.Order.{anyOf, allOf, distinct}
 use Rattle.base.proofs.Tests.{or-T, and-T, T-and, T-or₁, T-or₂, T-eqb}
+use Rattle.base.proofs.BufferLaws.{select-yes, select-no}
 use Rattle.base.proofs.SelectLaws.{select-fewer}
 
 -- ---- one more number
@@ -77,3 +78,16 @@ room t n (k ∷ l) w a d =
     select-fewer (λ j. t j && not (eqb k j)) t n (λ j z h. and-T (t j) _ h .0) k (w k (b .0))
     (λ h. T-not (eqb k k) (and-T (t k) _ h .1) (eqb-refl k)) (b .0) in
     omega arith
+
+-- ---- a loop that counts the numbers at which a test holds
+
+module _ (t : ℕ → Bool) where
+  pub select-none : 0 ≡ length (select t 0)
+  unfolding select
+  select-none = refl
+
+  pub select-one : (n count : ℕ) → t n ≡ true → count ≡ length (select t n) → count + 1 ≡ length (select t (n + 1))
+  select-one n count e c = rw (select-yes t n e, length-append, c)
+
+  pub select-skip : (n count : ℕ) → t n ≡ false → count ≡ length (select t n) → count ≡ length (select t (n + 1))
+  select-skip n count e c = rw (select-no t n e) c

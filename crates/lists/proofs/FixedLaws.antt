@@ -12,11 +12,9 @@ use native.Mathlib.Omega.{arith}
 use lib.Dec.{T, eqb, eqb→eq}
 use lib.ListN.{length, getD, take, length-append, List·getD-append}
 use lib.Seq.{take-suc, take-length, take-append-le, take-at, getD-append-seam}
-use Rattle.tables.specs.Rows.{arrowCount, arrowAt}
-use Rattle.tables.specs.Atoms.{pairCount}
-use Rattle.tables.specs.declared.Arrow.{Arrow}
+use Rattle.tables.specs.Rows.{Picture, arrowCount, arrowAt}
 use Rattle.tables.specs.declared.Refusal.{Refusal}
-use Rattle.answers.specs.Pairs.{userAt, fileAt}
+use Rattle.meaning.specs.Pairs.{pairs, userAt, fileAt}
 use Rattle.lists.specs.Order.{anyOf, ofMode, meets, right}
 use Rattle.lists.specs.Greedy.{next, addable, listTo, greedy, orderFault}
 use Rattle.lists.specs.Condition.{Reaches}
@@ -27,42 +25,42 @@ use Rattle.lists.specs.declared.Listed.the-variants.{Written}
 use Rattle.base.proofs.Tests.{or-T}
 use Rattle.base.proofs.SearchLaws.{below-suc}
 use Rattle.base.proofs.PartLaws.{part-is}
-use Rattle.answers.proofs.PairLaws.{pair-place}
+use Rattle.meaning.proofs.PairLaws.{pair-place}
 use Rattle.lists.proofs.CountLaws.{anyOf-snoc}
 use Rattle.lists.proofs.MatchLaws.{honest-fits}
-use Rattle.lists.proofs.GreedyLaws.{honest-right, adds, addable-own, adds-new, addable-is, Grown, grown-none, grown-more}
+use Rattle.lists.proofs.GreedyLaws.{honest-right, addable-own, adds-new, addable-is, addable-same, Grown, grown-none, grown-more}
 use Rattle.lists.proofs.NextLaws.{next-some, next-is, next-none, next-nothing, to-next, to-holds, to-grown, greedy-ends, greedy-is}
 use Rattle.lists.proofs.CallLaws.{answered-list, answered-none}
 use Rattle.lists.proofs.ConditionLaws.{pair-at, honest-pairs, not-both}
 
-module _ (boxes rows arrows : List ℕ) (m : ℕ) where
+module _ (pic : Picture) (m : ℕ) where
   abbrev Follows : List ℕ → ℕ → Type 0
-  Follows = CanFollow boxes rows arrows m
+  Follows = CanFollow pic m
 
   abbrev Low : List ℕ → ℕ → Type 0
-  Low = Lowest boxes rows arrows m
+  Low = Lowest pic m
 
   abbrev HonestOnce : List ℕ → Type 0
-  HonestOnce = Grown boxes rows arrows m
+  HonestOnce = Grown pic m
 
   abbrev Can : List ℕ → ℕ → Bool
-  Can = addable boxes rows arrows m
+  Can = addable pic m
 
   abbrev To : ℕ → List ℕ
-  To = listTo boxes rows arrows m
+  To = listTo pic m
 
   -- ---- the tests say what the plain reading says
 
   test-plain : (l : List ℕ) (k : ℕ) → HonestOnce l → T (Can l k) → Follows l k
   unfolding meets
   test-plain l k g t =
-      let n = adds-new boxes rows arrows m l k t in
+      let n = adds-new pic m l k t in
       record {
-        of-mode = addable-own boxes rows arrows m l k t;
-        stays-honest = honest-pairs boxes rows arrows m (l ++ (k ∷ [])) .0 (grown-more boxes rows arrows m l k g t .is-honest);
-        user = userAt boxes rows (n .0);
-        file = fileAt boxes rows (n .0);
-        is-pair = pair-at boxes rows arrows m (n .0) (n .1);
+        of-mode = addable-own pic m l k t;
+        stays-honest = honest-pairs pic m (l ++ (k ∷ [])) .0 (grown-more pic m l k g t .is-honest);
+        user = userAt pic (n .0);
+        file = fileAt pic (n .0);
+        is-pair = pair-at pic m (n .0) (n .1);
         reaches = n .2;
         nothing-earlier = n .3;
       }
@@ -70,21 +68,21 @@ module _ (boxes rows arrows : List ℕ) (m : ℕ) where
   plain-test : (l : List ℕ) (k : ℕ) → Follows l k → T (Can l k)
   unfolding meets
   plain-test l k c =
-      let p = pair-place boxes rows (c .user) (c .file) (c .is-pair .0) (c .is-pair .1) in
-      let h = honest-pairs boxes rows arrows m (l ++ (k ∷ [])) .1 (c .stays-honest) in
-      let n : Reaches boxes rows arrows l (userAt boxes rows (p .0)) (fileAt boxes rows (p .0)) → ⊥ = rw (p .2, p .3) (c .nothing-earlier) in
-      addable-is boxes rows arrows m l k (c .of-mode)
-      (honest-fits (pairCount boxes rows) (meets boxes rows arrows) (right boxes rows arrows m) l k (honest-right boxes rows arrows m (l ++ (k ∷ [])) h))
+      let p = pair-place pic (c .user) (c .file) (c .is-pair .0) (c .is-pair .1) in
+      let h = honest-pairs pic m (l ++ (k ∷ [])) .1 (c .stays-honest) in
+      let n : Reaches pic l (userAt pic (p .0)) (fileAt pic (p .0)) → ⊥ = rw (p .2, p .3) (c .nothing-earlier) in
+      addable-is pic m l k (c .of-mode)
+      (honest-fits (pairs pic) (meets pic) (right pic m) l k (honest-right pic m (l ++ (k ∷ [])) h))
       (p .0) (p .1) (rw (p .2, p .3) (c .reaches)) n
 
-  next-lowest : (l : List ℕ) (k : ℕ) → HonestOnce l → next boxes rows arrows m l ≡ some k → Low l k
+  next-lowest : (l : List ℕ) (k : ℕ) → HonestOnce l → next pic m l ≡ some k → Low l k
   next-lowest l k g e =
-      let s = next-some boxes rows arrows m l k e in
+      let s = next-some pic m l k e in
       record { can-follow = test-plain l k g (s .0); none-lower = λ j h c. s .1 j h (plain-test l j c) }
 
-  lowest-next : (l : List ℕ) (k : ℕ) → HonestOnce l → Low l k → next boxes rows arrows m l ≡ some k
+  lowest-next : (l : List ℕ) (k : ℕ) → HonestOnce l → Low l k → next pic m l ≡ some k
   lowest-next l k g w =
-      next-is boxes rows arrows m l k (plain-test l k (w .can-follow)) (λ j h t. w .none-lower j h (test-plain l j g t))
+      next-is pic m l k (plain-test l k (w .can-follow)) (λ j h t. w .none-lower j h (test-plain l j g t))
 
   -- ---- the list is such a list
 
@@ -98,23 +96,23 @@ module _ (boxes rows arrows : List ℕ) (m : ℕ) where
       (λ q. rw (take-append-le i l (k ∷ []) (omega arith), List·getD-append l (k ∷ []) 0 i q) (a i q))
       (below-suc (rw (length-append, add-one) at h))
 
-  greedy-fixed : FixedOrder boxes rows arrows m (greedy boxes rows arrows m)
+  greedy-fixed : FixedOrder pic m (greedy pic m)
   unfolding greedy
   greedy-fixed =
       let both =
-      to-holds boxes rows arrows m (λ l. HonestOnce l × InPlace l)
-      (grown-none boxes rows arrows m, λ i h. absurd (omega arith))
+      to-holds pic m (λ l. HonestOnce l × InPlace l)
+      (grown-none pic m, λ i h. absurd (omega arith))
       (λ l k b e.
-      (grown-more boxes rows arrows m l k (b .0) (next-some boxes rows arrows m l k e .0), in-place-more l k (b .1) (next-lowest l k (b .0) e)))
+      (grown-more pic m l k (b .0) (next-some pic m l k e .0), in-place-more l k (b .1) (next-lowest l k (b .0) e)))
       _ in
       record {
         at-each-place = both .1;
-        ends = λ k c. absurd (next-none boxes rows arrows m _ (greedy-ends boxes rows arrows m) k (plain-test _ k c));
+        ends = λ k c. absurd (next-none pic m _ (greedy-ends pic m) k (plain-test _ k c));
       }
 
   -- ---- and the only one
 
-  module _ (l : List ℕ) (o : FixedOrder boxes rows arrows m l) where
+  module _ (l : List ℕ) (o : FixedOrder pic m l) where
     begins : (i : ℕ) → i ≤ length l → take i l ≡ To i
     unfolding listTo
     begins zero h = refl
@@ -124,70 +122,63 @@ module _ (boxes rows arrows : List ℕ) (m : ℕ) where
         more e =
             take-suc l i 0 h
             ∙ ap (λ (x : List ℕ). x ++ (getD l i 0 ∷ [])) e
-            ∙ sym (to-next boxes rows arrows m i (getD l i 0)
-            (lowest-next _ (getD l i 0) (to-grown boxes rows arrows m i) (rw e at (o .at-each-place i h))))
+            ∙ sym (to-next pic m i (getD l i 0)
+            (lowest-next _ (getD l i 0) (to-grown pic m i) (rw e at (o .at-each-place i h))))
 
-    only-one : l ≡ greedy boxes rows arrows m
+    only-one : l ≡ greedy pic m
     only-one =
         let e : l ≡ To (length l) = sym (take-length l) ∙ begins (length l) (omega arith) in
-        let g : HonestOnce l = rw e (to-grown boxes rows arrows m (length l)) in
-        let n = next-nothing boxes rows arrows m l (λ k t. o .ends k (test-plain l k g t)) in
-        e ∙ sym (greedy-is boxes rows arrows m (length l) (sym (ap length e)) (sym (ap (next boxes rows arrows m) e) ∙ n))
+        let g : HonestOnce l = rw e (to-grown pic m (length l)) in
+        let n = next-nothing pic m l (λ k t. o .ends k (test-plain l k g t)) in
+        e ∙ sym (greedy-is pic m (length l) (sym (ap length e)) (sym (ap (next pic m) e) ∙ n))
 
   -- there is exactly one list in the fixed order
-  pub fixed-order : (l : List ℕ) → FixedOrder boxes rows arrows m l ↔ (l ≡ greedy boxes rows arrows m)
+  pub fixed-order : (l : List ℕ) → FixedOrder pic m l ↔ (l ≡ greedy pic m)
   fixed-order l = (only-one l, λ e. rw e greedy-fixed)
 
   -- of repeated arrows only the lowest number stands in it
-  same-arrow : (l : List ℕ) (j k : ℕ) → arrowAt arrows j ≡ arrowAt arrows k → T (ofMode arrows m j)
-      → T (Can l k) → T (Can l j)
-  unfolding meets right
-  same-arrow l j k e o t =
-      let n = adds-new boxes rows arrows m l k t in
-      addable-is boxes rows arrows m l j o (rw (e, ap (λ (a : Arrow). a .sign) e) (adds boxes rows arrows m l k t .1)) (n .0) (n .1) (rw e (n .2)) (n .3)
-
-  pub repeat-left-out : (j k : ℕ) → j < k → T (ofMode arrows m j) → arrowAt arrows j ≡ arrowAt arrows k
-      → T (anyOf (eqb k) (greedy boxes rows arrows m)) → ⊥
+  pub repeat-left-out : (j k : ℕ) → j < k → T (ofMode (pic .arrows) m j) → arrowAt (pic .arrows) j ≡ arrowAt (pic .arrows) k
+      → T (anyOf (eqb k) (greedy pic m)) → ⊥
   unfolding greedy anyOf
   repeat-left-out j k h o e =
-      to-holds boxes rows arrows m (λ l. T (anyOf (eqb k) l) → ⊥) (λ t. t)
+      to-holds pic m (λ l. T (anyOf (eqb k) l) → ⊥) (λ t. t)
       (λ l i left n t.
       ⊎-elim left
       (λ q.
-      let s = next-some boxes rows arrows m l k (n ∙ ap some (sym (eqb→eq k i q))) in
-      s .1 j h (same-arrow l j k e o (s .0)))
+      let s = next-some pic m l k (n ∙ ap some (sym (eqb→eq k i q))) in
+      s .1 j h (addable-same pic m l j k e o (s .0)))
       (or-T (anyOf (eqb k) l) (eqb k i) (rw anyOf-snoc at t)))
-      (arrowCount arrows)
+      (arrowCount (pic .arrows))
 
   -- ---- the list that a call writes
 
   -- what a call answers and leaves in the list places, by what it was lent
   abbrev answerTo : List ℕ → List ℕ → List ℕ → Listed
-  answerTo s out work = listAnswer boxes rows arrows m (listBefore boxes rows arrows m s out work)
+  answerTo s out work = listAnswer pic m (listBefore pic m s out work)
 
   abbrev placesAfter : List ℕ → List ℕ → List ℕ → List ℕ
-  placesAfter s out work = listAfter boxes rows arrows m (listBefore boxes rows arrows m s out work) out
+  placesAfter s out work = listAfter pic m (listBefore pic m s out work) out
 
-  written-greedy : (s out work : List ℕ) → listBefore boxes rows arrows m s out work ≡ none
-      → (n : ℕ) → answerTo s out work ≡ Written n → take n (placesAfter s out work) ≡ greedy boxes rows arrows m
-  written-greedy s out work passed n i = rw passed (go (orderFault boxes rows arrows m) refl (rw passed at i))
+  written-greedy : (s out work : List ℕ) → listBefore pic m s out work ≡ none
+      → (n : ℕ) → answerTo s out work ≡ Written n → take n (placesAfter s out work) ≡ greedy pic m
+  written-greedy s out work passed n i = rw passed (go (orderFault pic m) refl (rw passed at i))
     where
-      go : (x : Option Refusal) → orderFault boxes rows arrows m ≡ x → listAnswer boxes rows arrows m none ≡ Written n
-          → take n (listAfter boxes rows arrows m none out) ≡ greedy boxes rows arrows m
+      go : (x : Option Refusal) → orderFault pic m ≡ x → listAnswer pic m none ≡ Written n
+          → take n (listAfter pic m none out) ≡ greedy pic m
       go none e w =
-          let a = answered-list boxes rows arrows m e out in
-          let k : n ≡ length (greedy boxes rows arrows m) = cc (a .0) in
-          part-is (greedy boxes rows arrows m) out n _ (k, sym (a .1))
-      go (some x) e w = absurd (not-both w (sym (answered-none boxes rows arrows m x e out .0)))
+          let a = answered-list pic m e out in
+          let k : n ≡ length (greedy pic m) = cc (a .0) in
+          part-is (greedy pic m) out n _ (k, sym (a .1))
+      go (some x) e w = absurd (not-both w (sym (answered-none pic m x e out .0)))
 
   -- wherever a list is written, it is the one in the fixed order
-  pub fixed-list : (s out work : List ℕ) → listBefore boxes rows arrows m s out work ≡ none
-      → (n : ℕ) → answerTo s out work ≡ Written n → FixedOrder boxes rows arrows m (take n (placesAfter s out work))
+  pub fixed-list : (s out work : List ℕ) → listBefore pic m s out work ≡ none
+      → (n : ℕ) → answerTo s out work ≡ Written n → FixedOrder pic m (take n (placesAfter s out work))
   fixed-list s out work passed n i = rw (written-greedy s out work passed n i) greedy-fixed
 
   -- two calls that pass checks 1 to 12 answer the same and write the same list, whatever each was lent
   pub same-list : (s out work s′ out′ work′ : List ℕ)
-      → listBefore boxes rows arrows m s out work ≡ none → listBefore boxes rows arrows m s′ out′ work′ ≡ none
+      → listBefore pic m s out work ≡ none → listBefore pic m s′ out′ work′ ≡ none
       → (answerTo s out work ≡ answerTo s′ out′ work′)
       × ((n : ℕ) → answerTo s out work ≡ Written n → take n (placesAfter s out work) ≡ take n (placesAfter s′ out′ work′))
   same-list s out work s′ out′ work′ p q =

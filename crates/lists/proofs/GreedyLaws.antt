@@ -1,6 +1,6 @@
 -- What the tests of lists say; a list grown by arrows that can be added stays honest and has no arrow twice.
 -- Assumes nothing.
-use mathlib.Core.Path.{_≡_, refl, sym, subst}
+use mathlib.Core.Path.{_≡_, refl, sym, ap, subst}
 use mathlib.Core.Bool.{Bool, true, false, not, _&&_, _||_}
 use mathlib.Core.List.{List, [], _∷_, _++_}
 use mathlib.Core.Option.{Option, none, some}
@@ -9,14 +9,17 @@ use native.Mathlib.Omega.{arith}
 use lib.Dec.{T, T-not, not-T, ltb, ltb→lt}
 use lib.ListN.{length}
 use Rattle.base.specs.Search.{every, lowest, select}
-use Rattle.tables.specs.Rows.{arrowCount}
-use Rattle.tables.specs.Atoms.{pairCount}
-use Rattle.answers.specs.Meaning.{hasMode}
+use Rattle.tables.specs.Rows.{Picture, arrowCount, arrowAt}
+use Rattle.tables.specs.declared.Arrow.{Arrow}
+use Rattle.meaning.specs.Meaning.{hasMode, modeArrows}
+use Rattle.meaning.specs.Pairs.{pairs}
 use Rattle.lists.specs.Order.{anyOf, allOf, passes, distinct, firstOf, ofMode, meets, reached, right, honest}
 use Rattle.lists.specs.Greedy.{new, fits, addable}
 use Rattle.base.proofs.Tests.{T?, and-T, T-and}
 use Rattle.base.proofs.SearchLaws.{lowest-some, lowest-none, every-at, every-is, some-none}
 use Rattle.base.proofs.BufferLaws.{select-most}
+use Rattle.base.proofs.SelectLaws.{select-within}
+use Rattle.meaning.proofs.ModeLaws.{mode-select}
 use Rattle.lists.proofs.CountLaws.{allOf-snoc, distinct-snoc, anyOf-has, room}
 use Rattle.lists.proofs.MatchLaws.{Honest, Fits, Full, honest-none, honest-snoc}
 
@@ -60,86 +63,91 @@ pub ofMode-has : (arrows : List ℕ) (m k : ℕ) → T (ofMode arrows m k) → T
 unfolding ofMode
 ofMode-has arrows m k t = and-T (ltb k (arrowCount arrows)) (hasMode arrows m k) t .1
 
-module _ (boxes rows arrows : List ℕ) (m : ℕ) where
+module _ (pic : Picture) (m : ℕ) where
   abbrev R : ℕ → ℕ → Bool
-  R = meets boxes rows arrows
+  R = meets pic
 
   abbrev Right : ℕ → ℕ → Bool
-  Right = right boxes rows arrows m
-
-  abbrev pairs : ℕ
-  pairs = pairCount boxes rows
+  Right = right pic m
 
   -- ---- what the tests of lists say
 
-  pub honest-own : (l : List ℕ) → T (honest boxes rows arrows m l) → T (allOf (ofMode arrows m) l)
+  pub honest-own : (l : List ℕ) → T (honest pic m l) → T (allOf (ofMode (pic .arrows) m) l)
   unfolding honest
-  honest-own l t = and-T (allOf (ofMode arrows m) l) _ t .0
+  honest-own l t = and-T (allOf (ofMode (pic .arrows) m) l) _ t .0
 
-  pub honest-right : (l : List ℕ) → T (honest boxes rows arrows m l) → Honest pairs R Right l
+  pub honest-right : (l : List ℕ) → T (honest pic m l) → Honest (pairs pic) R Right l
   unfolding honest
   honest-right l t p k b e =
       passes-at (Right p) (firstOf (R p) l)
-      (every-at (λ p. passes (Right p) (firstOf (R p) l)) pairs (and-T (allOf (ofMode arrows m) l) _ t .1) p b) k e
+      (every-at (λ p. passes (Right p) (firstOf (R p) l)) (pairs pic) (and-T (allOf (ofMode (pic .arrows) m) l) _ t .1) p b) k e
 
-  pub honest-is : (l : List ℕ) → T (allOf (ofMode arrows m) l) → Honest pairs R Right l → T (honest boxes rows arrows m l)
+  pub honest-is : (l : List ℕ) → T (allOf (ofMode (pic .arrows) m) l) → Honest (pairs pic) R Right l → T (honest pic m l)
   unfolding honest
   honest-is l o h =
-      T-and (allOf (ofMode arrows m) l) _ o
-      (every-is (λ p. passes (Right p) (firstOf (R p) l)) pairs (λ p b. passes-is (Right p) (firstOf (R p) l) (λ k e. h p k b e)))
+      T-and (allOf (ofMode (pic .arrows) m) l) _ o
+      (every-is (λ p. passes (Right p) (firstOf (R p) l)) (pairs pic) (λ p b. passes-is (Right p) (firstOf (R p) l) (λ k e. h p k b e)))
 
-  new-is : (l : List ℕ) (k p : ℕ) → T (new boxes rows arrows l k p) → T (R p k) × (T (anyOf (R p) l) → ⊥)
+  new-is : (l : List ℕ) (k p : ℕ) → T (new pic l k p) → T (R p k) × (T (anyOf (R p) l) → ⊥)
   unfolding new reached
   new-is l k p t = let b = and-T (R p k) _ t in (b .0, T-not (anyOf (R p) l) (b .1))
 
-  is-new : (l : List ℕ) (k p : ℕ) → T (R p k) → (T (anyOf (R p) l) → ⊥) → T (new boxes rows arrows l k p)
+  is-new : (l : List ℕ) (k p : ℕ) → T (R p k) → (T (anyOf (R p) l) → ⊥) → T (new pic l k p)
   unfolding new reached
   is-new l k p t n = T-and (R p k) _ t (not-T (anyOf (R p) l) n)
 
-  fits-at : (l : List ℕ) (k : ℕ) → T (fits boxes rows arrows m l k) → Fits pairs R Right l k
+  fits-at : (l : List ℕ) (k : ℕ) → T (fits pic m l k) → Fits (pairs pic) R Right l k
   unfolding fits
   fits-at l k t p b r n =
-      implied (new boxes rows arrows l k p) (Right p k)
-      (every-at (λ p. not (new boxes rows arrows l k p) || Right p k) pairs t p b) (is-new l k p r n)
+      implied (new pic l k p) (Right p k)
+      (every-at (λ p. not (new pic l k p) || Right p k) (pairs pic) t p b) (is-new l k p r n)
 
-  fits-is : (l : List ℕ) (k : ℕ) → Fits pairs R Right l k → T (fits boxes rows arrows m l k)
+  fits-is : (l : List ℕ) (k : ℕ) → Fits (pairs pic) R Right l k → T (fits pic m l k)
   unfolding fits
   fits-is l k f =
-      every-is (λ p. not (new boxes rows arrows l k p) || Right p k) pairs
-      (λ p b. implies (new boxes rows arrows l k p) (Right p k) (λ t. let n = new-is l k p t in f p b (n .0) (n .1)))
+      every-is (λ p. not (new pic l k p) || Right p k) (pairs pic)
+      (λ p b. implies (new pic l k p) (Right p k) (λ t. let n = new-is l k p t in f p b (n .0) (n .1)))
 
   -- arrow k would be the first to reach some pair
   abbrev anyNew : List ℕ → ℕ → Bool
-  anyNew l k = not (every (λ p. not (new boxes rows arrows l k p)) pairs)
+  anyNew l k = not (every (λ p. not (new pic l k p)) (pairs pic))
 
-  pub adds : (l : List ℕ) (k : ℕ) → T (addable boxes rows arrows m l k)
-      → T (ofMode arrows m k) × Fits pairs R Right l k × T (anyNew l k)
+  pub adds : (l : List ℕ) (k : ℕ) → T (addable pic m l k)
+      → T (ofMode (pic .arrows) m k) × Fits (pairs pic) R Right l k × T (anyNew l k)
   unfolding addable
   adds l k t =
-      let b = and-T (ofMode arrows m k) (fits boxes rows arrows m l k && anyNew l k) t in
-      let c = and-T (fits boxes rows arrows m l k) (anyNew l k) (b .1) in
+      let b = and-T (ofMode (pic .arrows) m k) (fits pic m l k && anyNew l k) t in
+      let c = and-T (fits pic m l k) (anyNew l k) (b .1) in
       (b .0, fits-at l k (c .0), c .1)
 
-  pub addable-own : (l : List ℕ) (k : ℕ) → T (addable boxes rows arrows m l k) → T (ofMode arrows m k)
+  pub addable-own : (l : List ℕ) (k : ℕ) → T (addable pic m l k) → T (ofMode (pic .arrows) m k)
   addable-own l k t = adds l k t .0
 
   -- the pair that it would be the first to reach
-  pub adds-new : (l : List ℕ) (k : ℕ) → T (addable boxes rows arrows m l k)
-      → (p : ℕ) × (p < pairs) × T (R p k) × (T (anyOf (R p) l) → ⊥)
+  pub adds-new : (l : List ℕ) (k : ℕ) → T (addable pic m l k)
+      → (p : ℕ) × (p < (pairs pic)) × T (R p k) × (T (anyOf (R p) l) → ⊥)
   adds-new l k t =
-      let w = somewhere (new boxes rows arrows l k) pairs (adds l k t .2) in
+      let w = somewhere (new pic l k) (pairs pic) (adds l k t .2) in
       let n = new-is l k (w .0) (w .2) in
       (w .0, w .1, n .0, n .1)
 
-  pub addable-is : (l : List ℕ) (k : ℕ) → T (ofMode arrows m k) → Fits pairs R Right l k
-      → (p : ℕ) → p < pairs → T (R p k) → (T (anyOf (R p) l) → ⊥) → T (addable boxes rows arrows m l k)
+  pub addable-is : (l : List ℕ) (k : ℕ) → T (ofMode (pic .arrows) m k) → Fits (pairs pic) R Right l k
+      → (p : ℕ) → p < (pairs pic) → T (R p k) → (T (anyOf (R p) l) → ⊥) → T (addable pic m l k)
   unfolding addable
   addable-is l k o f p b r n =
-      T-and (ofMode arrows m k) _ o
-      (T-and (fits boxes rows arrows m l k) _ (fits-is l k f) (not-nowhere (new boxes rows arrows l k) pairs p b (is-new l k p r n)))
+      T-and (ofMode (pic .arrows) m k) _ o
+      (T-and (fits pic m l k) _ (fits-is l k f) (not-nowhere (new pic l k) (pairs pic) p b (is-new l k p r n)))
+
+  -- an arrow with the same ends, mode and sign can be added too
+  pub addable-same : (l : List ℕ) (j k : ℕ) → arrowAt (pic .arrows) j ≡ arrowAt (pic .arrows) k → T (ofMode (pic .arrows) m j)
+      → T (addable pic m l k) → T (addable pic m l j)
+  unfolding meets right
+  addable-same l j k e o t =
+      let n = adds-new l k t in
+      addable-is l j o (rw (e, ap (λ (a : Arrow). a .sign) e) (adds l k t .1)) (n .0) (n .1) (rw e (n .2)) (n .3)
 
   -- no arrow can be added: the list is full
-  pub full : (l : List ℕ) → ((k : ℕ) → T (addable boxes rows arrows m l k) → ⊥) → Full pairs R Right (ofMode arrows m) l
+  pub full : (l : List ℕ) → ((k : ℕ) → T (addable pic m l k) → ⊥) → Full (pairs pic) R Right (ofMode (pic .arrows) m) l
   full l none′ k o f p b r = go (T? (anyOf (R p) l))
     where
       go : Dec (T (anyOf (R p) l)) → T (anyOf (R p) l)
@@ -150,27 +158,34 @@ module _ (boxes rows arrows : List ℕ) (m : ℕ) where
 
   -- honest, and no arrow twice
   pub record Grown (l : List ℕ) : Type 0 where
-    pub is-honest : T (honest boxes rows arrows m l)
+    pub is-honest : T (honest pic m l)
     pub once : T (distinct l)
 
   pub grown-none : Grown []
   unfolding allOf distinct
-  grown-none = record { is-honest = honest-is [] tt (honest-none pairs R Right); once = tt }
+  grown-none = record { is-honest = honest-is [] tt (honest-none (pairs pic) R Right); once = tt }
 
-  pub grown-more : (l : List ℕ) (k : ℕ) → Grown l → T (addable boxes rows arrows m l k) → Grown (l ++ (k ∷ []))
+  pub grown-more : (l : List ℕ) (k : ℕ) → Grown l → T (addable pic m l k) → Grown (l ++ (k ∷ []))
   grown-more l k g t =
       let a = adds l k t in
       let n = adds-new l k t in
       record {
         is-honest = honest-is (l ++ (k ∷ []))
-            (allOf-snoc (ofMode arrows m) l k (honest-own l (g .is-honest)) (a .0))
-            (honest-snoc pairs R Right l k (honest-right l (g .is-honest)) (a .1));
+            (allOf-snoc (ofMode (pic .arrows) m) l k (honest-own l (g .is-honest)) (a .0))
+            (honest-snoc (pairs pic) R Right l k (honest-right l (g .is-honest)) (a .1));
         once = distinct-snoc l k (g .once) (λ h. n .3 (anyOf-has (R (n .0)) l k h (n .2)));
       }
 
   -- so it is no longer than there are arrows
-  pub grown-room : (l : List ℕ) → Grown l → length l ≤ length (select (ofMode arrows m) (arrowCount arrows))
-  grown-room l g = room (ofMode arrows m) (arrowCount arrows) l (ofMode-there arrows m) (honest-own l (g .is-honest)) (g .once)
+  pub grown-room : (l : List ℕ) → Grown l → length l ≤ length (select (ofMode (pic .arrows) m) (arrowCount (pic .arrows)))
+  grown-room l g = room (ofMode (pic .arrows) m) (arrowCount (pic .arrows)) l (ofMode-there (pic .arrows) m) (honest-own l (g .is-honest)) (g .once)
 
-  pub grown-most : (l : List ℕ) → Grown l → length l ≤ arrowCount arrows
-  grown-most l g = omega (arith, grown-room l g, select-most (ofMode arrows m) (arrowCount arrows))
+  pub grown-most : (l : List ℕ) → Grown l → length l ≤ arrowCount (pic .arrows)
+  grown-most l g = omega (arith, grown-room l g, select-most (ofMode (pic .arrows) m) (arrowCount (pic .arrows)))
+
+  -- nor than the mode has arrows
+  pub mode-room : (l : List ℕ) → Grown l → length l ≤ length (modeArrows (pic .arrows) m)
+  mode-room l g =
+      let s =
+      select-within (ofMode (pic .arrows) m) (hasMode (pic .arrows) m) (arrowCount (pic .arrows)) (λ k h. ofMode-has (pic .arrows) m k) in
+      omega (arith, ap length (mode-select (pic .arrows) m), grown-room l g)

@@ -11,8 +11,8 @@ use native.Mathlib.Numerals.{add-one}
 use native.Mathlib.Omega.{arith}
 use lib.Dec.{T}
 use lib.ListN.{length, length-append}
-use Rattle.tables.specs.Rows.{arrowCount}
-use Rattle.tables.specs.Atoms.{pairCount}
+use Rattle.tables.specs.Rows.{Picture, arrowCount}
+use Rattle.meaning.specs.Pairs.{pairs}
 use Rattle.lists.specs.Order.{ofMode, meets, right}
 use Rattle.lists.specs.Greedy.{followed, addable, next, listTo, greedy}
 use Rattle.base.proofs.SearchLaws.{lowest-some, lowest-none, some-none}
@@ -20,18 +20,18 @@ use Rattle.base.proofs.SelectLaws.{lowest-is, lowest-nothing}
 use Rattle.lists.proofs.MatchLaws.{Full}
 use Rattle.lists.proofs.GreedyLaws.{ofMode-there, addable-own, full, Grown, grown-none, grown-more, grown-most}
 
-module _ (boxes rows arrows : List ℕ) (m : ℕ) where
+module _ (pic : Picture) (m : ℕ) where
   abbrev Can : List ℕ → ℕ → Bool
-  Can = addable boxes rows arrows m
+  Can = addable pic m
 
   abbrev Next : List ℕ → Option ℕ
-  Next = next boxes rows arrows m
+  Next = next pic m
 
   abbrev To : ℕ → List ℕ
-  To = listTo boxes rows arrows m
+  To = listTo pic m
 
   abbrev list : List ℕ
-  list = greedy boxes rows arrows m
+  list = greedy pic m
 
   -- ---- which arrow is next
 
@@ -39,22 +39,22 @@ module _ (boxes rows arrows : List ℕ) (m : ℕ) where
   pub next-some : (l : List ℕ) (k : ℕ) → Next l ≡ some k
       → T (Can l k) × ((j : ℕ) → j < k → T (Can l j) → ⊥)
   unfolding next
-  next-some l k e = let f = lowest-some (Can l) (arrowCount arrows) k e in (f .1, f .2)
+  next-some l k e = let f = lowest-some (Can l) (arrowCount (pic .arrows)) k e in (f .1, f .2)
 
   pub next-is : (l : List ℕ) (k : ℕ) → T (Can l k)
       → ((j : ℕ) → j < k → T (Can l j) → ⊥) → Next l ≡ some k
   unfolding next
-  next-is l k t b = lowest-is (Can l) (arrowCount arrows) k (ofMode-there arrows m k (addable-own boxes rows arrows m l k t)) t b
+  next-is l k t b = lowest-is (Can l) (arrowCount (pic .arrows)) k (ofMode-there (pic .arrows) m k (addable-own pic m l k t)) t b
 
   -- where none is next, none can be added
   pub next-none : (l : List ℕ) → Next l ≡ none → (k : ℕ) → T (Can l k) → ⊥
   unfolding next
   next-none l e k t =
-      lowest-none (Can l) (arrowCount arrows) e k (ofMode-there arrows m k (addable-own boxes rows arrows m l k t)) t
+      lowest-none (Can l) (arrowCount (pic .arrows)) e k (ofMode-there (pic .arrows) m k (addable-own pic m l k t)) t
 
   pub next-nothing : (l : List ℕ) → ((k : ℕ) → T (Can l k) → ⊥) → Next l ≡ none
   unfolding next
-  next-nothing l b = lowest-nothing (Can l) (arrowCount arrows) (λ j h. b j)
+  next-nothing l b = lowest-nothing (Can l) (arrowCount (pic .arrows)) (λ j h. b j)
 
   -- ---- the first n places
 
@@ -79,8 +79,8 @@ module _ (boxes rows arrows : List ℕ) (m : ℕ) where
       go (some k) e h = s (To n) k h e
 
   -- the first n places are honest and have no arrow twice
-  pub to-grown : (n : ℕ) → Grown boxes rows arrows m (To n)
-  to-grown = to-holds (Grown boxes rows arrows m) (grown-none boxes rows arrows m) (λ l k g e. grown-more boxes rows arrows m l k g (next-some l k e .0))
+  pub to-grown : (n : ℕ) → Grown pic m (To n)
+  to-grown = to-holds (Grown pic m) (grown-none pic m) (λ l k g e. grown-more pic m l k g (next-some l k e .0))
 
   -- there are n, unless the list ended before
   to-length : (n : ℕ) → (Next (To n) ≡ none) ⊎ (length (To n) ≡ n)
@@ -108,21 +108,21 @@ module _ (boxes rows arrows : List ℕ) (m : ℕ) where
   -- it has ended
   pub greedy-ends : Next list ≡ none
   unfolding greedy
-  greedy-ends = ⊎-elim (λ e. e) (λ e. next-nothing (To (arrowCount arrows)) (λ k t. too-long k t e)) (to-length (arrowCount arrows))
+  greedy-ends = ⊎-elim (λ e. e) (λ e. next-nothing (To (arrowCount (pic .arrows))) (λ k t. too-long k t e)) (to-length (arrowCount (pic .arrows)))
     where
-      too-long : (k : ℕ) → T (Can (To (arrowCount arrows)) k) → length (To (arrowCount arrows)) ≡ arrowCount arrows → ⊥
+      too-long : (k : ℕ) → T (Can (To (arrowCount (pic .arrows))) k) → length (To (arrowCount (pic .arrows))) ≡ arrowCount (pic .arrows) → ⊥
       too-long k t e =
-          let l = To (arrowCount arrows) in
-          omega (arith, length-append l (k ∷ []), grown-most boxes rows arrows m (l ++ (k ∷ [])) (grown-more boxes rows arrows m l k (to-grown (arrowCount arrows)) t))
+          let l = To (arrowCount (pic .arrows)) in
+          omega (arith, length-append l (k ∷ []), grown-most pic m (l ++ (k ∷ [])) (grown-more pic m l k (to-grown (arrowCount (pic .arrows))) t))
 
   -- so it is the first n places, where none is next after them
   pub greedy-is : (n : ℕ) → length (To n) ≡ n → Next (To n) ≡ none → list ≡ To n
   unfolding greedy
-  greedy-is n i e = to-stays n e (arrowCount arrows) (omega (arith, grown-most boxes rows arrows m (To n) (to-grown n)))
+  greedy-is n i e = to-stays n e (arrowCount (pic .arrows)) (omega (arith, grown-most pic m (To n) (to-grown n)))
 
-  pub greedy-grown : Grown boxes rows arrows m list
+  pub greedy-grown : Grown pic m list
   unfolding greedy
-  greedy-grown = to-grown (arrowCount arrows)
+  greedy-grown = to-grown (arrowCount (pic .arrows))
 
-  pub greedy-full : Full (pairCount boxes rows) (meets boxes rows arrows) (right boxes rows arrows m) (ofMode arrows m) list
-  greedy-full = full boxes rows arrows m list (next-none list greedy-ends)
+  pub greedy-full : Full (pairs pic) (meets pic) (right pic m) (ofMode (pic .arrows) m) list
+  greedy-full = full pic m list (next-none list greedy-ends)

@@ -1,100 +1,150 @@
 -- The loop that writes the list, turn by turn. Assumes nothing.
 use mathlib.Core.Path.{_≡_, refl, sym, ap, _∙_}
-use mathlib.Core.Bool.{Bool}
 use mathlib.Core.List.{List, [], _∷_, _++_}
+use mathlib.Core.Option.{none}
 use Prim.Native.Nat.{ℕ, _+_, _<_, _≤_}
 use native.Mathlib.Numerals.{add-one}
 use native.Mathlib.Omega.{arith}
 use lib.Dec.{T}
-use lib.ListN.{length, getD, set, length-append}
-use Rattle.base.specs.Buffers.{build, written, zeros}
-use Rattle.tables.specs.Rows.{arrowCount}
-use Rattle.tables.specs.Atoms.{pairCount}
-use Rattle.answers.specs.Meaning.{modeArrows}
-use Rattle.lists.specs.Order.{meets}
-use Rattle.lists.specs.Greedy.{listTo}
-use Rattle.lists.specs.Steps.{followsAt, marked, Behind, ownSign, nothing, Clear, workOf, Ordered}
-use Rattle.base.proofs.BufferLaws.{written-none, written-more, written-length}
-use Rattle.lists.proofs.NextLaws.{to-next, to-grown, greedy-is}
-use Rattle.lists.proofs.GrowLaws.{work-length, own-room, own-there, follows-next, follows-none, mark-shown, mark-grew, behind-grew, behind-none}
+use lib.ListN.{length, getD, set, length-append, length-set}
+use Rattle.base.specs.Buffers.{written, zeros}
+use Rattle.base.proofs.BufferLaws.{written-none, written-more, zeros-length}
+use Rattle.tables.specs.Rows.{Picture, arrowCount, arrowAt}
+use Rattle.boxsets.specs.Sets.{setAt}
+use Rattle.user_rows.specs.Row.{ownArrows}
+use Rattle.lists.specs.Greedy.{addable, next, listTo}
+use Rattle.lists.specs.Steps.{standingBy, Done, Takes, NextFree, Table, unreached, Clear, Ordered}
+use Rattle.lists.specs.declared.Standing.the-variants.{Free}
+use Rattle.lists.proofs.GreedyLaws.{ofMode-there}
+use Rattle.lists.proofs.NextLaws.{to-next, greedy-is}
+use Rattle.lists.proofs.StandLaws.{spent-stays, takes-fewer}
+use Rattle.lists.proofs.FreeLaws.{none-marked}
+use Rattle.lists.proofs.GrowLaws.{free-addable, addable-free, taken-shown}
+use Rattle.lists.proofs.OwnLaws.{own-mode, own-next, own-end, own-full, to-room}
 
-module _ (boxes rows arrows : List ℕ) (m : ℕ) (touch : ℕ → ℕ → Bool) (own out₀ work₀ : List ℕ) where
-  abbrev pub To : ℕ → List ℕ
-  To = listTo boxes rows arrows m
+module _ (pic : Picture) (m : ℕ) (closure arrows own granted out₀ : List ℕ) where
+  abbrev To : ℕ → List ℕ
+  To = listTo pic m
 
-  -- the first places of the list, in the list places and in the work bytes, and the two pointers of each arrow
-  pub record Growing (out work blocked fresh : List ℕ) (count : ℕ) : Type 0 where
+  -- the first places of the list, in the list places and in what is left
+  pub record Growing (left out : List ℕ) (count : ℕ) : Type 0 where
     pub counted : length (To count) ≡ count
     pub listed : out ≡ written (To count) out₀
-    pub shown : work ≡ written (workOf boxes rows arrows m (To count)) work₀
-    pub blocked-behind : Behind touch own (ownSign arrows) work blocked
-    pub fresh-behind : Behind touch own nothing work fresh
+    pub shown : Table pic (unreached pic (To count)) left
 
-  pub growing-none : work₀ ≡ written (workOf boxes rows arrows m []) work₀ → (n : ℕ) → length own ≤ n → Growing out₀ work₀ (zeros n) (zeros n) 0
+  pub growing-none : (left : List ℕ) → Table pic (unreached pic []) left → Growing left out₀ 0
   unfolding listTo
-  growing-none e n h = record {
-    counted = refl;
-    listed = sym (written-none out₀);
-    shown = e;
-    blocked-behind = behind-none touch own (ownSign arrows) work₀ n h;
-    fresh-behind = behind-none touch own nothing work₀ n h;
+  growing-none left t = record { counted = refl; listed = sym (written-none out₀); shown = t }
+
+  module _ (d : Clear pic m closure arrows own granted) (fits : length own ≤ length out₀) (left out : List ℕ) (count : ℕ) (g : Growing left out count) where
+    ended : next pic m (To count) ≡ none → Ordered pic m out₀ count out left
+    ended e =
+        let whole = greedy-is pic m count (g .counted) e in
+        record { counted = sym (ap length whole ∙ g .counted); listed = rw whole (g .listed); shown = rw whole (g .shown) }
+
+    -- every arrow is listed
+    pub growing-full : length own ≤ count → Ordered pic m out₀ count out left
+    growing-full h = ended (own-full pic m count (g .counted) (rw (← d .own-are) h))
+
+    -- r is the first place whose arrow is free
+    module _ (r : ℕ) (f : NextFree closure arrows own left granted r) where
+      abbrev numbers : List ℕ
+      numbers = ownArrows (pic .arrows) m
+
+      by : NextFree closure (pic .arrows) numbers left granted r
+      by = rw (d .arrows-are, d .own-are) at f
+
+      there : (i : ℕ) → i < length numbers → getD numbers i 0 < arrowCount (pic .arrows)
+      there i h = ofMode-there (pic .arrows) m (getD numbers i 0) (own-mode pic m i h)
+
+      can : (i : ℕ) → i < length numbers → standingBy closure left granted (arrowAt (pic .arrows) (getD numbers i 0)) ≡ Free
+          → T (addable pic m (To count) (getD numbers i 0))
+      can i h =
+          free-addable pic closure (d .drawn) (To count) left (g .shown) (getD numbers i 0) (there i h) m (own-mode pic m i h) (d .clear)
+          granted (d .says)
+
+      cannot : (i : ℕ) → i < r → T (addable pic m (To count) (getD numbers i 0)) → ⊥
+      cannot i h t =
+          let l : i < length numbers = omega (arith, by .at-most) in
+          by .none-before i h
+          (addable-free pic closure (d .drawn) (To count) left (g .shown) (getD numbers i 0) (there i l) m (own-mode pic m i l) (d .clear)
+          granted (d .says) t)
+
+      -- there is none
+      pub growing-done : length own ≤ r → Ordered pic m out₀ count out left
+      growing-done h = ended (own-end pic m (To count) (λ i l. cannot i (omega (arith, ap length (d .own-are)))))
+
+      -- the arrow is listed, and its files are taken
+      module _ (h : r < length own) where
+        inside : r < length numbers
+        inside = rw (d .own-are) at h
+
+        one-more : To (count + 1) ≡ To count ++ (getD numbers r 0 ∷ [])
+        one-more =
+            ap To (add-one count) ∙ to-next pic m count (getD numbers r 0) (own-next pic m (To count) r inside (can r inside (by .holds inside)) cannot)
+
+        one-longer : length (To (count + 1)) ≡ count + 1
+        one-longer = ap length one-more ∙ length-append (To count) (getD numbers r 0 ∷ []) ∙ ap (λ (n : ℕ). n + 1) (g .counted)
+
+        pub growing-next : (left′ : List ℕ)
+            → Takes (setAt closure (arrowAt arrows (getD own r 0) .tail)) (setAt closure (arrowAt arrows (getD own r 0) .head)) left left′
+            → Growing left′ (set out count (getD own r 0)) (count + 1)
+        growing-next left′ t =
+            let k = getD numbers r 0 in
+            let most : count < length out₀ = omega (arith, one-longer, to-room pic m (count + 1), ap length (d .own-are), fits) in
+            let written-here = rw (g .counted) at (written-more (To count) out₀ k (rw (g .counted) most)) in
+            rw (d .own-are)
+            (record {
+              counted = one-longer;
+              listed = rw (one-more, g .listed) written-here;
+              shown =
+                  rw one-more
+                  (taken-shown pic closure (d .drawn) (To count) left (g .shown) k (there r inside) left′ (rw (d .arrows-are, d .own-are) at t));
+            })
+
+-- the loop as a whole: how it stands, whatever picture the sets are of
+pub record Ordering (closure arrows own granted left₀ out₀ left out done : List ℕ) (count : ℕ) : Type 0 where
+  pub count-most : count ≤ length own
+  pub left-len : length left ≡ 1024
+  pub out-len : length out ≡ length out₀
+  pub done-len : length done ≡ 512
+  pub marked : Done closure arrows own left granted done
+  pub grows : (pic : Picture) (m : ℕ) → Clear pic m closure arrows own granted → Table pic (unreached pic []) left₀
+      → Growing pic m closure arrows own granted out₀ left out count
+
+module _ (closure arrows own granted left₀ out₀ : List ℕ) where
+  pub ordering-none : length left₀ ≡ 1024 → length own ≤ 512 → Ordering closure arrows own granted left₀ out₀ left₀ out₀ (zeros 512) 0
+  ordering-none l h = record {
+    count-most = omega arith;
+    left-len = l;
+    out-len = refl;
+    done-len = zeros-length 512;
+    marked = none-marked closure arrows own left₀ granted 512 h;
+    grows = λ pic m d t. growing-none pic m closure arrows own granted out₀ left₀ t;
   }
 
-  -- what the loop is given
-  pub record Given : Type 0 where
-    pub same : (k p : ℕ) → k < arrowCount arrows → p < pairCount boxes rows → touch k p ≡ meets boxes rows arrows p k
-    pub own-are : own ≡ modeArrows arrows m
-    pub clear : Clear boxes rows arrows m
-    pub out-room : length own ≤ length out₀
-    pub work-room : pairCount boxes rows ≤ length work₀
+  module _ (fits : length own ≤ length out₀) (left out done : List ℕ) (count : ℕ)
+      (o : Ordering closure arrows own granted left₀ out₀ left out done count) where
+    -- what is promised
+    abbrev pub Promise : Type 0
+    Promise = (pic : Picture) (m : ℕ) → Clear pic m closure arrows own granted → Table pic (unreached pic []) left₀ → Ordered pic m out₀ count out left
 
-  module _ (d : Given) {out work blocked fresh : List ℕ} {count : ℕ} (g : Growing out work blocked fresh count) where
-    pub growing-out : length out ≡ length out₀
-    growing-out =
-        ap length (g .listed)
-        ∙ written-length (To count) out₀ (omega (arith, d .out-room, own-room boxes rows arrows m own (d .own-are) (To count) (to-grown boxes rows arrows m count)))
+    pub ordering-full : length own ≤ count → Promise
+    ordering-full h pic m d t = growing-full pic m closure arrows own granted out₀ d fits left out count (o .grows pic m d t) h
 
-    pub growing-work : length work ≡ length work₀
-    growing-work =
-        ap length (g .shown)
-        ∙ written-length (workOf boxes rows arrows m (To count)) work₀ (omega (arith, d .work-room, work-length boxes rows arrows m (To count)))
+    module _ (r : ℕ) (f : NextFree closure arrows own left granted r) where
+      pub ordering-done : length own ≤ r → Promise
+      ordering-done h pic m d t = growing-done pic m closure arrows own granted out₀ d fits left out count (o .grows pic m d t) r f h
 
-    -- place t of the numbers is the first whose arrow may follow
-    module _ (t : ℕ) (h : t < length own) (f : T (followsAt touch own arrows (pairCount boxes rows) work t))
-        (before : (k : ℕ) → k < t → T (followsAt touch own arrows (pairCount boxes rows) work k) → ⊥) where
-      one-more : To (count + 1) ≡ To count ++ (getD own t 0 ∷ [])
-      one-more =
-          ap To (add-one count)
-          ∙ to-next boxes rows arrows m count (getD own t 0)
-          (follows-next boxes rows arrows m own (d .own-are) (d .clear) touch (d .same) (To count) work₀ t h (rw (g .shown) at f) (rw (g .shown) at before))
-
-      one-longer : length (To (count + 1)) ≡ count + 1
-      one-longer = ap length one-more ∙ length-append (To count) (getD own t 0 ∷ []) ∙ ap (λ (n : ℕ). n + 1) (g .counted)
-
-      pub growing-room : count < length own
-      growing-room = omega (arith, one-longer, own-room boxes rows arrows m own (d .own-are) (To (count + 1)) (to-grown boxes rows arrows m (count + 1)))
-
-      -- the arrow is listed and its pairs are marked
-      pub growing-next : (blocked′ fresh′ : List ℕ) → Behind touch own (ownSign arrows) work blocked′ → Behind touch own nothing work fresh′
-          → Growing (set out count (getD own t 0)) (written (build (marked (touch (getD own t 0)) work) (pairCount boxes rows)) work) blocked′ fresh′ (count + 1)
-      growing-next blocked′ fresh′ b r =
-          let k = getD own t 0 in
-          let grew = mark-grew (touch k) work (pairCount boxes rows) in
-          let listed = rw (g .counted) at (written-more (To count) out₀ k (omega (arith, g .counted, growing-room, d .out-room))) in
-          record {
-            counted = one-longer;
-            listed = rw (one-more, g .listed) listed;
-            shown =
-                rw (one-more, g .shown)
-                (mark-shown boxes rows arrows m (touch k) k (λ p. d .same k p (own-there boxes rows arrows m own (d .own-are) t h)) (To count) work₀ (d .work-room));
-            blocked-behind = behind-grew touch own (ownSign arrows) work _ blocked′ grew b;
-            fresh-behind = behind-grew touch own nothing work _ fresh′ grew r;
-          }
-
-    -- no arrow may follow
-    pub growing-done : (t : ℕ) → length own ≤ t → ((k : ℕ) → k < t → T (followsAt touch own arrows (pairCount boxes rows) work k) → ⊥)
-        → Ordered boxes rows arrows m out₀ work₀ count out work
-    growing-done t h n =
-        let ended = follows-none boxes rows arrows m own (d .own-are) (d .clear) touch (d .same) (To count) work₀ t h (rw (g .shown) at n) in
-        let whole = greedy-is boxes rows arrows m count (g .counted) ended in
-        record { counted = sym (ap length whole ∙ g .counted); listed = rw whole (g .listed); shown = rw whole (g .shown) }
+      pub ordering-next : count < length own → r < length own → (done′ left′ : List ℕ) → length done′ ≡ length done
+          → Done closure arrows own left granted done′
+          → Takes (setAt closure (arrowAt arrows (getD own r 0) .tail)) (setAt closure (arrowAt arrows (getD own r 0) .head)) left left′
+          → Ordering closure arrows own granted left₀ out₀ left′ (set out count (getD own r 0)) done′ (count + 1)
+      ordering-next l h done′ left′ dl dm t = record {
+        count-most = omega arith;
+        left-len = t .len ∙ o .left-len;
+        out-len = length-set out count (getD own r 0) ∙ o .out-len;
+        done-len = dl ∙ o .done-len;
+        marked = λ i b e. spent-stays closure granted left left′ (takes-fewer _ _ left left′ t) (arrowAt arrows (getD own i 0)) (dm i b e);
+        grows = λ pic m d s. growing-next pic m closure arrows own granted out₀ d fits left out count (o .grows pic m d s) r f h left′ t;
+      }

@@ -1,5 +1,5 @@
 -- The lettered pictures A to J (document 01) in mode 0: one table of what is said of each, and the theorem that the definitions say
--- the same (`table-right`); another of groups that have emptied (document 02, P6; `groups-right`). The pictures stand in `answers`
+-- the same (`table-right`); another of groups that have emptied (document 02, P6; `groups-right`). The pictures stand in `meaning`
 -- specs/Cases. Assumes nothing.
 use mathlib.Core.Path.{_≡_, refl}
 use mathlib.Core.Bool.{Bool, true, false}
@@ -9,7 +9,7 @@ use Prim.Native.Nat.{ℕ, _*_}
 use lib.ListN.{length, replicate}
 use Rattle.base.specs.Search.{orElse, given, first, lowest, every, select}
 use Rattle.base.specs.Buffers.{build, written}
-use Rattle.tables.specs.Rows.{sideOf, isGroup, onSide}
+use Rattle.tables.specs.Rows.{Picture, sideOf, isGroup, onSide}
 use Rattle.tables.specs.Atoms.{outer, atom, atoms, pairCount}
 use Rattle.tables.specs.Refusals.{inItself, notAtomic, unclearPair, noOrder}
 use Rattle.tables.specs.Faults.{raggedFault, countFault, byteFault, namesNoBox, acrossSides, wrongEnds, wrongMode}
@@ -17,14 +17,14 @@ use Rattle.tables.specs.Faults.{rowFault, tableFault, modeFault, roomFault}
 use Rattle.tables.specs.declared.Refusal.{Refusal}
 use Rattle.containment.specs.Contains.{contains, around, loopFault}
 use Rattle.containment.specs.Scratch.{scratchFault, earlyFault, pictureFault}
-use Rattle.answers.specs.Meaning.{hasMode, modeArrows, reaches, nests, level, overrides, settle, hits, certifies, answer}
-use Rattle.answers.specs.Meaning.{byteOf, numberOf, isGranted, isUnclear}
-use Rattle.answers.specs.Pairs.{userAt, fileAt, firstPair, answerAt, byteAt, numberAt, matrixBytes, matrixNumbers, unclearFault, anyUnclear}
+use Rattle.meaning.specs.Meaning.{hasMode, modeArrows, reaches, nests, level, overrides, settle, hits, certifies, answer}
+use Rattle.meaning.specs.Meaning.{byteOf, numberOf, isGranted, isUnclear}
+use Rattle.meaning.specs.Pairs.{userAt, fileAt, firstPair, answerAt, byteAt, numberAt, matrixBytes, matrixNumbers, unclearFault, anyUnclear}
 use Rattle.answers.specs.Calls.{askedFault, entryEarly, entryFault, judgeFault, replyOf}
-use Rattle.answers.specs.Cases.{Picture, picture-A, picture-B, picture-C, picture-D, picture-E, picture-F}
-use Rattle.answers.specs.Cases.{picture-G, picture-H, picture-I, picture-J}
-use Rattle.answers.specs.Cases.{emptied-group, around-emptied, emptied-both, groups-left}
-use Rattle.answers.specs.declared.Entry.the-variants.{Granted, Denied, Default, Unclear}
+use Rattle.meaning.specs.Cases.{picture-A, picture-B, picture-C, picture-D, picture-E, picture-F}
+use Rattle.meaning.specs.Cases.{picture-G, picture-H, picture-I, picture-J}
+use Rattle.meaning.specs.Cases.{emptied-group, around-emptied, emptied-both, groups-left}
+use Rattle.meaning.specs.declared.Entry.the-variants.{Granted, Denied, Default, Unclear}
 use Rattle.answers.specs.declared.Reply.{Reply}
 use Rattle.answers.specs.declared.Reply.the-variants.{Answered, Refused}
 use Rattle.lists.specs.Order.{anyOf, allOf, firstOf, passes, distinct, gives, ofMode}
@@ -222,22 +222,20 @@ groups =
 -- the same picture and questions, with what the definitions say
 unfoldable pub compute : Case → Case
 compute c =
-    let boxes = c .picture .boxes in
-    let rows = c .picture .rows in
-    let arrows = c .picture .arrows in
-    let square = replicate {A = ℕ} (length boxes * length boxes) 0 in
-    let lent = replicate {A = ℕ} (listRoom boxes rows arrows 0) 7 in
+    let pic = c .picture in
+    let square = replicate {A = ℕ} (length (pic .boxes) * length (pic .boxes)) 0 in
+    let lent = replicate {A = ℕ} (listRoom pic 0) 7 in
     record {
       picture = c .picture;
-      judged = judgeFault boxes rows arrows square;
+      judged = judgeFault pic square;
       entries = map
-          (λ q. (q .0, q .1, replyOf (entryFault boxes rows arrows square 0 (q .0) (q .1)) (answer rows arrows 0 (q .0) (q .1))))
+          (λ q. (q .0, q .1, replyOf (entryFault pic square 0 (q .0) (q .1)) (answer pic 0 (q .0) (q .1))))
           (c .entries);
-      bytes = matrixBytes boxes rows arrows 0;
-      numbers = matrixNumbers boxes rows arrows 0;
-      listed = listAnswer boxes rows arrows 0 (listBefore boxes rows arrows 0 square lent square);
-      places = listAfter boxes rows arrows 0 (listBefore boxes rows arrows 0 square lent square) lent;
-      lists = map (λ q. (q .0, qualifies boxes rows arrows 0 (q .0))) (c .lists);
+      bytes = matrixBytes pic 0;
+      numbers = matrixNumbers pic 0;
+      listed = listAnswer pic 0 (listBefore pic 0 square lent square);
+      places = listAfter pic 0 (listBefore pic 0 square lent square) lent;
+      lists = map (λ q. (q .0, qualifies pic 0 (q .0))) (c .lists);
     }
 
 both-right : (map compute table ≡ table) × (map compute groups ≡ groups)

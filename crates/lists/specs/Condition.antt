@@ -10,24 +10,24 @@ use Prim.Native.Nat.{ℕ, _≤_}
 use lib.Dec.{T}
 use lib.ListN.{length, getD, take}
 use Rattle.base.specs.Buffers.{written, zeros}
-use Rattle.tables.specs.Rows.{user, file, arrowAt}
-use Rattle.tables.specs.Atoms.{atom, pairCount}
+use Rattle.tables.specs.Rows.{Picture, user, file, arrowAt}
+use Rattle.tables.specs.Atoms.{atom}
 use Rattle.tables.specs.Refusals.{noOrder}
-use Rattle.answers.specs.Meaning.{reaches, answer, isGranted}
-use Rattle.answers.specs.Pairs.{Before}
+use Rattle.meaning.specs.Meaning.{reaches, answer, isGranted}
+use Rattle.meaning.specs.Pairs.{Before, pairs}
 use Rattle.lists.specs.Order.{anyOf, allOf, firstOf, distinct, gives, ofMode}
 use Rattle.lists.specs.Calls.{blanks, listRoom}
 use Rattle.lists.specs.declared.Listed.{Listed}
 use Rattle.lists.specs.declared.Listed.the-variants.{Written, Refused}
 
-module _ (boxes rows arrows : List ℕ) where
+module _ (pic : Picture) where
   -- (u, f) is a pair: an atomic user and an atomic file
   abbrev pub Pair : ℕ → ℕ → Type 0
-  Pair u f = T (atom boxes rows user u) × T (atom boxes rows file f)
+  Pair u f = T (atom (pic .boxes) (pic .rows) user u) × T (atom (pic .boxes) (pic .rows) file f)
 
   -- arrow k reaches the pair (u, f)
   abbrev pub arrowReaches : ℕ → ℕ → ℕ → Bool
-  arrowReaches u f k = reaches rows (arrowAt arrows k) u f
+  arrowReaches u f k = reaches pic (arrowAt (pic .arrows) k) u f
 
   -- the list reaches the pair (u, f): one of its arrows does
   abbrev pub Reaches : List ℕ → ℕ → ℕ → Type 0
@@ -36,16 +36,16 @@ module _ (boxes rows arrows : List ℕ) where
   module _ (m : ℕ) where
     -- (u, f) gets the picture's answer from the first arrow in the list that reaches it, if there is one
     abbrev pub GetsAnswer : List ℕ → ℕ → ℕ → Type 0
-    GetsAnswer l u f = (k : ℕ) → firstOf (arrowReaches u f) l ≡ some k → T (gives (arrowAt arrows k .sign) (answer rows arrows m u f))
+    GetsAnswer l u f = (k : ℕ) → firstOf (arrowReaches u f) l ≡ some k → T (gives (arrowAt (pic .arrows) k .sign) (answer pic m u f))
 
     -- a list of the mode's arrows is honest if each pair that it reaches gets the picture's answer from the first arrow in the list
     -- that reaches it
     abbrev pub Honest : List ℕ → Type 0
-    Honest l = T (allOf (ofMode arrows m) l) × ((u f : ℕ) → Pair u f → GetsAnswer l u f)
+    Honest l = T (allOf (ofMode (pic .arrows) m) l) × ((u f : ℕ) → Pair u f → GetsAnswer l u f)
 
     -- (u, f) is granted in the mode
     abbrev pub IsGranted : ℕ → ℕ → Type 0
-    IsGranted u f = T (isGranted (answer rows arrows m u f))
+    IsGranted u f = T (isGranted (answer pic m u f))
 
     -- the list reaches every granted pair
     abbrev pub ReachesAll : List ℕ → Type 0
@@ -85,5 +85,5 @@ module _ (boxes rows arrows : List ℕ) where
       pub no-order : ((u f : ℕ) × (r ≡ Refused (noOrder m u f))) ↔ (SomeReachesAll → ⊥)
       pub names : (u f : ℕ) → r ≡ Refused (noOrder m u f) → FirstUnreached u f
       -- 13 sets the needed list places to 65,535, and the needed work bytes are 0 after both
-      pub blanked : (u f : ℕ) → r ≡ Refused (noOrder m u f) → out′ ≡ written (blanks (listRoom boxes rows arrows m)) out
-      pub work-after : work′ ≡ written (zeros (pairCount boxes rows)) work
+      pub blanked : (u f : ℕ) → r ≡ Refused (noOrder m u f) → out′ ≡ written (blanks (listRoom pic m)) out
+      pub work-after : work′ ≡ written (zeros (pairs pic)) work

@@ -4,19 +4,20 @@ use mathlib.Core.List.{List, [], _∷_, _++_}
 use Prim.Native.Nat.{ℕ, _<_}
 use lib.Dec.{T}
 use lib.ListN.{length, getD, take}
+use Rattle.tables.specs.Rows.{Picture}
 use Rattle.lists.specs.Order.{ofMode}
 use Rattle.lists.specs.Condition.{Pair, arrowReaches, Reaches, Honest}
 
-module _ (boxes rows arrows : List ℕ) (m : ℕ) where
+module _ (pic : Picture) (m : ℕ) where
   -- arrow k of the mode can follow while the list stays honest, and reaches a pair that nothing earlier reached
   pub record CanFollow (l : List ℕ) (k : ℕ) : Type 0 where
-    pub of-mode : T (ofMode arrows m k)
-    pub stays-honest : Honest boxes rows arrows m (l ++ (k ∷ []))
+    pub of-mode : T (ofMode (pic .arrows) m k)
+    pub stays-honest : Honest pic m (l ++ (k ∷ []))
     pub user : ℕ
     pub file : ℕ
-    pub is-pair : Pair boxes rows arrows user file
-    pub reaches : T (arrowReaches boxes rows arrows user file k)
-    pub nothing-earlier : Reaches boxes rows arrows l user file → ⊥
+    pub is-pair : Pair pic user file
+    pub reaches : T (arrowReaches pic user file k)
+    pub nothing-earlier : Reaches pic l user file → ⊥
 
   -- the lowest-numbered such arrow
   pub record Lowest (l : List ℕ) (k : ℕ) : Type 0 where

@@ -1,16 +1,15 @@
 -- The list that is written (document 02, P3) and refusal 13, as definitions that compute: `fixed-order` (proofs/FixedLaws.antt) says
 -- that this is the list of specs/Fixed.antt, and `order-none` and `order-missed` (proofs/OrderLaws.antt) what 13 says.
 -- Assumes nothing.
-use mathlib.Core.Bool.{Bool, not, _&&_, _||_}
+use mathlib.Core.Bool.{Bool, not, _&&_}
 use mathlib.Core.List.{List, [], _∷_, _++_}
 use mathlib.Core.Option.{Option, none, some}
 use Prim.Native.Nat.{ℕ, zero, suc}
-use Rattle.base.specs.Search.{first, given, every, lowest}
-use Rattle.tables.specs.Rows.{arrowCount}
-use Rattle.tables.specs.Atoms.{pairCount}
+use Rattle.base.specs.Search.{implies, first, given, every, lowest}
+use Rattle.tables.specs.Rows.{Picture, arrowCount}
 use Rattle.tables.specs.Refusals.{noOrder}
 use Rattle.tables.specs.declared.Refusal.{Refusal}
-use Rattle.answers.specs.Pairs.{userAt, fileAt}
+use Rattle.meaning.specs.Pairs.{pairs, userAt, fileAt}
 use Rattle.lists.specs.Order.{meets, reached, ofMode, granted, right}
 
 -- the list with this arrow at its end, if there is one
@@ -18,23 +17,23 @@ unfoldable pub followed : List ℕ → Option ℕ → List ℕ
 followed l none = l
 followed l (some k) = l ++ (k ∷ [])
 
-module _ (boxes rows arrows : List ℕ) where
+module _ (pic : Picture) where
   -- arrow k would be the first in the list to reach the pair at place p
   unfoldable pub new : List ℕ → ℕ → ℕ → Bool
-  new l k p = meets boxes rows arrows p k && not (reached boxes rows arrows l p)
+  new l k p = meets pic p k && not (reached pic l p)
 
   module _ (m : ℕ) where
     -- arrow k can follow while the list stays honest: each pair that it would be the first to reach gets the picture's answer
     unfoldable pub fits : List ℕ → ℕ → Bool
-    fits l k = every (λ p. not (new l k p) || right boxes rows arrows m p k) (pairCount boxes rows)
+    fits l k = every (λ p. implies (new l k p) (right pic m p k)) (pairs pic)
 
     -- it can follow, and reaches a pair that nothing earlier reached
     unfoldable pub addable : List ℕ → ℕ → Bool
-    addable l k = ofMode arrows m k && (fits l k && not (every (λ p. not (new l k p)) (pairCount boxes rows)))
+    addable l k = ofMode (pic .arrows) m k && (fits l k && not (every (λ p. not (new l k p)) (pairs pic)))
 
     -- the lowest-numbered such arrow
     unfoldable pub next : List ℕ → Option ℕ
-    next l = lowest (addable l) (arrowCount arrows)
+    next l = lowest (addable l) (arrowCount (pic .arrows))
 
     -- the first n places of the list: at each stands the next arrow, and the list ends when there is none
     unfoldable pub listTo : ℕ → List ℕ
@@ -43,13 +42,13 @@ module _ (boxes rows arrows : List ℕ) where
 
     -- the list, which has no more places than there are arrows
     unfoldable pub greedy : List ℕ
-    greedy = listTo (arrowCount arrows)
+    greedy = listTo (arrowCount (pic .arrows))
 
     -- the first granted pair that a list does not reach
     unfoldable pub leftBy : List ℕ → Option Refusal
     leftBy l =
-        first (λ p. given (granted boxes rows arrows m p && not (reached boxes rows arrows l p)) (noOrder m (userAt boxes rows p) (fileAt boxes rows p)))
-        (pairCount boxes rows)
+        first (λ p. given (granted pic m p && not (reached pic l p)) (noOrder m (userAt pic p) (fileAt pic p)))
+        (pairs pic)
 
     -- 13: no honest list reaches every granted pair
     unfoldable pub orderFault : Option Refusal

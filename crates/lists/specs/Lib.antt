@@ -1,7 +1,7 @@
 pub mod Order
 pub mod Greedy
-pub mod Calls
 pub mod Condition
 pub mod Fixed
+pub mod Calls
 pub mod Steps
 pub mod Cases

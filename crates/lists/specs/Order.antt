@@ -7,12 +7,11 @@ use mathlib.Core.List.{List, [], _∷_}
 use mathlib.Core.Option.{Option, none, some}
 use Prim.Native.Nat.{ℕ, _<_}
 use lib.Dec.{T, eqb, ltb}
-use Rattle.base.specs.Search.{every}
-use Rattle.tables.specs.Rows.{arrowCount, arrowAt}
-use Rattle.tables.specs.Atoms.{pairCount}
-use Rattle.answers.specs.Meaning.{positive, negative, hasMode, reaches, isGranted, isUnclear}
-use Rattle.answers.specs.Pairs.{userAt, fileAt, answerAt}
-use Rattle.answers.specs.declared.Entry.{Entry}
+use Rattle.base.specs.Search.{implies, every}
+use Rattle.tables.specs.Rows.{Picture, arrowCount, arrowAt}
+use Rattle.meaning.specs.Meaning.{positive, negative, hasMode, reaches, isGranted, isUnclear}
+use Rattle.meaning.specs.Pairs.{pairs, userAt, fileAt, answerAt}
+use Rattle.meaning.specs.declared.Entry.{Entry}
 
 -- a number of the list passes the test
 unfoldable pub anyOf : (ℕ → Bool) → List ℕ → Bool
@@ -47,10 +46,10 @@ gives s e = cond (isGranted e) (eqb s positive) (eqb s negative && not (isUnclea
 unfoldable pub ofMode : List ℕ → ℕ → ℕ → Bool
 ofMode arrows m k = ltb k (arrowCount arrows) && hasMode arrows m k
 
-module _ (boxes rows arrows : List ℕ) where
+module _ (pic : Picture) where
   -- arrow k reaches the pair at place p
   unfoldable pub meets : ℕ → ℕ → Bool
-  meets p k = reaches rows (arrowAt arrows k) (userAt boxes rows p) (fileAt boxes rows p)
+  meets p k = reaches pic (arrowAt (pic .arrows) k) (userAt pic p) (fileAt pic p)
 
   -- the list reaches the pair at place p: one of its arrows does
   unfoldable pub reached : List ℕ → ℕ → Bool
@@ -59,20 +58,20 @@ module _ (boxes rows arrows : List ℕ) where
   module _ (m : ℕ) where
     -- the pair at place p is granted in the mode
     unfoldable pub granted : ℕ → Bool
-    granted p = isGranted (answerAt boxes rows arrows m p)
+    granted p = isGranted (answerAt pic m p)
 
     -- the pair at place p gets the picture's answer from arrow k
     unfoldable pub right : ℕ → ℕ → Bool
-    right p k = gives (arrowAt arrows k .sign) (answerAt boxes rows arrows m p)
+    right p k = gives (arrowAt (pic .arrows) k .sign) (answerAt pic m p)
 
     -- a list of the mode's arrows is honest if each pair that it reaches gets the picture's answer from the first arrow in the list
     -- that reaches it
     unfoldable pub honest : List ℕ → Bool
-    honest l = allOf (ofMode arrows m) l && every (λ p. passes (right p) (firstOf (meets p) l)) (pairCount boxes rows)
+    honest l = allOf (ofMode (pic .arrows) m) l && every (λ p. passes (right p) (firstOf (meets p) l)) (pairs pic)
 
     -- the list reaches every granted pair
     unfoldable pub coversAll : List ℕ → Bool
-    coversAll l = every (λ p. not (granted p) || reached l p) (pairCount boxes rows)
+    coversAll l = every (λ p. implies (granted p) (reached l p)) (pairs pic)
 
     -- what holds of the list that is written: it is honest, has no arrow twice and reaches every granted pair
     unfoldable pub qualifies : List ℕ → Bool
@@ -81,9 +80,9 @@ module _ (boxes rows arrows : List ℕ) where
     -- (u, f) is the first granted pair, by user, then file, that no honest list whatever reaches
     pub record FirstMissed (u f : ℕ) : Type 0 where
       pub place : ℕ
-      pub there : place < pairCount boxes rows
-      pub user-is : userAt boxes rows place ≡ u
-      pub file-is : fileAt boxes rows place ≡ f
+      pub there : place < pairs pic
+      pub user-is : userAt pic place ≡ u
+      pub file-is : fileAt pic place ≡ f
       pub is-granted : T (granted place)
       pub missed : (l : List ℕ) → T (honest l) → T (reached l place) → ⊥
       pub before : (q : ℕ) → q < place → T (granted q) → (l : List ℕ) × T (honest l) × T (reached l q)

@@ -1,112 +1,112 @@
 -- What the functions ask of and promise each other: how the list is found. Assumes nothing.
 use mathlib.Core.Path.{_≡_}
-use mathlib.Core.Bool.{Bool, false, not, cond, _&&_}
+use mathlib.Core.Bool.{Bool, true, false, not, cond, _&&_}
 use mathlib.Core.List.{List}
-use mathlib.Core.Option.{Option}
-use Prim.Native.Nat.{ℕ, _+_, _/_, _%_, _<_, _≤_}
-use lib.Dec.{T, eqb, ltb}
+use mathlib.Core.Option.{none}
+use Prim.Native.Nat.{ℕ, _<_, _≤_}
+use lib.Dec.{eqb}
 use lib.ListN.{length, getD}
-use Rattle.base.specs.Search.{first, given, every, bit}
-use Rattle.base.specs.Buffers.{build, written}
-use Rattle.tables.specs.Rows.{arrowCount, arrowAt}
-use Rattle.tables.specs.Atoms.{pairCount}
-use Rattle.tables.specs.Refusals.{noOrder}
-use Rattle.tables.specs.declared.Refusal.{Refusal}
-use Rattle.answers.specs.Among.{Numbers}
-use Rattle.answers.specs.Meaning.{isUnclear}
-use Rattle.answers.specs.Pairs.{userAt, fileAt, answerAt, unclearFault}
-use Rattle.answers.specs.Table.{tailAround, headAround}
-use Rattle.answers.specs.declared.Grid.{Grid}
-use Rattle.lists.specs.Order.{meets, reached, granted}
+use Rattle.base.specs.Search.{anyBelow}
+use Rattle.base.specs.Buffers.{written}
+use Rattle.tables.specs.Rows.{Picture, user, file, arrowAt}
+use Rattle.tables.specs.Atoms.{atom}
+use Rattle.tables.specs.Refusals.{verdictOf}
+use Rattle.tables.specs.declared.Arrow.{Arrow}
+use Rattle.tables.specs.declared.Verdict.{Verdict}
+use Rattle.meaning.specs.Meaning.{positive, reaches, answer, isGranted}
+use Rattle.boxsets.specs.Sets.{isIn, setAt, has}
+use Rattle.boxsets.specs.declared.Set.{Set}
+use Rattle.meaning.specs.Pairs.{unclearFault}
+use Rattle.user_rows.specs.Row.{ownArrows}
+use Rattle.user_rows.specs.Steps.{Drawn}
+use Rattle.lists.specs.Order.{anyOf}
 use Rattle.lists.specs.Greedy.{greedy}
 use Rattle.lists.specs.Calls.{listAnswer, listAfter, workAfter}
 use Rattle.lists.specs.declared.Listed.{Listed}
+use Rattle.lists.specs.declared.Standing.{Standing}
+use Rattle.lists.specs.declared.Standing.the-variants.{Blocked, Spent, Free}
 
--- arrow k reaches the pair at place p, by the table: it reaches the user of the row and the file of the column
-unfoldable pub touches : List ℕ → Grid → ℕ → ℕ → Bool
-touches table g k p = tailAround table g k (p / g .files) && headAround table g k (p % g .files)
+-- ---- by sets alone: `left` has for each user the files that the list does not reach yet, `granted` those that are granted
 
--- the table is that of the picture
-pub record Agrees (boxes rows arrows table : List ℕ) (g : Grid) : Type 0 where
-  pub pairs-are : g .pairs ≡ pairCount boxes rows
-  pub same : (k p : ℕ) → k < arrowCount arrows → p < pairCount boxes rows → touches table g k p ≡ meets boxes rows arrows p k
+-- one of the users has one of the files at which the test holds
+unfoldable pub someIn : (users files : Set) (test : ℕ → ℕ → Bool) → Bool
+someIn users files test = anyBelow (λ u. isIn users u && anyBelow (λ f. isIn files f && test u f) 256) 256
 
--- the arrows of a picture, and numbers of some of them
-pub record Drawn (arrows own : List ℕ) : Type 0 where
-  pub few : length own ≤ 512
-  pub few-arrows : arrowCount arrows ≤ 512
-  pub signs : (k : ℕ) → k < arrowCount arrows → arrowAt arrows k .sign ≤ 1
-  pub numbers : Numbers arrows own
+-- the pair is left, and an arrow of the sign would give it the wrong answer
+unfoldable pub wrongAt : (left granted : List ℕ) (sign u f : ℕ) → Bool
+wrongAt left granted sign u f = has left u f && cond (eqb sign positive) (not (has granted u f)) (has granted u f)
 
--- of an arrow, by which pairs it reaches
-module _ (touch : ℕ → Bool) where
-  -- a work byte is 1 if its pair is granted, and 2 more if the list reaches it.
-  -- The arrow reaches the pair at place p, whose byte is none of a reached pair and is not `skip`: with the arrow's sign to skip,
-  -- the arrow may not follow yet; with 2, it would be the first to reach the pair.
-  unfoldable pub stops : List ℕ → ℕ → ℕ → Bool
-  stops work skip p = ltb (getD work p 0) 2 && (not (eqb (getD work p 0) skip) && touch p)
+-- an arrow is blocked if it would give a pair that is left the wrong answer, spent if it reaches no pair that is left, else free
+unfoldable pub standingOf : (wrong new : Bool) → Standing
+standingOf true new = Blocked
+standingOf false true = Free
+standingOf false false = Spent
 
-  -- none of the first r places does
-  abbrev pub NoStop : List ℕ → ℕ → ℕ → Type 0
-  NoStop work skip r = (p : ℕ) → p < r → T (stops work skip p) → ⊥
+-- how the arrow stands, by the closure
+unfoldable pub standingBy : (closure left granted : List ℕ) (a : Arrow) → Standing
+standingBy closure left granted a =
+    standingOf (someIn (setAt closure (a .tail)) (setAt closure (a .head)) (wrongAt left granted (a .sign)))
+    (someIn (setAt closure (a .tail)) (setAt closure (a .head)) (has left))
 
-  -- of the places from `first` on, r is the first from s on that does, or n where none before n does
-  pub record StopIn (work : List ℕ) (skip first s n r : ℕ) : Type 0 where
-    pub at-most : r ≤ n
-    pub none-between : (j : ℕ) → s ≤ j → j < r → T (stops work skip (first + j)) → ⊥
-    pub holds : r < n → T (stops work skip (first + r))
+-- the mark of a place of the numbers: 1 if its arrow is spent, 2 if it is free
+unfoldable pub markOf : Standing → ℕ
+markOf Blocked = 0
+markOf Spent = 1
+markOf Free = 2
 
-  -- the arrow, of this sign, may follow, and would be the first to reach some of the n pairs
-  unfoldable pub follows : ℕ → ℕ → List ℕ → Bool
-  follows sign n work = every (λ p. not (stops work sign p)) n && not (every (λ p. not (stops work 2 p)) n)
+-- a place that is marked is that of a spent arrow
+abbrev pub Done : (closure arrows own left granted done : List ℕ) → Type 0
+Done closure arrows own left granted done =
+    (i : ℕ) → i < length own → (getD done i 0 ≡ 0 → ⊥) → standingBy closure left granted (arrowAt arrows (getD own i 0)) ≡ Spent
 
-  -- the byte at place p once the arrow is in the list
-  unfoldable pub marked : List ℕ → ℕ → ℕ
-  marked work p = getD work p 0 + cond (stops work 2 p) 2 0
+-- r is the first place whose arrow is free, or the number of places
+pub record NextFree (closure arrows own left granted : List ℕ) (r : ℕ) : Type 0 where
+  pub at-most : r ≤ length own
+  pub none-before : (i : ℕ) → i < r → standingBy closure left granted (arrowAt arrows (getD own i 0)) ≡ Free → ⊥
+  pub holds : r < length own → standingBy closure left granted (arrowAt arrows (getD own r 0)) ≡ Free
 
-  -- the work bytes, of which the first n are so
-  abbrev pub markedTo : List ℕ → ℕ → List ℕ
-  markedTo work n = written (build (marked work) n) work
+-- the files were taken from what each of the users has left
+pub record Takes (users files : Set) (left left′ : List ℕ) : Type 0 where
+  pub len : length left′ ≡ length left
+  pub each : (u f : ℕ) → has left′ u f ≡ (has left u f && not (isIn users u && isIn files f))
 
--- what the two kinds of pointers skip, for arrow k
-abbrev pub ownSign : List ℕ → ℕ → ℕ
-ownSign arrows k = arrowAt arrows k .sign
+-- ---- what the sets say of a picture
 
-abbrev pub nothing : ℕ → ℕ
-nothing k = 2
+-- set u has f exactly if (u, f) is a pair at which the test holds
+pub record Table (pic : Picture) (test : ℕ → ℕ → Bool) (t : List ℕ) : Type 0 where
+  pub len : length t ≡ 1024
+  pub each : (u f : ℕ) → u < 256
+      → has t u f ≡ ((atom (pic .boxes) (pic .rows) user u && atom (pic .boxes) (pic .rows) file f) && test u f)
 
-module _ (touch : ℕ → ℕ → Bool) (own : List ℕ) where
-  -- a pointer for each of the numbered arrows, before which no place stops it
-  pub record Behind (skip : ℕ → ℕ) (work pointers : List ℕ) : Type 0 where
-    pub room : length own ≤ length pointers
-    pub passed : (t : ℕ) → t < length own → NoStop (touch (getD own t 0)) work (skip (getD own t 0)) (getD pointers t 0)
+-- the list does not reach the pair
+abbrev pub unreached : (pic : Picture) (l : List ℕ) (u f : ℕ) → Bool
+unreached pic l u f = not (anyOf (λ k. reaches pic (arrowAt (pic .arrows) k) u f) l)
 
-  -- the arrow at place t of the numbers may follow
-  unfoldable pub followsAt : List ℕ → ℕ → List ℕ → ℕ → Bool
-  followsAt arrows n work t = follows (touch (getD own t 0)) (ownSign arrows (getD own t 0)) n work
+-- the pair is granted
+abbrev pub grantedTo : (pic : Picture) (mode u f : ℕ) → Bool
+grantedTo pic mode u f = isGranted (answer pic mode u f)
 
-module _ (boxes rows : List ℕ) where
-  -- the first pair whose byte is that of a granted pair that is not reached
-  unfoldable pub leftIn : ℕ → List ℕ → Option Refusal
-  leftIn m work = first (λ p. given (eqb (getD work p 0) 1) (noOrder m (userAt boxes rows p) (fileAt boxes rows p))) (pairCount boxes rows)
+-- a picture with no unclear pair in the mode, its closure, the mode's arrows without repeats, and the granted files
+pub record Clear (pic : Picture) (mode : ℕ) (closure arrows own granted : List ℕ) : Type 0 where
+  pub drawn : Drawn pic closure
+  pub arrows-are : arrows ≡ pic .arrows
+  pub own-are : own ≡ ownArrows (pic .arrows) mode
+  pub clear : unclearFault pic mode ≡ none
+  pub says : Table pic (grantedTo pic mode) granted
 
-module _ (boxes rows arrows : List ℕ) (m : ℕ) where
-  -- no pair is unclear
-  abbrev pub Clear : Type 0
-  Clear = (p : ℕ) → p < pairCount boxes rows → isUnclear (answerAt boxes rows arrows m p) ≡ false
+-- what check 12 says, and the granted files where it passes
+pub record Check12 (pic : Picture) (mode : ℕ) (r : Verdict) (granted : List ℕ) : Type 0 where
+  pub said : r ≡ verdictOf (unclearFault pic mode)
+  pub says : unclearFault pic mode ≡ none → Table pic (grantedTo pic mode) granted
 
-  -- the work bytes when l is the list
-  unfoldable pub workOf : List ℕ → List ℕ
-  workOf l = build (λ p. bit (granted boxes rows arrows m p) + cond (reached boxes rows arrows l p) 2 0) (pairCount boxes rows)
+-- the list stands in the first places, and what is left is what it does not reach
+pub record Ordered (pic : Picture) (mode : ℕ) (old : List ℕ) (count : ℕ) (out left : List ℕ) : Type 0 where
+  pub counted : count ≡ length (greedy pic mode)
+  pub listed : out ≡ written (greedy pic mode) old
+  pub shown : Table pic (unreached pic (greedy pic mode)) left
 
-  -- the list was found: so many places, the places themselves, and the work bytes that show it
-  pub record Ordered (out work : List ℕ) (count : ℕ) (out′ work′ : List ℕ) : Type 0 where
-    pub counted : count ≡ length (greedy boxes rows arrows m)
-    pub listed : out′ ≡ written (greedy boxes rows arrows m) out
-    pub shown : work′ ≡ written (workOf (greedy boxes rows arrows m)) work
-
-  -- check 12 and what follows it: the answer r, and the list and the work bytes before and after
-  pub record Listing (out work : List ℕ) (r : Listed) (out′ work′ : List ℕ) : Type 0 where
-    pub answered : r ≡ listAnswer boxes rows arrows m (unclearFault boxes rows arrows m)
-    pub list-after : out′ ≡ listAfter boxes rows arrows m (unclearFault boxes rows arrows m) out
-    pub work-after : work′ ≡ workAfter boxes rows arrows m (unclearFault boxes rows arrows m) work
+-- what is answered, and what the list places and the work bytes hold, once checks 1 to 10 have passed
+pub record Listing (pic : Picture) (mode : ℕ) (out work : List ℕ) (r : Listed) (out′ work′ : List ℕ) : Type 0 where
+  pub answered : r ≡ listAnswer pic mode (unclearFault pic mode)
+  pub list-after : out′ ≡ listAfter pic mode (unclearFault pic mode) out
+  pub work-after : work′ ≡ workAfter pic mode (unclearFault pic mode) work

@@ -6,7 +6,7 @@ use native.Mathlib.Omega.{arith}
 use lib.ListN.{length, getD, take, drop, take-append-drop}
 use lib.Seq.{take-take, take-add, drop-drop, drop-cons, drop-length}
 use Rattle.base.specs.Buffers.{zeros}
-use Rattle.tables.specs.Rows.{rowAt, arrowAt}
+use Rattle.tables.specs.Rows.{Picture, rowAt, arrowAt}
 use Rattle.blocks.specs.Fnv.{fnv1a}
 use Rattle.blocks.specs.Blocks.{number16, number32, headOf, recordSize, joined}
 use Rattle.blocks.specs.declared.Head.{Head}
@@ -126,15 +126,15 @@ module _ (block : List ℕ) (whole : length block ≡ 512) (small : (at : ℕ) �
 
   -- ---- a row's record is that of the block, where the block says the row
 
-  module _ (boxes rows arrows : List ℕ) (i j : ℕ) where
-    pub box-record : j < 500 → getD boxes i 0 ≡ getD block (8 + j) 0 → recordBytes boxes rows arrows 1 i ≡ recordIn block 1 j
+  module _ (pic : Picture) (i j : ℕ) where
+    pub box-record : j < 500 → getD (pic .boxes) i 0 ≡ getD block (8 + j) 0 → recordBytes pic 1 i ≡ recordIn block 1 j
     unfolding recordBytes boxBytes
     box-record h e =
         let a : 8 + 1 * j ≡ 8 + j = omega arith in
         rw (a, part-more (8 + j) 0 (omega arith), e)
 
-    pub containment-record : j < 125 → rowAt rows i .outer ≡ number16 block (8 + 4 * j) → rowAt rows i .inner ≡ number16 block (10 + 4 * j)
-        → recordBytes boxes rows arrows 2 i ≡ recordIn block 4 j
+    pub containment-record : j < 125 → rowAt (pic .rows) i .outer ≡ number16 block (8 + 4 * j)
+        → rowAt (pic .rows) i .inner ≡ number16 block (10 + 4 * j) → recordBytes pic 2 i ≡ recordIn block 4 j
     unfolding recordBytes containmentBytes
     containment-record h p q =
         let at = 8 + 4 * j in
@@ -153,9 +153,10 @@ module _ (block : List ℕ) (whole : length block ≡ 512) (small : (at : ℕ) �
           c,
         )
 
-    pub arrow-record : j < 83 → arrowAt arrows i .tail ≡ number16 block (8 + 6 * j) → arrowAt arrows i .head ≡ number16 block (10 + 6 * j)
-        → arrowAt arrows i .mode ≡ getD block (12 + 6 * j) 0 → arrowAt arrows i .sign ≡ getD block (13 + 6 * j) 0
-        → recordBytes boxes rows arrows 3 i ≡ recordIn block 6 j
+    pub arrow-record : j < 83
+        → arrowAt (pic .arrows) i .tail ≡ number16 block (8 + 6 * j) → arrowAt (pic .arrows) i .head ≡ number16 block (10 + 6 * j)
+        → arrowAt (pic .arrows) i .mode ≡ getD block (12 + 6 * j) 0 → arrowAt (pic .arrows) i .sign ≡ getD block (13 + 6 * j) 0
+        → recordBytes pic 3 i ≡ recordIn block 6 j
     unfolding recordBytes arrowBytes
     arrow-record h p q r s =
         let at = 8 + 6 * j in
@@ -164,8 +165,10 @@ module _ (block : List ℕ) (whole : length block ≡ 512) (small : (at : ℕ) �
         let d : 10 + 6 * j + 1 ≡ suc (suc (suc (8 + 6 * j))) = omega arith in
         let e : 12 + 6 * j ≡ suc (suc (suc (suc (8 + 6 * j)))) = omega arith in
         let f : 13 + 6 * j ≡ suc (suc (suc (suc (suc (8 + 6 * j))))) = omega arith in
-        let m : arrowAt arrows i .mode % 256 ≡ getD block (12 + 6 * j) 0 = let l = small (12 + 6 * j) (omega arith) in rw r (omega arith) in
-        let n : arrowAt arrows i .sign % 256 ≡ getD block (13 + 6 * j) 0 = let l = small (13 + 6 * j) (omega arith) in rw s (omega arith) in
+        let m : arrowAt (pic .arrows) i .mode % 256 ≡ getD block (12 + 6 * j) 0
+        = let l = small (12 + 6 * j) (omega arith) in rw r (omega arith) in
+        let n : arrowAt (pic .arrows) i .sign % 256 ≡ getD block (13 + 6 * j) 0
+        = let l = small (13 + 6 * j) (omega arith) in rw s (omega arith) in
         ap₂ _++_ (ap bytes16 p ∙ bytes16-at (8 + 6 * j) (omega arith))
         (ap₂ _++_ (ap bytes16 q ∙ bytes16-at (10 + 6 * j) (omega arith)) (ap₂ (λ (x y : ℕ). x ∷ y ∷ []) m n))
         ∙ rw (

@@ -7,7 +7,7 @@ use native.Mathlib.Omega.{arith}
 use lib.ListN.{length, getD, take, drop}
 use lib.Seq.{take-at, drop-at, drop-append-add, getD-append-add}
 use Rattle.base.specs.Buffers.{zeros}
-use Rattle.tables.specs.Rows.{rowAt, arrowAt}
+use Rattle.tables.specs.Rows.{Picture, rowAt, arrowAt}
 use Rattle.blocks.specs.Fnv.{fnv1a}
 use Rattle.blocks.specs.Blocks.{number16, number32, headOf, capacity, recordSize, joined, boxesSaid, containmentsSaid, arrowsSaid, blockFault}
 use Rattle.blocks.proofs.Placing.{joined-length}
@@ -85,57 +85,58 @@ module _ (kind : ℕ) (low : 1 ≤ kind) (high : kind ≤ 3) (number count : ℕ
 
 -- ---- a packed block
 
-module _ (boxes rows arrows : List ℕ) where
+module _ (pic : Picture) where
   module _ (kind : ℕ) (low : 1 ≤ kind) (high : kind ≤ 3) (k : ℕ) where
-    pub kind-head : headOf (kindBlock boxes rows arrows kind k) ≡ headMade kind (firstOf boxes rows arrows kind + k) (countIn boxes rows arrows kind k)
+    pub kind-head : headOf (kindBlock pic kind k) ≡ headMade kind (firstOf pic kind + k) (countIn pic kind k)
     unfolding kindBlock
-    kind-head = block-head kind low high _ _ _ (count-most kind low high boxes rows arrows k) (λ j. record-length kind low high boxes rows arrows _)
+    kind-head = block-head kind low high _ _ _ (count-most kind low high pic k) (λ j. record-length kind low high pic _)
 
     pub kind-sound : (before : ℕ) → before ≤ kind
-        → blockFault before (firstOf boxes rows arrows kind + k) (kindBlock boxes rows arrows kind k) ≡ none
+        → blockFault before (firstOf pic kind + k) (kindBlock pic kind k) ≡ none
     unfolding kindBlock
-    kind-sound = block-sound kind low high _ _ _ (count-most kind low high boxes rows arrows k) (λ j. record-length kind low high boxes rows arrows _)
+    kind-sound = block-sound kind low high _ _ _ (count-most kind low high pic k) (λ j. record-length kind low high pic _)
 
-    pub kind-record : (j : ℕ) → j < countIn boxes rows arrows kind k
-        → RecordIs (kindBlock boxes rows arrows kind k) (recordSize kind) j (recordBytes boxes rows arrows kind (capacity kind * k + j))
+    pub kind-record : (j : ℕ) → j < countIn pic kind k
+        → RecordIs (kindBlock pic kind k) (recordSize kind) j (recordBytes pic kind (capacity kind * k + j))
     unfolding kindBlock
-    kind-record = record-is kind low high _ _ _ (count-most kind low high boxes rows arrows k) (λ j. record-length kind low high boxes rows arrows _)
+    kind-record = record-is kind low high _ _ _ (count-most kind low high pic k) (λ j. record-length kind low high pic _)
 
   -- the rows of its own kind
-  box-bytes : (i : ℕ) → getD (recordBytes boxes rows arrows 1 i) 0 0 ∷ [] ≡ getD boxes i 0 ∷ []
+  box-bytes : (i : ℕ) → getD (recordBytes pic 1 i) 0 0 ∷ [] ≡ getD (pic .boxes) i 0 ∷ []
   unfolding recordBytes boxBytes
   box-bytes i = refl
 
-  containment-bytes : (i : ℕ) → number16 (recordBytes boxes rows arrows 2 i) 0 ∷ number16 (recordBytes boxes rows arrows 2 i) 2 ∷ []
-      ≡ rowAt rows i .outer ∷ rowAt rows i .inner ∷ []
+  containment-bytes : (i : ℕ) → number16 (recordBytes pic 2 i) 0 ∷ number16 (recordBytes pic 2 i) 2 ∷ []
+      ≡ rowAt (pic .rows) i .outer ∷ rowAt (pic .rows) i .inner ∷ []
   unfolding recordBytes containmentBytes bytes16
   containment-bytes i =
-      let r = recordBytes boxes rows arrows 2 i in
-      ap₂ (λ (o n : ℕ). o ∷ n ∷ []) (number16-is r 0 ∙ two-bytes (rowAt rows i .outer)) (number16-is r 2 ∙ two-bytes (rowAt rows i .inner))
+      let r = recordBytes pic 2 i in
+      ap₂ (λ (o n : ℕ). o ∷ n ∷ [])
+      (number16-is r 0 ∙ two-bytes (rowAt (pic .rows) i .outer)) (number16-is r 2 ∙ two-bytes (rowAt (pic .rows) i .inner))
 
-  arrow-bytes : (i : ℕ) → arrowAt arrows i .mode ≤ 7 → arrowAt arrows i .sign ≤ 1
-      → number16 (recordBytes boxes rows arrows 3 i) 0 ∷ number16 (recordBytes boxes rows arrows 3 i) 2
-      ∷ getD (recordBytes boxes rows arrows 3 i) 4 0 ∷ getD (recordBytes boxes rows arrows 3 i) 5 0 ∷ []
-      ≡ arrowAt arrows i .tail ∷ arrowAt arrows i .head ∷ arrowAt arrows i .mode ∷ arrowAt arrows i .sign ∷ []
+  arrow-bytes : (i : ℕ) → arrowAt (pic .arrows) i .mode ≤ 7 → arrowAt (pic .arrows) i .sign ≤ 1
+      → number16 (recordBytes pic 3 i) 0 ∷ number16 (recordBytes pic 3 i) 2
+      ∷ getD (recordBytes pic 3 i) 4 0 ∷ getD (recordBytes pic 3 i) 5 0 ∷ []
+      ≡ arrowAt (pic .arrows) i .tail ∷ arrowAt (pic .arrows) i .head ∷ arrowAt (pic .arrows) i .mode ∷ arrowAt (pic .arrows) i .sign ∷ []
   unfolding recordBytes arrowBytes bytes16
   arrow-bytes i mode sign =
-      let r = recordBytes boxes rows arrows 3 i in
-      let m : arrowAt arrows i .mode % 256 ≡ arrowAt arrows i .mode = omega arith in
-      let s : arrowAt arrows i .sign % 256 ≡ arrowAt arrows i .sign = omega arith in
-      ap₂ (λ (t h : ℕ). t ∷ h ∷ arrowAt arrows i .mode % 256 ∷ arrowAt arrows i .sign % 256 ∷ [])
-      (number16-is r 0 ∙ two-bytes (arrowAt arrows i .tail)) (number16-is r 2 ∙ two-bytes (arrowAt arrows i .head))
+      let r = recordBytes pic 3 i in
+      let m : arrowAt (pic .arrows) i .mode % 256 ≡ arrowAt (pic .arrows) i .mode = omega arith in
+      let s : arrowAt (pic .arrows) i .sign % 256 ≡ arrowAt (pic .arrows) i .sign = omega arith in
+      ap₂ (λ (t h : ℕ). t ∷ h ∷ arrowAt (pic .arrows) i .mode % 256 ∷ arrowAt (pic .arrows) i .sign % 256 ∷ [])
+      (number16-is r 0 ∙ two-bytes (arrowAt (pic .arrows) i .tail)) (number16-is r 2 ∙ two-bytes (arrowAt (pic .arrows) i .head))
       ∙ rw (m, s)
 
-  pub boxes-said : (k : ℕ) → boxesSaid (kindBlock boxes rows arrows 1 k)
-      ≡ joined (λ j. getD boxes (capacity 1 * k + j) 0 ∷ []) (countIn boxes rows arrows 1 k)
+  pub boxes-said : (k : ℕ) → boxesSaid (kindBlock pic 1 k)
+      ≡ joined (λ j. getD (pic .boxes) (capacity 1 * k + j) 0 ∷ []) (countIn pic 1 k)
   boxes-said k =
       boxes-are _ _ _ _ (kind-head 1 (omega arith) (omega arith) k)
       (λ j l.
-      box-row _ j (recordBytes boxes rows arrows 1 (capacity 1 * k + j)) (rw (record-sizes .0) at (kind-record 1 (omega arith) (omega arith) k j l))
+      box-row _ j (recordBytes pic 1 (capacity 1 * k + j)) (rw (record-sizes .0) at (kind-record 1 (omega arith) (omega arith) k j l))
       ∙ box-bytes (capacity 1 * k + j))
 
-  pub containments-said : (k : ℕ) → containmentsSaid (kindBlock boxes rows arrows 2 k)
-      ≡ joined (λ j. rowAt rows (capacity 2 * k + j) .outer ∷ rowAt rows (capacity 2 * k + j) .inner ∷ []) (countIn boxes rows arrows 2 k)
+  pub containments-said : (k : ℕ) → containmentsSaid (kindBlock pic 2 k)
+      ≡ joined (λ j. rowAt (pic .rows) (capacity 2 * k + j) .outer ∷ rowAt (pic .rows) (capacity 2 * k + j) .inner ∷ []) (countIn pic 2 k)
   containments-said k =
       containments-are _ _ _ _ (kind-head 2 (omega arith) (omega arith) k)
       (λ j l.
@@ -144,10 +145,11 @@ module _ (boxes rows arrows : List ℕ) where
 
   -- a mode and a sign are bytes
   pub arrows-said : (k : ℕ)
-      → ((j : ℕ) → j < countIn boxes rows arrows 3 k → (arrowAt arrows (capacity 3 * k + j) .mode ≤ 7) × (arrowAt arrows (capacity 3 * k + j) .sign ≤ 1))
-      → arrowsSaid (kindBlock boxes rows arrows 3 k)
-      ≡ joined (λ j. arrowAt arrows (capacity 3 * k + j) .tail ∷ arrowAt arrows (capacity 3 * k + j) .head
-      ∷ arrowAt arrows (capacity 3 * k + j) .mode ∷ arrowAt arrows (capacity 3 * k + j) .sign ∷ []) (countIn boxes rows arrows 3 k)
+      → ((j : ℕ) → j < countIn pic 3 k
+      → (arrowAt (pic .arrows) (capacity 3 * k + j) .mode ≤ 7) × (arrowAt (pic .arrows) (capacity 3 * k + j) .sign ≤ 1))
+      → arrowsSaid (kindBlock pic 3 k)
+      ≡ joined (λ j. arrowAt (pic .arrows) (capacity 3 * k + j) .tail ∷ arrowAt (pic .arrows) (capacity 3 * k + j) .head
+      ∷ arrowAt (pic .arrows) (capacity 3 * k + j) .mode ∷ arrowAt (pic .arrows) (capacity 3 * k + j) .sign ∷ []) (countIn pic 3 k)
   arrows-said k small =
       arrows-are _ _ _ _ (kind-head 3 (omega arith) (omega arith) k)
       (λ j l.

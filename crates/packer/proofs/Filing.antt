@@ -7,9 +7,10 @@ use native.Mathlib.Omega.{arith}
 use lib.ListN.{length, take, length-append}
 use lib.Seq.{sets}
 use Rattle.base.specs.Buffers.{written}
-use Rattle.tables.specs.Rows.{rowCount, arrowCount}
+use Rattle.tables.specs.Rows.{Picture, rowCount, arrowCount}
 use Rattle.tables.specs.Faults.{tableFault, roomFault}
 use Rattle.tables.specs.Refusals.{verdictOf}
+use Rattle.tables.specs.Steps.{SoundRows, SoundArrows}
 use Rattle.tables.specs.declared.Refusal.{Refusal}
 use Rattle.tables.specs.declared.Verdict.the-variants.{Passed, Refused as Stopped}
 use Rattle.base.proofs.BufferLaws.{written-none, written-run}
@@ -25,137 +26,150 @@ use Rattle.packer.specs.declared.Packing.the-variants.{Packed, Refused}
 use Rattle.packer.proofs.Lengths.{kind-length, packed-length}
 use Rattle.packer.proofs.Regular.{rows-by-kind, blocks-by-kind, first-by-kind, fills-1, fills-2, fills-3, box-block}
 
-module _ (boxes rows arrows : List ℕ) where
-  -- the blocks of a picture that checks 1 to 7 pass: one of boxes, at most 9 and 7 of the others
-  module _ (sound : verdictOf (tableFault boxes rows arrows) ≡ Passed) (second third : ℕ)
-      (is₂ : second ≡ blocksFor 125 (rowCount rows)) (is₃ : third ≡ blocksFor 83 (arrowCount arrows)) where
-    box-blocks : blocksOf boxes rows arrows 1 ≡ 1
-    box-blocks =
-        let f = fills-1 boxes rows arrows .few in
-        let s = box-block boxes rows arrows in
-        let b = sound-rows boxes rows arrows (passed _ sound) .few-boxes in
-        omega arith
+-- the tables pass checks 1 to 7, and so many blocks of containments and of arrows are needed
+pub record Counted (pic : Picture) (second third : ℕ) : Type 0 where
+  pub tabled : verdictOf (tableFault pic) ≡ Passed
+  pub second-for : second ≡ blocksFor 125 (rowCount (pic .rows))
+  pub third-for : third ≡ blocksFor 83 (arrowCount (pic .arrows))
 
-    second-is : blocksOf boxes rows arrows 2 ≡ second
-    second-is = blocks-by-kind boxes rows arrows .1 ∙ sym is₂
+module _ {pic : Picture} {second third : ℕ} (counted : Counted pic second third) where
+  the-rows : SoundRows (pic .boxes) (pic .rows)
+  the-rows = sound-rows _ _ _ (passed _ (counted .tabled))
 
-    third-is : blocksOf boxes rows arrows 3 ≡ third
-    third-is = blocks-by-kind boxes rows arrows .2 ∙ sym is₃
+  the-arrows : SoundArrows (pic .boxes) (pic .arrows)
+  the-arrows = sound-arrows _ _ _ (passed _ (counted .tabled))
 
-    pub blocks-most : (second ≤ 9) × (third ≤ 7)
-    blocks-most =
-        let f = fills-2 boxes rows arrows .few in
-        let g = fills-3 boxes rows arrows .few in
-        let r = sound-rows boxes rows arrows (passed _ sound) .few-rows in
-        let a = sound-arrows boxes rows arrows (passed _ sound) .few-arrows in
-        (rw (← second-is) (omega arith), rw (← third-is) (omega arith))
+  -- one block of boxes, at most 9 and 7 of the others
+  box-blocks : blocksOf pic 1 ≡ 1
+  box-blocks =
+      let f = fills-1 pic .few in
+      let s = box-block pic in
+      let b = the-rows .few-boxes in
+      omega arith
 
-    -- the length that the call names
-    pub need-is : 512 * (1 + second + third) ≡ length (packed boxes rows arrows)
-    need-is = sym (packed-length boxes rows arrows ∙ rw (box-blocks, second-is, third-is))
+  second-is : blocksOf pic 2 ≡ second
+  second-is = blocks-by-kind pic .1 ∙ sym (counted .second-for)
 
-    -- the three kinds as the call knows them
-    pub boxes-known : OfKind boxes rows arrows (boxKind (length boxes))
-    boxes-known = record {
-      low = omega arith;
-      high = omega arith;
-      few = let b = sound-rows boxes rows arrows (passed _ sound) .few-boxes in omega arith;
-      the-size = sym (record-sizes .0);
-      the-capacity = sym (capacities .0);
-      the-rows = sym (rows-by-kind boxes rows arrows .0);
-      the-first = sym (first-by-kind boxes rows arrows .0);
-    }
+  third-is : blocksOf pic 3 ≡ third
+  third-is = blocks-by-kind pic .2 ∙ sym (counted .third-for)
 
-    pub containments-known : OfKind boxes rows arrows (containmentKind (rowCount rows) 1)
-    containments-known = record {
-      low = omega arith;
-      high = omega arith;
-      few = sound-rows boxes rows arrows (passed _ sound) .few-rows;
-      the-size = sym (record-sizes .1);
-      the-capacity = sym (capacities .1);
-      the-rows = sym (rows-by-kind boxes rows arrows .1);
-      the-first = sym (first-by-kind boxes rows arrows .1 ∙ box-blocks);
-    }
+  pub blocks-most : (second ≤ 9) × (third ≤ 7)
+  blocks-most =
+      let f = fills-2 pic .few in
+      let g = fills-3 pic .few in
+      let r = the-rows .few-rows in
+      let a = the-arrows .few-arrows in
+      (rw (← second-is) (omega arith), rw (← third-is) (omega arith))
 
-    pub arrows-known : OfKind boxes rows arrows (arrowKind (arrowCount arrows) (1 + second))
-    arrows-known = record {
-      low = omega arith;
-      high = omega arith;
-      few = let a = sound-arrows boxes rows arrows (passed _ sound) .few-arrows in omega arith;
-      the-size = sym (record-sizes .2);
-      the-capacity = sym (capacities .2);
-      the-rows = sym (rows-by-kind boxes rows arrows .2);
-      the-first = sym (first-by-kind boxes rows arrows .2 ∙ rw (box-blocks, second-is));
-    }
+  -- the length that the call names
+  need-is : 512 * (1 + second + third) ≡ length (packed pic)
+  need-is = sym (packed-length pic ∙ rw (box-blocks, second-is, third-is))
 
-    -- their blocks, and room for all is room for each
-    module _ (len : ℕ) (room : 512 * (1 + second + third) ≤ len) where
-      pub boxes-fit : (1 ≡ blocksOf boxes rows arrows 1) × BlocksFit (boxKind (length boxes)) 1 len
-      boxes-fit = (sym box-blocks, record { numbers = omega arith; room = omega arith })
+  -- the three kinds as the call knows them
+  boxes-known : OfKind pic (boxKind (length (pic .boxes)))
+  boxes-known = record {
+    low = omega arith;
+    high = omega arith;
+    few = let b = the-rows .few-boxes in omega arith;
+    the-size = sym (record-sizes .0);
+    the-capacity = sym (capacities .0);
+    the-rows = sym (rows-by-kind pic .0);
+    the-first = sym (first-by-kind pic .0);
+  }
 
-      pub containments-fit : (second ≡ blocksOf boxes rows arrows 2) × BlocksFit (containmentKind (rowCount rows) 1) second len
-      containments-fit = (sym second-is, record { numbers = omega (arith, blocks-most .0); room = omega arith })
+  containments-known : OfKind pic (containmentKind (rowCount (pic .rows)) 1)
+  containments-known = record {
+    low = omega arith;
+    high = omega arith;
+    few = the-rows .few-rows;
+    the-size = sym (record-sizes .1);
+    the-capacity = sym (capacities .1);
+    the-rows = sym (rows-by-kind pic .1);
+    the-first = sym (first-by-kind pic .1 ∙ box-blocks);
+  }
 
-      pub arrows-fit : (third ≡ blocksOf boxes rows arrows 3) × BlocksFit (arrowKind (arrowCount arrows) (1 + second)) third len
-      arrows-fit = (sym third-is, record { numbers = omega (arith, blocks-most .0, blocks-most .1); room = omega arith })
+  arrows-known : OfKind pic (arrowKind (arrowCount (pic .arrows)) (1 + second))
+  arrows-known = record {
+    low = omega arith;
+    high = omega arith;
+    few = let a = the-arrows .few-arrows in omega arith;
+    the-size = sym (record-sizes .2);
+    the-capacity = sym (capacities .2);
+    the-rows = sym (rows-by-kind pic .2);
+    the-first = sym (first-by-kind pic .2 ∙ rw (box-blocks, second-is));
+  }
 
-    -- the kinds written one after the other
-    pub file-made : (l₀ l₁ l₂ l₃ : List ℕ) → 512 * (1 + second + third) ≤ length l₀ → l₁ ≡ sets l₀ (512 * 0) (kindBytes boxes rows arrows 1)
-        → l₂ ≡ sets l₁ (512 * 1) (kindBytes boxes rows arrows 2) → l₃ ≡ sets l₂ (512 * (1 + second)) (kindBytes boxes rows arrows 3)
-        → l₃ ≡ written (packed boxes rows arrows) l₀
-    unfolding packed
-    file-made l₀ l₁ l₂ l₃ room p q r =
-        let f = kindBytes boxes rows arrows 1 in
-        let g = kindBytes boxes rows arrows 2 in
-        let h = kindBytes boxes rows arrows 3 in
-        let lf : length f ≡ 512 * 1 = kind-length 1 (omega arith) (omega arith) boxes rows arrows ∙ rw box-blocks in
-        let lg : length g ≡ 512 * second = kind-length 2 (omega arith) (omega arith) boxes rows arrows ∙ rw second-is in
-        let lh : length h ≡ 512 * third = kind-length 3 (omega arith) (omega arith) boxes rows arrows ∙ rw third-is in
-        let lfg : length (f ++ g) ≡ 512 * (1 + second) = simp length-append (omega arith) in
-        let one : l₁ ≡ written f l₀ = p ∙ ap (λ (l : List ℕ). sets l 0 f) (sym (written-none l₀)) ∙ written-run [] f l₀ (omega arith) in
-        let two : l₂ ≡ written (f ++ g) l₀ = q ∙ ap (λ (l : List ℕ). sets l (512 * 1) g) one ∙ (rw lf at (written-run f g l₀ (omega arith))) in
-        let three : l₃ ≡ written (f ++ g ++ h) l₀ =
-        r ∙ ap (λ (l : List ℕ). sets l (512 * (1 + second)) h) two ∙ (rw lfg at (written-run (f ++ g) h l₀ (omega arith))) in
-        rw append-assoc at three
+  -- what is asked to write each: its blocks, and room for them where there is room for all
+  module _ (len : ℕ) (room : 512 * (1 + second + third) ≤ len) where
+    pub boxes-asked : OfKind pic (boxKind (length (pic .boxes))) × (1 ≡ blocksOf pic 1)
+        × BlocksFit (boxKind (length (pic .boxes))) 1 len
+    boxes-asked = (boxes-known, sym box-blocks, record { numbers = omega arith; room = omega arith })
 
-  module _ (file : List ℕ) where
-    -- the call by its fault
-    refused-by : (r : Refusal) → packFault boxes rows arrows file ≡ some r
-        → (Refused r ≡ packAnswer boxes rows arrows file) × (file ≡ fileAfter boxes rows arrows file)
+    pub containments-asked : OfKind pic (containmentKind (rowCount (pic .rows)) 1) × (second ≡ blocksOf pic 2)
+        × BlocksFit (containmentKind (rowCount (pic .rows)) 1) second len
+    containments-asked = (containments-known, sym second-is, record { numbers = omega (arith, blocks-most .0); room = omega arith })
+
+    pub arrows-asked : OfKind pic (arrowKind (arrowCount (pic .arrows)) (1 + second)) × (third ≡ blocksOf pic 3)
+        × BlocksFit (arrowKind (arrowCount (pic .arrows)) (1 + second)) third len
+    arrows-asked = (arrows-known, sym third-is, record { numbers = omega (arith, blocks-most .0, blocks-most .1); room = omega arith })
+
+  -- the kinds written one after the other
+  pub file-made : (l₀ l₁ l₂ l₃ : List ℕ) → 512 * (1 + second + third) ≤ length l₀ → l₁ ≡ sets l₀ (512 * 0) (kindBytes pic 1)
+      → l₂ ≡ sets l₁ (512 * 1) (kindBytes pic 2) → l₃ ≡ sets l₂ (512 * (1 + second)) (kindBytes pic 3)
+      → l₃ ≡ written (packed pic) l₀
+  unfolding packed
+  file-made l₀ l₁ l₂ l₃ room p q r =
+      let f = kindBytes pic 1 in
+      let g = kindBytes pic 2 in
+      let h = kindBytes pic 3 in
+      let lf : length f ≡ 512 * 1 = kind-length 1 (omega arith) (omega arith) pic ∙ rw box-blocks in
+      let lg : length g ≡ 512 * second = kind-length 2 (omega arith) (omega arith) pic ∙ rw second-is in
+      let lh : length h ≡ 512 * third = kind-length 3 (omega arith) (omega arith) pic ∙ rw third-is in
+      let lfg : length (f ++ g) ≡ 512 * (1 + second) = simp length-append (omega arith) in
+      let one : l₁ ≡ written f l₀ = p ∙ ap (λ (l : List ℕ). sets l 0 f) (sym (written-none l₀)) ∙ written-run [] f l₀ (omega arith) in
+      let two : l₂ ≡ written (f ++ g) l₀ =
+      q ∙ ap (λ (l : List ℕ). sets l (512 * 1) g) one ∙ (rw lf at (written-run f g l₀ (omega arith))) in
+      let three : l₃ ≡ written (f ++ g ++ h) l₀ =
+      r ∙ ap (λ (l : List ℕ). sets l (512 * (1 + second)) h) two ∙ (rw lfg at (written-run (f ++ g) h l₀ (omega arith))) in
+      rw append-assoc at three
+
+module _ (pic : Picture) (file : List ℕ) where
+  -- the call by its fault
+  refused-by : (r : Refusal) → packFault pic file ≡ some r → (Refused r ≡ packAnswer pic file) × (file ≡ fileAfter pic file)
+  unfolding packingOf packAnswer fileAfter
+  refused-by r e = (rw e, rw e)
+
+  -- refused by checks 1 to 7
+  pub by-tables : (r : Refusal) → verdictOf (tableFault pic) ≡ Stopped r
+      → (Refused r ≡ packAnswer pic file) × (file ≡ fileAfter pic file)
+  unfolding packFault
+  by-tables r e = refused-by r (stop _ _ (refused _ r e))
+
+  -- where the call is not refused, the first bytes of the lent file, as many as it answers, are the packed file
+  pub packed-part : packFault pic file ≡ none
+      → (packAnswer pic file ≡ Packed (length (packed pic)))
+      × (take (length (packed pic)) (fileAfter pic file) ≡ packed pic)
+  unfolding packingOf packAnswer fileAfter
+  packed-part e = (rw e, rw e (part-is (packed pic) file _ _ (refl, refl)))
+
+module _ {pic : Picture} {second third : ℕ} (counted : Counted pic second third) (file : List ℕ) where
+  by-nine : packFault pic file ≡ roomFault 8 (length file) (512 * (1 + second + third))
+  unfolding packFault
+  by-nine = past _ _ (passed _ (counted .tabled)) ∙ rw (← need-is counted)
+
+  -- refused by check 9
+  pub by-room : (r : Refusal) → verdictOf (roomFault 8 (length file) (512 * (1 + second + third))) ≡ Stopped r
+      → (Refused r ≡ packAnswer pic file) × (file ≡ fileAfter pic file)
+  by-room r e = refused-by pic file r (by-nine ∙ refused _ r e)
+
+  -- not refused
+  module _ (fits : verdictOf (roomFault 8 (length file) (512 * (1 + second + third))) ≡ Passed) where
+    pub room-there : 512 * (1 + second + third) ≤ length file
+    room-there = room-passed 8 (length file) _ (passed _ fits)
+
+    pub by-none : (end : List ℕ) → end ≡ written (packed pic) file
+        → (Packed (512 * (1 + second + third)) ≡ packAnswer pic file) × (end ≡ fileAfter pic file)
     unfolding packingOf packAnswer fileAfter
-    refused-by r e = (rw e, rw e)
-
-    -- refused by checks 1 to 7
-    pub by-tables : (r : Refusal) → verdictOf (tableFault boxes rows arrows) ≡ Stopped r
-        → (Refused r ≡ packAnswer boxes rows arrows file) × (file ≡ fileAfter boxes rows arrows file)
-    unfolding packFault
-    by-tables r e = refused-by r (stop _ _ (refused _ r e))
-
-    module _ (sound : verdictOf (tableFault boxes rows arrows) ≡ Passed) (need : ℕ) (is : need ≡ length (packed boxes rows arrows)) where
-      by-nine : packFault boxes rows arrows file ≡ roomFault 8 (length file) need
-      unfolding packFault
-      by-nine = past _ _ (passed _ sound) ∙ rw (← is)
-
-      -- refused by check 9
-      pub by-room : (r : Refusal) → verdictOf (roomFault 8 (length file) need) ≡ Stopped r
-          → (Refused r ≡ packAnswer boxes rows arrows file) × (file ≡ fileAfter boxes rows arrows file)
-      by-room r e = refused-by r (by-nine ∙ refused _ r e)
-
-      -- not refused
-      module _ (fits : verdictOf (roomFault 8 (length file) need) ≡ Passed) where
-        pub room-there : need ≤ length file
-        room-there = room-passed 8 (length file) need (passed _ fits)
-
-        pub by-none : (end : List ℕ) → end ≡ written (packed boxes rows arrows) file
-            → (Packed need ≡ packAnswer boxes rows arrows file) × (end ≡ fileAfter boxes rows arrows file)
-        unfolding packingOf packAnswer fileAfter
-        by-none end e =
-            let f : packFault boxes rows arrows file ≡ none = by-nine ∙ passed _ fits in
-            (rw (f, is), rw f e)
-
-    -- where the call is not refused, the first bytes of the lent file, as many as it answers, are the packed file
-    pub packed-part : packFault boxes rows arrows file ≡ none
-        → (packAnswer boxes rows arrows file ≡ Packed (length (packed boxes rows arrows)))
-        × (take (length (packed boxes rows arrows)) (fileAfter boxes rows arrows file) ≡ packed boxes rows arrows)
-    unfolding packingOf packAnswer fileAfter
-    packed-part e = (rw e, rw e (part-is (packed boxes rows arrows) file _ _ (refl, refl)))
+    by-none end e =
+        let f : packFault pic file ≡ none = by-nine ∙ passed _ fits in
+        (rw (f, need-is counted), rw f e)

@@ -8,6 +8,7 @@ use Prim.Native.Nat.{ℕ, zero, suc, _+_, _*_, _-_, _<_, _≤_}
 use native.Mathlib.Omega.{arith}
 use native.Mathlib.Nat.{add-assoc, mul-suc, mul-le-mul-left, mul-assoc, mul-add, eq-or-lt-of-le, le-of-suc-le-suc}
 use lib.ListN.{length, getD}
+use Rattle.tables.specs.Rows.{Picture}
 use Rattle.blocks.specs.Blocks.{headOf, capacity, recordSize, joined}
 use Rattle.blocks.specs.Files.{blockAt, blockCount, kindBefore, fileFault}
 use Rattle.blocks.proofs.JoinedLaws.{joined-none}
@@ -127,16 +128,16 @@ module _ (file : List ℕ) where
 
       -- ---- it is the packing of its table
 
-      module _ (small : (i : ℕ) → getD file i 0 < 256) (boxes rows arrows : List ℕ)
-          (row-count : (last : ℕ) → m ≡ suc last → rowsOf boxes rows arrows kind ≡ capacity kind * last + countAt file (from + last))
+      module _ (small : (i : ℕ) → getD file i 0 < 256) (pic : Picture)
+          (row-count : (last : ℕ) → m ≡ suc last → rowsOf pic kind ≡ capacity kind * last + countAt file (from + last))
           (records : (j i : ℕ) → j < m → i < countAt file (from + j)
-          → recordBytes boxes rows arrows kind (capacity kind * j + i) ≡ recordIn (blockAt file (from + j)) (recordSize kind) i) where
+          → recordBytes pic kind (capacity kind * j + i) ≡ recordIn (blockAt file (from + j)) (recordSize kind) i) where
         -- each block has as many records as the packing puts there
-        counts-are : (j : ℕ) → j < m → countIn boxes rows arrows kind j ≡ countAt file (from + j)
+        counts-are : (j : ℕ) → j < m → countIn pic kind j ≡ countAt file (from + j)
         unfolding countIn
         counts-are j h = go m refl
           where
-            go : (n : ℕ) → m ≡ n → least (rowsOf boxes rows arrows kind - capacity kind * j) (capacity kind) ≡ countAt file (from + j)
+            go : (n : ℕ) → m ≡ n → least (rowsOf pic kind - capacity kind * j) (capacity kind) ≡ countAt file (from + j)
             go zero e = absurd (omega arith)
             go (suc last) e = rw (row-count last e) (⊎-elim
                 (λ (q : j ≡ last).
@@ -150,8 +151,8 @@ module _ (file : List ℕ) where
                 least-high _ (capacity kind) (omega arith) ∙ sym (run-full j (omega arith)))
                 (eq-or-lt-of-le (le-of-suc-le-suc (rw e at h))))
 
-        pub blocks-same : firstOf boxes rows arrows kind ≡ from → (j : ℕ) → j < m
-            → kindBlock boxes rows arrows kind j ≡ blockAt file (from + j)
+        pub blocks-same : firstOf pic kind ≡ from → (j : ℕ) → j < m
+            → kindBlock pic kind j ≡ blockAt file (from + j)
         unfolding kindBlock
         blocks-same first j h =
             rw (first, counts-are j h)

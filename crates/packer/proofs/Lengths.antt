@@ -8,6 +8,7 @@ use native.Mathlib.Omega.{arith}
 use borrow.Author.Tests.{ltb-true, ltb-false}
 use lib.Dec.{ltb}
 use lib.ListN.{length, length-append}
+use Rattle.tables.specs.Rows.{Picture}
 use Rattle.base.proofs.BufferLaws.{zeros-length}
 use Rattle.blocks.specs.Blocks.{capacity, recordSize}
 use Rattle.blocks.proofs.MadeBlocks.{capacities, record-sizes}
@@ -61,10 +62,10 @@ module _ (kind : ℕ) (low : 1 ≤ kind) (high : kind ≤ 3) where
       (rw (capacities .2, record-sizes .2) (λ h. omega arith))
 
   -- a record has as many bytes as its kind says
-  pub record-length : (boxes rows arrows : List ℕ) (i : ℕ) → length (recordBytes boxes rows arrows kind i) ≡ recordSize kind
+  pub record-length : (pic : Picture) (i : ℕ) → length (recordBytes pic kind i) ≡ recordSize kind
   unfolding recordBytes boxBytes containmentBytes arrowBytes bytes16
-  record-length boxes rows arrows i =
-      of-kind (λ k. length (recordBytes boxes rows arrows k i) ≡ recordSize k) (rw (record-sizes .0)) (rw (record-sizes .1)) (rw (record-sizes .2))
+  record-length pic i =
+      of-kind (λ k. length (recordBytes pic k i) ≡ recordSize k) (rw (record-sizes .0)) (rw (record-sizes .1)) (rw (record-sizes .2))
 
   -- a block has 512 bytes, 508 of which its check covers
   module _ (number count : ℕ) (records : ℕ → List ℕ) (most : count ≤ capacity kind) (len : (j : ℕ) → length (records j) ≡ recordSize kind) where
@@ -78,25 +79,25 @@ module _ (kind : ℕ) (low : 1 ≤ kind) (high : kind ≤ 3) where
     unfolding blockOf bytes32 bytes16
     block-length = simp (length-append, covered-length)
 
-  module _ (boxes rows arrows : List ℕ) where
-    pub count-most : (k : ℕ) → countIn boxes rows arrows kind k ≤ capacity kind
+  module _ (pic : Picture) where
+    pub count-most : (k : ℕ) → countIn pic kind k ≤ capacity kind
     unfolding countIn
-    count-most k = least-most (rowsOf boxes rows arrows kind - capacity kind * k) (capacity kind) .1
+    count-most k = least-most (rowsOf pic kind - capacity kind * k) (capacity kind) .1
 
-    pub kind-block-length : (k : ℕ) → length (kindBlock boxes rows arrows kind k) ≡ 512
+    pub kind-block-length : (k : ℕ) → length (kindBlock pic kind k) ≡ 512
     unfolding kindBlock
-    kind-block-length k = block-length _ _ _ (count-most k) (λ j. record-length boxes rows arrows (capacity kind * k + j))
+    kind-block-length k = block-length _ _ _ (count-most k) (λ j. record-length pic (capacity kind * k + j))
 
-    pub kind-length : length (kindBytes boxes rows arrows kind) ≡ 512 * blocksOf boxes rows arrows kind
+    pub kind-length : length (kindBytes pic kind) ≡ 512 * blocksOf pic kind
     unfolding kindBytes
-    kind-length = joined-length _ 512 (blocksOf boxes rows arrows kind) (λ k h. kind-block-length k)
+    kind-length = joined-length _ 512 (blocksOf pic kind) (λ k h. kind-block-length k)
 
 -- 512 bytes a block
-pub packed-length : (boxes rows arrows : List ℕ)
-    → length (packed boxes rows arrows) ≡ 512 * (blocksOf boxes rows arrows 1 + blocksOf boxes rows arrows 2 + blocksOf boxes rows arrows 3)
+pub packed-length : (pic : Picture)
+    → length (packed pic) ≡ 512 * (blocksOf pic 1 + blocksOf pic 2 + blocksOf pic 3)
 unfolding packed
-packed-length boxes rows arrows =
-    let a = kind-length 1 (omega arith) (omega arith) boxes rows arrows in
-    let b = kind-length 2 (omega arith) (omega arith) boxes rows arrows in
-    let c = kind-length 3 (omega arith) (omega arith) boxes rows arrows in
+packed-length pic =
+    let a = kind-length 1 (omega arith) (omega arith) pic in
+    let b = kind-length 2 (omega arith) (omega arith) pic in
+    let c = kind-length 3 (omega arith) (omega arith) pic in
     simp length-append (omega arith)

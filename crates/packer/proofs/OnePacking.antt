@@ -11,6 +11,7 @@ use native.Mathlib.Nat.{zero-add, add-assoc, mul-suc}
 use borrow.Author.Tests.{eqb-true, eqb-false}
 use lib.Dec.{eqb}
 use lib.ListN.{length, getD}
+use Rattle.tables.specs.Rows.{Picture}
 use Rattle.tables.specs.Faults.{tableFault}
 use Rattle.blocks.specs.Blocks.{joined}
 use Rattle.blocks.specs.Files.{blockAt, blockCount, fileFault, boxesOf, containmentsOf, arrowsOf}
@@ -18,7 +19,7 @@ use Rattle.blocks.proofs.Made.{joined-same, made-of-blocks, good-whole}
 use Rattle.blocks.proofs.MadeBlocks.{capacities}
 use Rattle.blocks.proofs.GoodBlocks.{file-some}
 use Rattle.packer.specs.Packed.{blocksFor, recordBytes, rowsOf, blocksOf, firstOf, kindBlock, kindBytes, packed}
-use Rattle.packer.specs.Regular.{kindAt, countAt, Regular, RegularPacking}
+use Rattle.packer.specs.Regular.{kindAt, countAt, Regular, pictureOf, RegularPacking}
 use Rattle.packer.proofs.Chunks.{joined-add}
 use Rattle.packer.proofs.Regular.{blocks-are, rows-by-kind, blocks-by-kind, first-by-kind}
 use Rattle.packer.proofs.ReadBack.{packed-good, packed-boxes, packed-containments, packed-arrows}
@@ -49,14 +50,8 @@ three-runs f a b c =
     (joined-same (λ j. f (a + (b + j))) (λ j. f (a + b + j)) c (λ j h. ap f (sym (add-assoc a b j)))))
 
 module _ (file : List ℕ) (small : (i : ℕ) → getD file i 0 < 256) (good : fileFault file ≡ none) (regular : Regular file) where
-  abbrev boxes : List ℕ
-  boxes = boxesOf file
-
-  abbrev rows : List ℕ
-  rows = containmentsOf file
-
-  abbrev arrows : List ℕ
-  arrows = arrowsOf file
+  abbrev pic : Picture
+  pic = pictureOf file
 
   -- the runs of the three kinds
   run-1 : (r : Runs (kindAt file) (blockCount file)) → Run file 1 0 (r .a)
@@ -107,46 +102,46 @@ module _ (file : List ℕ) (small : (i : ℕ) → getD file i 0 < 256) (good : f
       go (suc x) e = omega arith
 
   -- the runs are as long as in the packing
-  blocks-1 : (m : ℕ) → 0 < m → Run file 1 0 m → blocksOf boxes rows arrows 1 ≡ m
+  blocks-1 : (m : ℕ) → 0 < m → Run file 1 0 m → blocksOf pic 1 ≡ m
   blocks-1 zero p run = absurd (omega arith)
-  blocks-1 (suc last) p run = rw (blocks-by-kind boxes rows arrows .0) (go (eqb (length boxes) 0) refl)
+  blocks-1 (suc last) p run = rw (blocks-by-kind pic .0) (go (eqb (length (boxesOf file)) 0) refl)
     where
-      count : length boxes ≡ 500 * last + countAt file (0 + last)
+      count : length (boxesOf file) ≡ 500 * last + countAt file (0 + last)
       count = rw (capacities .0) at (box-rows file small good regular 0 (suc last) run .row-count last refl)
 
-      filled : (x : ℕ) → last ≡ x → (length boxes ≡ 0 → ⊥) → 0 < countAt file (0 + last)
+      filled : (x : ℕ) → last ≡ x → (length (boxesOf file) ≡ 0 → ⊥) → 0 < countAt file (0 + last)
       filled zero e p = let c = count in omega arith
       filled (suc x) e p = run-some file good regular 1 0 (suc last) run last (omega arith) (omega arith)
 
       fits : countAt file (0 + last) ≤ 500
       fits = rw (capacities .0) at (run-good file good regular 1 0 (suc last) run last (omega arith) .fits)
 
-      go : (t : Bool) → eqb (length boxes) 0 ≡ t → cond t 1 (blocksFor 500 (length boxes)) ≡ suc last
+      go : (t : Bool) → eqb (length (boxesOf file)) 0 ≡ t → cond t 1 (blocksFor 500 (length (boxesOf file))) ≡ suc last
       go true e =
-          let z = eqb-true (length boxes) 0 e in
+          let z = eqb-true (length (boxesOf file)) 0 e in
           let c = count in
           omega arith
       go false e =
-          blocks-some 500 (length boxes) (omega arith) last (countAt file (0 + last)) count
-          (filled last refl (eqb-false (length boxes) 0 e)) fits
+          blocks-some 500 (length (boxesOf file)) (omega arith) last (countAt file (0 + last)) count
+          (filled last refl (eqb-false (length (boxesOf file)) 0 e)) fits
 
-  blocks-2 : (from m : ℕ) → 0 < from → Run file 2 from m → blocksOf boxes rows arrows 2 ≡ m
+  blocks-2 : (from m : ℕ) → 0 < from → Run file 2 from m → blocksOf pic 2 ≡ m
   blocks-2 from zero p run =
-      rw (blocks-by-kind boxes rows arrows .1)
+      rw (blocks-by-kind pic .1)
       (blocks-none 125 _ (omega arith) (containment-rows file small good regular from 0 run .no-rows refl))
   blocks-2 from (suc last) p run =
-      rw (blocks-by-kind boxes rows arrows .1)
+      rw (blocks-by-kind pic .1)
       (blocks-some 125 _ (omega arith) last (countAt file (from + last))
       (rw (capacities .1) at (containment-rows file small good regular from (suc last) run .row-count last refl))
       (run-some file good regular 2 from (suc last) run last (omega arith) (omega arith))
       (rw (capacities .1) at (run-good file good regular 2 from (suc last) run last (omega arith) .fits)))
 
-  blocks-3 : (from m : ℕ) → 0 < from → Run file 3 from m → blocksOf boxes rows arrows 3 ≡ m
+  blocks-3 : (from m : ℕ) → 0 < from → Run file 3 from m → blocksOf pic 3 ≡ m
   blocks-3 from zero p run =
-      rw (blocks-by-kind boxes rows arrows .2)
+      rw (blocks-by-kind pic .2)
       (blocks-none 83 _ (omega arith) (arrow-rows file small good regular from 0 run .no-rows refl))
   blocks-3 from (suc last) p run =
-      rw (blocks-by-kind boxes rows arrows .2)
+      rw (blocks-by-kind pic .2)
       (blocks-some 83 _ (omega arith) last (countAt file (from + last))
       (rw (capacities .2) at (arrow-rows file small good regular from (suc last) run .row-count last refl))
       (run-some file good regular 3 from (suc last) run last (omega arith) (omega arith))
@@ -154,28 +149,28 @@ module _ (file : List ℕ) (small : (i : ℕ) → getD file i 0 < 256) (good : f
 
   -- and so are their blocks
   bytes-same : (kind from m : ℕ) (run : Run file kind from m)
-      → RunRows file kind from m (rowsOf boxes rows arrows kind) (recordBytes boxes rows arrows kind)
-      → blocksOf boxes rows arrows kind ≡ m → firstOf boxes rows arrows kind ≡ from
-      → kindBytes boxes rows arrows kind ≡ joined (λ j. blockAt file (from + j)) m
+      → RunRows file kind from m (rowsOf pic kind) (recordBytes pic kind)
+      → blocksOf pic kind ≡ m → firstOf pic kind ≡ from
+      → kindBytes pic kind ≡ joined (λ j. blockAt file (from + j)) m
   unfolding kindBytes
   bytes-same kind from m run r many first =
-      ap (joined (kindBlock boxes rows arrows kind)) many
-      ∙ joined-same _ _ m (blocks-same file good regular kind from m run small boxes rows arrows (r .row-count) (r .row-records) first)
+      ap (joined (kindBlock pic kind)) many
+      ∙ joined-same _ _ m (blocks-same file good regular kind from m run small pic (r .row-count) (r .row-records) first)
 
-  packed-same : (r : Runs (kindAt file) (blockCount file)) → packed boxes rows arrows ≡ file
+  packed-same : (r : Runs (kindAt file) (blockCount file)) → packed pic ≡ file
   unfolding packed
   packed-same r =
-      let by = rows-by-kind boxes rows arrows in
-      let first = first-by-kind boxes rows arrows in
+      let by = rows-by-kind pic in
+      let first = first-by-kind pic in
       let some = boxes-there r in
       let many-1 = blocks-1 (r .a) some (run-1 r) in
       let many-2 = blocks-2 (r .a) (r .b) some (run-2 r) in
       let many-3 = blocks-3 (r .a + r .b) (r .c) (omega arith) (run-3 r) in
-      let rows-1 : RunRows file 1 0 (r .a) (rowsOf boxes rows arrows 1) (recordBytes boxes rows arrows 1)
+      let rows-1 : RunRows file 1 0 (r .a) (rowsOf pic 1) (recordBytes pic 1)
       = rw (by .0) (box-rows file small good regular 0 (r .a) (run-1 r)) in
-      let rows-2 : RunRows file 2 (r .a) (r .b) (rowsOf boxes rows arrows 2) (recordBytes boxes rows arrows 2)
+      let rows-2 : RunRows file 2 (r .a) (r .b) (rowsOf pic 2) (recordBytes pic 2)
       = rw (by .1) (containment-rows file small good regular (r .a) (r .b) (run-2 r)) in
-      let rows-3 : RunRows file 3 (r .a + r .b) (r .c) (rowsOf boxes rows arrows 3) (recordBytes boxes rows arrows 3)
+      let rows-3 : RunRows file 3 (r .a + r .b) (r .c) (rowsOf pic 3) (recordBytes pic 3)
       = rw (by .2) (arrow-rows file small good regular (r .a + r .b) (r .c) (run-3 r)) in
       ap₂ _++_ (bytes-same 1 0 (r .a) (run-1 r) rows-1 many-1 (first .0))
       (ap₂ _++_
@@ -187,25 +182,25 @@ module _ (file : List ℕ) (small : (i : ℕ) → getD file i 0 < 256) (good : f
 
 -- P1: the one regular packing: a good regular file of bytes is the packed file of the tables that it says
 pub one-packing : (file : List ℕ) → ((i : ℕ) → getD file i 0 < 256) → fileFault file ≡ none → Regular file
-    → packed (boxesOf file) (containmentsOf file) (arrowsOf file) ≡ file
+    → packed (pictureOf file) ≡ file
 one-packing file small good regular = packed-same file small good regular (file-runs file good)
 
 -- so no other says them
-pub only-packing : (boxes rows arrows file : List ℕ) → ((i : ℕ) → getD file i 0 < 256) → fileFault file ≡ none → Regular file
-    → boxesOf file ≡ boxes → containmentsOf file ≡ rows → arrowsOf file ≡ arrows → file ≡ packed boxes rows arrows
-only-packing boxes rows arrows file small good regular b r a = sym (one-packing file small good regular) ∙ rw (b, r, a)
+pub only-packing : (pic : Picture) (file : List ℕ) → ((i : ℕ) → getD file i 0 < 256) → fileFault file ≡ none → Regular file
+    → boxesOf file ≡ pic .boxes → containmentsOf file ≡ pic .rows → arrowsOf file ≡ pic .arrows → file ≡ packed pic
+only-packing pic file small good regular b r a = sym (one-packing file small good regular) ∙ rw (b, r, a)
 
 -- P1, both ways: the regular packing of a picture that checks 1 to 7 pass is its packed file, and nothing else
-pub regular-packing : (boxes rows arrows : List ℕ) → tableFault boxes rows arrows ≡ none
-    → (file : List ℕ) → RegularPacking boxes rows arrows file ↔ (file ≡ packed boxes rows arrows)
-regular-packing boxes rows arrows sound file = (
-  λ p. only-packing boxes rows arrows file (p .bytes) (p .good) (p .regular) (p .says-boxes) (p .says-containments) (p .says-arrows),
+pub regular-packing : (pic : Picture) → tableFault pic ≡ none
+    → (file : List ℕ) → RegularPacking pic file ↔ (file ≡ packed pic)
+regular-packing pic sound file = (
+  λ p. only-packing pic file (p .bytes) (p .good) (p .regular) (p .says-boxes) (p .says-containments) (p .says-arrows),
   λ e. rw e (record {
-    bytes = packed-bytes boxes rows arrows sound;
-    good = packed-good boxes rows arrows sound;
-    regular = packed-regular boxes rows arrows;
-    says-boxes = packed-boxes boxes rows arrows sound;
-    says-containments = packed-containments boxes rows arrows sound;
-    says-arrows = packed-arrows boxes rows arrows sound;
+    bytes = packed-bytes pic sound;
+    good = packed-good pic sound;
+    regular = packed-regular pic;
+    says-boxes = packed-boxes pic sound;
+    says-containments = packed-containments pic sound;
+    says-arrows = packed-arrows pic sound;
   }),
 )

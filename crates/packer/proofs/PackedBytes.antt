@@ -5,7 +5,7 @@ use mathlib.Core.Option.{none}
 use Prim.Native.Nat.{ℕ, zero, suc, _+_, _*_, _-_, _/_, _%_, _<_, _≤_}
 use native.Mathlib.Omega.{arith}
 use lib.ListN.{length, getD, replicate}
-use Rattle.tables.specs.Rows.{rowCount, rowAt, arrowCount, arrowAt}
+use Rattle.tables.specs.Rows.{Picture, rowCount, rowAt, arrowCount, arrowAt}
 use Rattle.tables.specs.Faults.{tableFault}
 use Rattle.tables.specs.Steps.{SoundRows, SoundArrows}
 use Rattle.base.proofs.BufferLaws.{zeros-is}
@@ -69,79 +69,80 @@ of-block kind number count records k n c r =
     (both-bytes _ _ (joined-bytes records count r) (rw (← zeros-is) (zero-bytes (500 - recordSize kind * count)))))
     (of-32 _ (check-small _))
 
-module _ (boxes rows arrows : List ℕ) (sound : tableFault boxes rows arrows ≡ none) where
-  the-rows : SoundRows boxes rows
-  the-rows = sound-rows boxes rows arrows sound
+module _ (pic : Picture) (sound : tableFault pic ≡ none) where
+  the-rows : SoundRows (pic .boxes) (pic .rows)
+  the-rows = sound-rows _ _ _ sound
 
-  the-arrows : SoundArrows boxes arrows
-  the-arrows = sound-arrows boxes rows arrows sound
+  the-arrows : SoundArrows (pic .boxes) (pic .arrows)
+  the-arrows = sound-arrows _ _ _ sound
 
   -- ---- a row's record
 
-  of-box : (i : ℕ) → i < length boxes → Bytes (recordBytes boxes rows arrows 1 i)
+  of-box : (i : ℕ) → i < length (pic .boxes) → Bytes (recordBytes pic 1 i)
   unfolding recordBytes boxBytes
   of-box i h = let b = the-rows .bytes i h in more-bytes _ _ (omega arith) no-bytes
 
-  of-containment : (i : ℕ) → i < rowCount rows → Bytes (recordBytes boxes rows arrows 2 i)
+  of-containment : (i : ℕ) → i < rowCount (pic .rows) → Bytes (recordBytes pic 2 i)
   unfolding recordBytes containmentBytes
   of-containment i h =
       let f = the-rows .few-boxes in
       let o = the-rows .outer-there i h in
       let n = the-rows .inner-there i h in
-      both-bytes _ _ (of-16 (rowAt rows i .outer) (omega arith)) (of-16 (rowAt rows i .inner) (omega arith))
+      both-bytes _ _ (of-16 (rowAt (pic .rows) i .outer) (omega arith)) (of-16 (rowAt (pic .rows) i .inner) (omega arith))
 
-  of-arrow : (i : ℕ) → i < arrowCount arrows → Bytes (recordBytes boxes rows arrows 3 i)
+  of-arrow : (i : ℕ) → i < arrowCount (pic .arrows) → Bytes (recordBytes pic 3 i)
   unfolding recordBytes arrowBytes
   of-arrow i h =
       let f = the-rows .few-boxes in
-      let t = onSide-there boxes _ (arrowAt arrows i .tail) (the-arrows .tail-user i h) in
-      let n = onSide-there boxes _ (arrowAt arrows i .head) (the-arrows .head-file i h) in
-      both-bytes _ _ (of-16 (arrowAt arrows i .tail) (omega arith))
-      (both-bytes _ _ (of-16 (arrowAt arrows i .head) (omega arith)) (more-bytes _ _ (omega arith) (more-bytes _ _ (omega arith) no-bytes)))
+      let t = onSide-there (pic .boxes) _ (arrowAt (pic .arrows) i .tail) (the-arrows .tail-user i h) in
+      let n = onSide-there (pic .boxes) _ (arrowAt (pic .arrows) i .head) (the-arrows .head-file i h) in
+      both-bytes _ _ (of-16 (arrowAt (pic .arrows) i .tail) (omega arith))
+      (both-bytes _ _ (of-16 (arrowAt (pic .arrows) i .head) (omega arith))
+      (more-bytes _ _ (omega arith) (more-bytes _ _ (omega arith) no-bytes)))
 
-  few : firstOf boxes rows arrows 3 + blocksOf boxes rows arrows 3 ≤ 17
+  few : firstOf pic 3 + blocksOf pic 3 ≤ 17
   few =
-      let f = blocks-few boxes rows arrows (the-rows .few-boxes) (the-rows .few-rows) (the-arrows .few-arrows) .1 in
-      let e = first-by-kind boxes rows arrows .2 in
+      let f = blocks-few pic (the-rows .few-boxes) (the-rows .few-rows) (the-arrows .few-arrows) .1 in
+      let e = first-by-kind pic .2 in
       omega arith
 
   module _ (kind : ℕ) (low : 1 ≤ kind) (high : kind ≤ 3) where
-    of-record : (i : ℕ) → i < rowsOf boxes rows arrows kind → Bytes (recordBytes boxes rows arrows kind i)
+    of-record : (i : ℕ) → i < rowsOf pic kind → Bytes (recordBytes pic kind i)
     of-record i =
-        of-kind kind low high (λ k. i < rowsOf boxes rows arrows k → Bytes (recordBytes boxes rows arrows k i))
-        (λ h. of-box i (rw (rows-by-kind boxes rows arrows .0) at h))
-        (λ h. of-containment i (rw (rows-by-kind boxes rows arrows .1) at h))
-        (λ h. of-arrow i (rw (rows-by-kind boxes rows arrows .2) at h))
+        of-kind kind low high (λ k. i < rowsOf pic k → Bytes (recordBytes pic k i))
+        (λ h. of-box i (rw (rows-by-kind pic .0) at h))
+        (λ h. of-containment i (rw (rows-by-kind pic .1) at h))
+        (λ h. of-arrow i (rw (rows-by-kind pic .2) at h))
 
     -- a row of a block is one of the table
-    row-there : (k j : ℕ) → j < countIn boxes rows arrows kind k → capacity kind * k + j < rowsOf boxes rows arrows kind
+    row-there : (k j : ℕ) → j < countIn pic kind k → capacity kind * k + j < rowsOf pic kind
     unfolding countIn
     row-there k j h =
-        let l = least-most (rowsOf boxes rows arrows kind - capacity kind * k) (capacity kind) in
+        let l = least-most (rowsOf pic kind - capacity kind * k) (capacity kind) in
         omega arith
 
-    number-few : (k : ℕ) → k < blocksOf boxes rows arrows kind → firstOf boxes rows arrows kind + k < 65536
+    number-few : (k : ℕ) → k < blocksOf pic kind → firstOf pic kind + k < 65536
     number-few k =
         let f = few in
-        let first = first-by-kind boxes rows arrows in
-        of-kind kind low high (λ x. k < blocksOf boxes rows arrows x → firstOf boxes rows arrows x + k < 65536)
+        let first = first-by-kind pic in
+        of-kind kind low high (λ x. k < blocksOf pic x → firstOf pic x + k < 65536)
         (λ h. let e = first .0 in let g = first .2 in omega arith)
         (λ h. let e = first .1 in let g = first .2 in omega arith)
         (λ h. omega arith)
 
-    of-kind-bytes : Bytes (kindBytes boxes rows arrows kind)
+    of-kind-bytes : Bytes (kindBytes pic kind)
     unfolding kindBytes kindBlock
     of-kind-bytes = joined-bytes _ _ (λ k h.
-        let c = count-most kind low high boxes rows arrows k in
+        let c = count-most kind low high pic k in
         let m = capacity-most kind low high in
         of-block kind _ _ _ (omega arith) (number-few k h) (omega arith)
         (λ j l. of-record (capacity kind * k + j) (row-there k j l)))
 
-  all-bytes : Bytes (packed boxes rows arrows)
+  all-bytes : Bytes (packed pic)
   unfolding packed
   all-bytes =
       both-bytes _ _ (of-kind-bytes 1 (omega arith) (omega arith))
       (both-bytes _ _ (of-kind-bytes 2 (omega arith) (omega arith)) (of-kind-bytes 3 (omega arith) (omega arith)))
 
-  pub packed-bytes : (i : ℕ) → getD (packed boxes rows arrows) i 0 < 256
+  pub packed-bytes : (i : ℕ) → getD (packed pic) i 0 < 256
   packed-bytes = all-bytes .each

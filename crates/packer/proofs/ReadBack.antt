@@ -7,7 +7,7 @@ use Prim.Native.Nat.{ℕ, _<_, _≤_}
 use native.Mathlib.Omega.{arith}
 use lib.ListN.{length}
 use Rattle.base.specs.Buffers.{written}
-use Rattle.tables.specs.Rows.{rowCount, arrowCount}
+use Rattle.tables.specs.Rows.{Picture, rowCount, arrowCount}
 use Rattle.tables.specs.Faults.{tableFault}
 use Rattle.tables.proofs.TableLaws.{room-enough, counts-few, sound-rows, sound-arrows}
 use Rattle.blocks.specs.Files.{fileFault, containmentsIn, arrowsIn, boxesOf, containmentsOf, arrowsOf}
@@ -20,60 +20,62 @@ use Rattle.blocks.proofs.MadeBlocks.{counts-in, tables-passed}
 use Rattle.packer.specs.Packed.{packed}
 use Rattle.packer.proofs.PackedBlocks.{blocks, blocksAll, packed-is, blocks-whole, blocks-good, blocks-few, boxes-packed, containments-packed, arrows-packed}
 
-module _ (boxes rows arrows : List ℕ) (sound : tableFault boxes rows arrows ≡ none) where
-  few : (0 < blocksAll boxes rows arrows) × (blocksAll boxes rows arrows ≤ 17)
+module _ (pic : Picture) (sound : tableFault pic ≡ none) where
+  few : (0 < blocksAll pic) × (blocksAll pic ≤ 17)
   few =
-      let r = sound-rows boxes rows arrows sound in
-      blocks-few boxes rows arrows (r .few-boxes) (r .few-rows) (sound-arrows boxes rows arrows sound .few-arrows)
+      let r = sound-rows _ _ _ sound in
+      blocks-few pic (r .few-boxes) (r .few-rows) (sound-arrows _ _ _ sound .few-arrows)
 
-  rows-said : containmentsIn (blocks boxes rows arrows) (blocksAll boxes rows arrows) ≡ rows
-  rows-said = containments-packed boxes rows arrows (sound-rows boxes rows arrows sound .whole)
+  rows-said : containmentsIn (blocks pic) (blocksAll pic) ≡ pic .rows
+  rows-said = containments-packed pic (sound-rows _ _ _ sound .whole)
 
-  arrows-said : arrowsIn (blocks boxes rows arrows) (blocksAll boxes rows arrows) ≡ arrows
+  arrows-said : arrowsIn (blocks pic) (blocksAll pic) ≡ pic .arrows
   arrows-said =
-      let a = sound-arrows boxes rows arrows sound in
-      arrows-packed boxes rows arrows (a .whole) (a .mode-most) (a .sign-most)
+      let a = sound-arrows _ _ _ sound in
+      arrows-packed pic (a .whole) (a .mode-most) (a .sign-most)
 
   -- the packed file is good
-  pub packed-good : fileFault (packed boxes rows arrows) ≡ none
+  pub packed-good : fileFault (packed pic) ≡ none
   packed-good =
       rw packed-is
-      (made-good (blocks boxes rows arrows) _ (blocks-whole boxes rows arrows) (few .0) (omega (arith, few .1)) (blocks-good boxes rows arrows))
+      (made-good (blocks pic) _ (blocks-whole pic) (few .0) (omega (arith, few .1)) (blocks-good pic))
 
   -- it says the picture's tables
-  pub packed-boxes : boxesOf (packed boxes rows arrows) ≡ boxes
-  packed-boxes = rw packed-is (made-boxes _ _ (blocks-whole boxes rows arrows) ∙ boxes-packed boxes rows arrows)
+  pub packed-boxes : boxesOf (packed pic) ≡ pic .boxes
+  packed-boxes = rw packed-is (made-boxes _ _ (blocks-whole pic) ∙ boxes-packed pic)
 
-  pub packed-containments : containmentsOf (packed boxes rows arrows) ≡ rows
-  packed-containments = rw packed-is (made-containments _ _ (blocks-whole boxes rows arrows) ∙ rows-said)
+  pub packed-containments : containmentsOf (packed pic) ≡ pic .rows
+  packed-containments = rw packed-is (made-containments _ _ (blocks-whole pic) ∙ rows-said)
 
-  pub packed-arrows : arrowsOf (packed boxes rows arrows) ≡ arrows
-  packed-arrows = rw packed-is (made-arrows _ _ (blocks-whole boxes rows arrows) ∙ arrows-said)
+  pub packed-arrows : arrowsOf (packed pic) ≡ pic .arrows
+  packed-arrows = rw packed-is (made-arrows _ _ (blocks-whole pic) ∙ arrows-said)
 
-  pub packed-counts : countsOf (packed boxes rows arrows)
-      ≡ record { boxes = length boxes; containments = rowCount rows; arrows = arrowCount arrows }
+  pub packed-counts : countsOf (packed pic)
+      ≡ record { boxes = length (pic .boxes); containments = rowCount (pic .rows); arrows = arrowCount (pic .arrows) }
   packed-counts =
       rw packed-is
-      (made-counts _ _ (blocks-whole boxes rows arrows)
-      ∙ counts-in _ _ boxes rows arrows (boxes-packed boxes rows arrows) rows-said arrows-said)
+      (made-counts _ _ (blocks-whole pic)
+      ∙ counts-in _ _ (pic .boxes) (pic .rows) (pic .arrows) (boxes-packed pic) rows-said arrows-said)
 
   -- P1: reading a packed file into buffers that suffice returns the same three tables
-  module _ (b r a : List ℕ) (box-room : length boxes ≤ length b) (row-room : length rows ≤ length r) (arrow-room : length arrows ≤ length a) where
-    no-fault : readFault (packed boxes rows arrows) (length b) (length r) (length a) ≡ none
+  module _ (b r a : List ℕ) (box-room : length (pic .boxes) ≤ length b) (row-room : length (pic .rows) ≤ length r)
+      (arrow-room : length (pic .arrows) ≤ length a) where
+    no-fault : readFault (packed pic) (length b) (length r) (length a) ≡ none
     no-fault =
-        let s = sound-rows boxes rows arrows sound in
-        let t = sound-arrows boxes rows arrows sound in
-        let c = counts-in _ _ boxes rows arrows (boxes-packed boxes rows arrows) rows-said arrows-said in
+        let s = sound-rows _ _ _ sound in
+        let t = sound-arrows _ _ _ sound in
+        let c = counts-in _ _ (pic .boxes) (pic .rows) (pic .arrows) (boxes-packed pic) rows-said arrows-said in
         rw packed-is
-        (made-read _ _ (blocks-whole boxes rows arrows) (few .0) (omega (arith, few .1)) (blocks-good boxes rows arrows) (length b) (length r) (length a)
+        (made-read _ _ (blocks-whole pic) (few .0) (omega (arith, few .1)) (blocks-good pic) (length b) (length r) (length a)
         ∙ rw c (tables-passed _ (length b) (length r) (length a)
         (counts-few _ _ _ (s .few-boxes) (s .few-rows) (t .few-arrows))
         (room-enough 5 _ _ box-room) (room-enough 6 _ _ (omega arith)) (room-enough 7 _ _ (omega arith))))
 
-  pub read-back : (b r a b' r' a' : List ℕ) (x : Reading) → length boxes ≤ length b → length rows ≤ length r → length arrows ≤ length a
-      → ReadDone (packed boxes rows arrows) b r a b' r' a' x
-      → (x ≡ Tables (record { boxes = length boxes; containments = rowCount rows; arrows = arrowCount arrows }))
-      × (b' ≡ written boxes b) × (r' ≡ written rows r) × (a' ≡ written arrows a)
+  pub read-back : (b r a b' r' a' : List ℕ) (x : Reading)
+      → length (pic .boxes) ≤ length b → length (pic .rows) ≤ length r → length (pic .arrows) ≤ length a
+      → ReadDone (packed pic) b r a b' r' a' x
+      → (x ≡ Tables (record { boxes = length (pic .boxes); containments = rowCount (pic .rows); arrows = arrowCount (pic .arrows) }))
+      × (b' ≡ written (pic .boxes) b) × (r' ≡ written (pic .rows) r) × (a' ≡ written (pic .arrows) a)
   read-back b r a b' r' a' x p q s d =
       let e = no-fault b r a p q s in (
         (rw e at (d .answer)) ∙ ap (λ (c : Counts). Tables c) packed-counts,
@@ -83,10 +85,10 @@ module _ (boxes rows arrows : List ℕ) (sound : tableFault boxes rows arrows �
       )
 
 -- P1: two pictures have the same packed bytes only if their tables are equal
-pub same-bytes : (boxes rows arrows boxes' rows' arrows' : List ℕ) → tableFault boxes rows arrows ≡ none → tableFault boxes' rows' arrows' ≡ none
-    → packed boxes rows arrows ≡ packed boxes' rows' arrows' → (boxes ≡ boxes') × (rows ≡ rows') × (arrows ≡ arrows')
-same-bytes boxes rows arrows boxes' rows' arrows' s s' e = (
-  sym (packed-boxes boxes rows arrows s) ∙ ap boxesOf e ∙ packed-boxes boxes' rows' arrows' s',
-  sym (packed-containments boxes rows arrows s) ∙ ap containmentsOf e ∙ packed-containments boxes' rows' arrows' s',
-  sym (packed-arrows boxes rows arrows s) ∙ ap arrowsOf e ∙ packed-arrows boxes' rows' arrows' s',
+pub same-bytes : (pic other : Picture) → tableFault pic ≡ none → tableFault other ≡ none → packed pic ≡ packed other
+    → (pic .boxes ≡ other .boxes) × (pic .rows ≡ other .rows) × (pic .arrows ≡ other .arrows)
+same-bytes pic other s s' e = (
+  sym (packed-boxes pic s) ∙ ap boxesOf e ∙ packed-boxes other s',
+  sym (packed-containments pic s) ∙ ap containmentsOf e ∙ packed-containments other s',
+  sym (packed-arrows pic s) ∙ ap arrowsOf e ∙ packed-arrows other s',
 )

@@ -6,7 +6,7 @@ use native.Mathlib.Omega.{arith}
 use native.Mathlib.Nat.{add-zero, add-assoc}
 use lib.ListN.{length}
 use lib.Seq.{sets, length-sets}
-use Rattle.tables.specs.Rows.{rowCount, arrowCount}
+use Rattle.tables.specs.Rows.{Picture, rowCount, arrowCount}
 use Rattle.blocks.specs.Blocks.{joined}
 use Rattle.blocks.proofs.JoinedLaws.{joined-none}
 use Rattle.blocks.proofs.MadeBlocks.{capacities, record-sizes}
@@ -83,8 +83,8 @@ unfolding arrowBytes bytes16
 arrow-length arrows i = refl
 
 -- the records' bytes fit between head and check
-pub used-most : {boxes rows arrows : List ℕ} {kind : Kind} {len count : ℕ} {w : Walk}
-    → OfKind boxes rows arrows kind × Begins kind len w count → kind .size * count ≤ 500
+pub used-most : {pic : Picture} {kind : Kind} {len count : ℕ} {w : Walk}
+    → OfKind pic kind × Begins kind len w count → kind .size * count ≤ 500
 used-most {kind = kind} {count = count} asked =
     rw (asked .0 .the-size) (records-fit (kind .number) (asked .0 .low) (asked .0 .high) count (rw (← asked .0 .the-capacity) (asked .1 .most)))
 
@@ -93,12 +93,12 @@ pub begins-still : {kind : Kind} {len len′ : ℕ} {w : Walk} {count : ℕ} →
 begins-still begins e = rw e begins
 
 -- what is asked of and had from each kind's loop
-module _ (boxes rows arrows : List ℕ) (kind : Kind) (len : ℕ) (w : Walk) (count : ℕ)
-    (asked : OfKind boxes rows arrows kind × Begins kind len w count) (at : ℕ) (from : at ≡ blockByte kind w) where
+module _ {pic : Picture} {kind : Kind} {len : ℕ} {w : Walk} {count : ℕ}
+    (asked : OfKind pic kind × Begins kind len w count) {at : ℕ} (from : at ≡ blockByte kind w) where
   -- the walk behind the records, and the file with them
   abbrev pub Done : Walk → List ℕ → List ℕ → Type 0
   Done r l l′ = (r ≡ walkAt (kind .capacity) (w .row + count))
-      × (l′ ≡ sets l (blockByte kind w + 8) (joined (λ j. recordBytes boxes rows arrows (kind .number) (w .row + j)) count))
+      × (l′ ≡ sets l (blockByte kind w + 8) (joined (λ j. recordBytes pic (kind .number) (w .row + j)) count))
 
   third : (kind .number ≡ 1 → ⊥) → (kind .number ≡ 2 → ⊥) → kind .number ≡ 3
   third = third-kind (kind .number) (asked .0 .low) (asked .0 .high)
@@ -121,32 +121,32 @@ module _ (boxes rows arrows : List ℕ) (kind : Kind) (len : ℕ) (w : Walk) (co
         room = omega arith;
       }
 
-  pub boxes-run : kind .number ≡ 1 → Run 1 500 (length boxes) w count (at + 8) len
-  boxes-run e = run-of 1 500 (length boxes)
+  pub boxes-run : kind .number ≡ 1 → Run 1 500 (length (pic .boxes)) w count (at + 8) len
+  boxes-run e = run-of 1 500 (length (pic .boxes))
       (asked .0 .the-size ∙ rw (e, record-sizes .0)) (asked .0 .the-capacity ∙ rw (e, capacities .0))
-      (asked .0 .the-rows ∙ rw (e, rows-by-kind boxes rows arrows .0))
+      (asked .0 .the-rows ∙ rw (e, rows-by-kind pic .0))
 
-  pub boxes-done : kind .number ≡ 1 → (r : Walk) (l l′ : List ℕ) → r ≡ walkAt 500 (w .row + count)
-      → l′ ≡ sets l (at + 8) (joined (λ j. boxBytes boxes (w .row + j)) count) → Done r l l′
+  pub boxes-done : kind .number ≡ 1 → (l : List ℕ) {r : Walk} {l′ : List ℕ} → r ≡ walkAt 500 (w .row + count)
+      → l′ ≡ sets l (at + 8) (joined (λ j. boxBytes (pic .boxes) (w .row + j)) count) → Done r l l′
   unfolding recordBytes
-  boxes-done e r l l′ p q = (p ∙ rw (asked .0 .the-capacity, e, capacities .0), q ∙ rw (from, e))
+  boxes-done e l p q = (p ∙ rw (asked .0 .the-capacity, e, capacities .0), q ∙ rw (from, e))
 
-  pub containments-run : kind .number ≡ 2 → Run 4 125 (rowCount rows) w count (at + 8) len
-  containments-run e = run-of 4 125 (rowCount rows)
+  pub containments-run : kind .number ≡ 2 → Run 4 125 (rowCount (pic .rows)) w count (at + 8) len
+  containments-run e = run-of 4 125 (rowCount (pic .rows))
       (asked .0 .the-size ∙ rw (e, record-sizes .1)) (asked .0 .the-capacity ∙ rw (e, capacities .1))
-      (asked .0 .the-rows ∙ rw (e, rows-by-kind boxes rows arrows .1))
+      (asked .0 .the-rows ∙ rw (e, rows-by-kind pic .1))
 
-  pub containments-done : kind .number ≡ 2 → (r : Walk) (l l′ : List ℕ) → r ≡ walkAt 125 (w .row + count)
-      → l′ ≡ sets l (at + 8) (joined (λ j. containmentBytes rows (w .row + j)) count) → Done r l l′
+  pub containments-done : kind .number ≡ 2 → (l : List ℕ) {r : Walk} {l′ : List ℕ} → r ≡ walkAt 125 (w .row + count)
+      → l′ ≡ sets l (at + 8) (joined (λ j. containmentBytes (pic .rows) (w .row + j)) count) → Done r l l′
   unfolding recordBytes
-  containments-done e r l l′ p q = (p ∙ rw (asked .0 .the-capacity, e, capacities .1), q ∙ rw (from, e))
+  containments-done e l p q = (p ∙ rw (asked .0 .the-capacity, e, capacities .1), q ∙ rw (from, e))
 
-  pub arrows-run : (kind .number ≡ 1 → ⊥) → (kind .number ≡ 2 → ⊥) → Run 6 83 (arrowCount arrows) w count (at + 8) len
-  arrows-run a b = run-of 6 83 (arrowCount arrows)
+  pub arrows-run : (kind .number ≡ 1 → ⊥) → (kind .number ≡ 2 → ⊥) → Run 6 83 (arrowCount (pic .arrows)) w count (at + 8) len
+  arrows-run a b = run-of 6 83 (arrowCount (pic .arrows))
       (asked .0 .the-size ∙ rw (third a b, record-sizes .2)) (asked .0 .the-capacity ∙ rw (third a b, capacities .2))
-      (asked .0 .the-rows ∙ rw (third a b, rows-by-kind boxes rows arrows .2))
+      (asked .0 .the-rows ∙ rw (third a b, rows-by-kind pic .2))
 
-  pub arrows-done : (kind .number ≡ 1 → ⊥) → (kind .number ≡ 2 → ⊥) → (r : Walk) (l l′ : List ℕ) → r ≡ walkAt 83 (w .row + count)
-      → l′ ≡ sets l (at + 8) (joined (λ j. arrowBytes arrows (w .row + j)) count) → Done r l l′
+  pub arrows-done : (kind .number ≡ 1 → ⊥) → (kind .number ≡ 2 → ⊥) → (l : List ℕ) {r : Walk} {l′ : List ℕ} → r ≡ walkAt 83 (w .row + count)
+      → l′ ≡ sets l (at + 8) (joined (λ j. arrowBytes (pic .arrows) (w .row + j)) count) → Done r l l′
   unfolding recordBytes
-  arrows-done a b r l l′ p q = (p ∙ rw (asked .0 .the-capacity, third a b, capacities .2), q ∙ rw (from, third a b))
+  arrows-done a b l p q = (p ∙ rw (asked .0 .the-capacity, third a b, capacities .2), q ∙ rw (from, third a b))

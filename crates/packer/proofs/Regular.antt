@@ -2,7 +2,6 @@
 -- block of count 0. Every row is in a block. Assumes nothing.
 use mathlib.Core.Path.{_≡_, refl, sym, _∙_}
 use mathlib.Core.Bool.{Bool, true, false, cond}
-use mathlib.Core.List.{List}
 use Prim.Native.Nat.{ℕ, suc, _+_, _*_, _-_, _/_, _<_, _≤_}
 use native.Mathlib.Omega.{arith}
 use native.Mathlib.Nat.{add-zero, mul-zero, mul-suc, mul-le-mul-left, mul-add-div, div-eq-of-lt}
@@ -10,7 +9,7 @@ use native.Mathlib.Numerals.{add-one}
 use borrow.Author.Tests.{eq-eqb, eqb-true, eqb-false}
 use lib.Dec.{eqb, ltb}
 use lib.ListN.{length}
-use Rattle.tables.specs.Rows.{rowCount, arrowCount}
+use Rattle.tables.specs.Rows.{Picture, rowCount, arrowCount}
 use Rattle.blocks.specs.Blocks.{capacity}
 use Rattle.blocks.proofs.MadeBlocks.{of-boxes, of-containments, of-arrows, capacities}
 use Rattle.packer.specs.Packed.{least, blocksFor, rowsOf, blocksOf, firstOf, countIn}
@@ -128,15 +127,16 @@ fills-arrows : (n : ℕ) → Fills 83 n (blocksFor 83 n)
 unfolding blocksFor
 fills-arrows n = record { enough = omega arith; few = omega arith; no-more = λ h. omega arith }
 
-module _ (boxes rows arrows : List ℕ) where
+module _ (pic : Picture) where
   -- ---- by kind
 
-  pub rows-by-kind : (rowsOf boxes rows arrows 1 ≡ length boxes) × (rowsOf boxes rows arrows 2 ≡ rowCount rows) × (rowsOf boxes rows arrows 3 ≡ arrowCount arrows)
+  pub rows-by-kind : (rowsOf pic 1 ≡ length (pic .boxes)) × (rowsOf pic 2 ≡ rowCount (pic .rows))
+      × (rowsOf pic 3 ≡ arrowCount (pic .arrows))
   unfolding rowsOf
   rows-by-kind = (of-boxes _ _ _, of-containments _ _ _, of-arrows _ _ _)
 
-  pub blocks-by-kind : (blocksOf boxes rows arrows 1 ≡ cond (eqb (length boxes) 0) 1 (blocksFor 500 (length boxes)))
-      × (blocksOf boxes rows arrows 2 ≡ blocksFor 125 (rowCount rows)) × (blocksOf boxes rows arrows 3 ≡ blocksFor 83 (arrowCount arrows))
+  pub blocks-by-kind : (blocksOf pic 1 ≡ cond (eqb (length (pic .boxes)) 0) 1 (blocksFor 500 (length (pic .boxes))))
+      × (blocksOf pic 2 ≡ blocksFor 125 (rowCount (pic .rows))) × (blocksOf pic 3 ≡ blocksFor 83 (arrowCount (pic .arrows)))
   unfolding blocksOf
   blocks-by-kind = (
     rw (rows-by-kind .0, capacities .0),
@@ -144,65 +144,65 @@ module _ (boxes rows arrows : List ℕ) where
     rw (rows-by-kind .2, capacities .2),
   )
 
-  pub first-by-kind : (firstOf boxes rows arrows 1 ≡ 0) × (firstOf boxes rows arrows 2 ≡ blocksOf boxes rows arrows 1)
-      × (firstOf boxes rows arrows 3 ≡ blocksOf boxes rows arrows 1 + blocksOf boxes rows arrows 2)
+  pub first-by-kind : (firstOf pic 1 ≡ 0) × (firstOf pic 2 ≡ blocksOf pic 1)
+      × (firstOf pic 3 ≡ blocksOf pic 1 + blocksOf pic 2)
   unfolding firstOf
   first-by-kind = (of-boxes _ _ _, of-containments _ _ _, of-arrows _ _ _)
 
-  pub fills-1 : Fills 500 (length boxes) (blocksOf boxes rows arrows 1)
-  fills-1 = rw (blocks-by-kind .0) (fills-boxes (length boxes))
+  pub fills-1 : Fills 500 (length (pic .boxes)) (blocksOf pic 1)
+  fills-1 = rw (blocks-by-kind .0) (fills-boxes (length (pic .boxes)))
 
-  pub fills-2 : Fills 125 (rowCount rows) (blocksOf boxes rows arrows 2)
-  fills-2 = rw (blocks-by-kind .1) (fills-containments (rowCount rows))
+  pub fills-2 : Fills 125 (rowCount (pic .rows)) (blocksOf pic 2)
+  fills-2 = rw (blocks-by-kind .1) (fills-containments (rowCount (pic .rows)))
 
-  pub fills-3 : Fills 83 (arrowCount arrows) (blocksOf boxes rows arrows 3)
-  fills-3 = rw (blocks-by-kind .2) (fills-arrows (arrowCount arrows))
+  pub fills-3 : Fills 83 (arrowCount (pic .arrows)) (blocksOf pic 3)
+  fills-3 = rw (blocks-by-kind .2) (fills-arrows (arrowCount (pic .arrows)))
 
   -- there is a box block
-  pub box-block : 0 < blocksOf boxes rows arrows 1
+  pub box-block : 0 < blocksOf pic 1
   unfolding blocksFor
-  box-block = rw (blocks-by-kind .0) (go (eqb (length boxes) 0) refl)
+  box-block = rw (blocks-by-kind .0) (go (eqb (length (pic .boxes)) 0) refl)
     where
-      go : (t : Bool) → eqb (length boxes) 0 ≡ t → 0 < cond t 1 ((length boxes + 499) / 500)
+      go : (t : Bool) → eqb (length (pic .boxes)) 0 ≡ t → 0 < cond t 1 ((length (pic .boxes) + 499) / 500)
       go true e = omega arith
-      go false e = let n = eqb-false (length boxes) 0 e in omega arith
+      go false e = let n = eqb-false (length (pic .boxes)) 0 e in omega arith
 
   -- a picture without boxes has one, of count 0
-  pub no-boxes-one-block : length boxes ≡ 0 → (blocksOf boxes rows arrows 1 ≡ 1) × (countIn boxes rows arrows 1 0 ≡ 0)
+  pub no-boxes-one-block : length (pic .boxes) ≡ 0 → (blocksOf pic 1 ≡ 1) × (countIn pic 1 0 ≡ 0)
   unfolding countIn
   no-boxes-one-block e =
-      let z : length boxes - capacity 1 * 0 ≡ 0 = omega arith in
-      (rw (blocks-by-kind .0, eq-eqb (length boxes) 0 e), rw (rows-by-kind .0, z, least-low 0 (capacity 1) (omega arith)))
+      let z : length (pic .boxes) - capacity 1 * 0 ≡ 0 = omega arith in
+      (rw (blocks-by-kind .0, eq-eqb (length (pic .boxes)) 0 e), rw (rows-by-kind .0, z, least-low 0 (capacity 1) (omega arith)))
 
   module _ (kind : ℕ) (low : 1 ≤ kind) (high : kind ≤ 3) where
-    fills : Fills (capacity kind) (rowsOf boxes rows arrows kind) (blocksOf boxes rows arrows kind)
+    fills : Fills (capacity kind) (rowsOf pic kind) (blocksOf pic kind)
     fills =
-        of-kind kind low high (λ k. Fills (capacity k) (rowsOf boxes rows arrows k) (blocksOf boxes rows arrows k))
+        of-kind kind low high (λ k. Fills (capacity k) (rowsOf pic k) (blocksOf pic k))
         (rw (capacities .0, rows-by-kind .0) fills-1) (rw (capacities .1, rows-by-kind .1) fills-2) (rw (capacities .2, rows-by-kind .2) fills-3)
 
     -- every row is in a block
-    pub all-packed : rowsOf boxes rows arrows kind ≤ capacity kind * blocksOf boxes rows arrows kind
+    pub all-packed : rowsOf pic kind ≤ capacity kind * blocksOf pic kind
     all-packed = fills .enough
 
     -- a block of a kind begins within its rows
-    pub block-begun : (k : ℕ) → k < blocksOf boxes rows arrows kind → capacity kind * k ≤ rowsOf boxes rows arrows kind
+    pub block-begun : (k : ℕ) → k < blocksOf pic kind → capacity kind * k ≤ rowsOf pic kind
     block-begun k h = fills-begun (capacity kind) _ _ k fills h
 
     -- all blocks of a kind but the last are full
-    pub full-but-last : (k : ℕ) → k + 1 < blocksOf boxes rows arrows kind → countIn boxes rows arrows kind k ≡ capacity kind
+    pub full-but-last : (k : ℕ) → k + 1 < blocksOf pic kind → countIn pic kind k ≡ capacity kind
     unfolding countIn
     full-but-last k h = least-high _ (capacity kind) (fills-full (capacity kind) _ _ k fills h)
 
     -- no block of a kind that has rows is empty
-    pub none-empty : (k : ℕ) → k < blocksOf boxes rows arrows kind → 0 < rowsOf boxes rows arrows kind → 0 < countIn boxes rows arrows kind k
+    pub none-empty : (k : ℕ) → k < blocksOf pic kind → 0 < rowsOf pic kind → 0 < countIn pic kind k
     unfolding countIn
     none-empty k h some = least-above 0 _ (capacity kind) (fills-some (capacity kind) _ _ k fills h some) (capacity-some kind low high)
 
     -- containments or arrows that aren't there have no block
-    pub no-rows-no-block : rowsOf boxes rows arrows kind ≡ 0 → (kind ≡ 1 → ⊥) → blocksOf boxes rows arrows kind ≡ 0
+    pub no-rows-no-block : rowsOf pic kind ≡ 0 → (kind ≡ 1 → ⊥) → blocksOf pic kind ≡ 0
     unfolding blocksFor
     no-rows-no-block =
-        of-kind kind low high (λ k. rowsOf boxes rows arrows k ≡ 0 → (k ≡ 1 → ⊥) → blocksOf boxes rows arrows k ≡ 0)
+        of-kind kind low high (λ k. rowsOf pic k ≡ 0 → (k ≡ 1 → ⊥) → blocksOf pic k ≡ 0)
         (λ e n. absurd (n refl))
         (λ e n. rw (blocks-by-kind .1) (omega (arith, rows-by-kind .1)))
         (λ e n. rw (blocks-by-kind .2) (omega (arith, rows-by-kind .2)))

@@ -14,7 +14,7 @@ use Rattle.blocks.proofs.MadeBlocks.{capacities, record-sizes, no-boxes, no-con
 use Rattle.blocks.proofs.MadeBlocks.{boxes-are, containments-are, arrows-are, boxes-in, containments-in, arrows-in}
 use Rattle.blocks.proofs.GoodBlocks.{box-row-is, containment-row-is, arrow-row-is, block-whole, block-bytes, file-block}
 use Rattle.packer.specs.Packed.{recordBytes}
-use Rattle.packer.specs.Regular.{countAt, Regular}
+use Rattle.packer.specs.Regular.{countAt, Regular, pictureOf}
 use Rattle.packer.proofs.BlockIs.{recordIn, box-record, containment-record, arrow-record}
 use Rattle.packer.proofs.KindRuns.{Run, Said, table-run, head-of, run-good, table-said}
 
@@ -37,7 +37,7 @@ pub record RunRows (file : List ℕ) (kind from m rows : ℕ) (records : ℕ →
 
 module _ (file : List ℕ) (small : (i : ℕ) → getD file i 0 < 256) (good : fileFault file ≡ none) (regular : Regular file) where
   abbrev records : ℕ → ℕ → List ℕ
-  records = recordBytes (boxesOf file) (containmentsOf file) (arrowsOf file)
+  records = recordBytes (pictureOf file)
 
   -- ---- boxes
 
@@ -60,7 +60,7 @@ module _ (file : List ℕ) (small : (i : ℕ) → getD file i 0 < 256) (good : f
           let e : 1 * (capacity 1 * j + i) + 0 ≡ capacity 1 * j + i = omega arith in
           let w = block-whole file (from + j) (let a = run .all in omega arith) in
           rw (record-sizes .0)
-          (box-record (blockAt file (from + j)) w (block-bytes file small (from + j)) _ _ _ (capacity 1 * j + i) i (omega arith)
+          (box-record (blockAt file (from + j)) w (block-bytes file small (from + j)) _ (capacity 1 * j + i) i (omega arith)
           (rw e at (boxes-run .row-at j i 0 h l (omega arith))));
     }
 
@@ -89,7 +89,7 @@ module _ (file : List ℕ) (small : (i : ℕ) → getD file i 0 < 256) (good : f
           let w = block-whole file (from + j) (let a = run .all in omega arith) in
           let at = containments-run .row-at j i in
           rw (record-sizes .1)
-          (containment-record (blockAt file (from + j)) w (block-bytes file small (from + j)) _ _ _ (capacity 2 * j + i) i (omega arith)
+          (containment-record (blockAt file (from + j)) w (block-bytes file small (from + j)) _ (capacity 2 * j + i) i (omega arith)
           (rw add-zero at (at 0 h l (omega arith))) (at 1 h l (omega arith)));
     }
 
@@ -117,6 +117,6 @@ module _ (file : List ℕ) (small : (i : ℕ) → getD file i 0 < 256) (good : f
           let w = block-whole file (from + j) (let a = run .all in omega arith) in
           let at = arrows-run .row-at j i in
           rw (record-sizes .2)
-          (arrow-record (blockAt file (from + j)) w (block-bytes file small (from + j)) _ _ _ (capacity 3 * j + i) i (omega arith)
+          (arrow-record (blockAt file (from + j)) w (block-bytes file small (from + j)) _ (capacity 3 * j + i) i (omega arith)
           (rw add-zero at (at 0 h l (omega arith))) (at 1 h l (omega arith)) (at 2 h l (omega arith)) (at 3 h l (omega arith)));
     }

@@ -7,6 +7,7 @@ use native.Mathlib.Nat.{mul-zero, mul-suc}
 use native.Mathlib.Numerals.{add-one}
 use lib.ListN.{length, take, drop, length-append}
 use lib.Seq.{sets, length-sets}
+use Rattle.tables.specs.Rows.{Picture}
 use Rattle.base.specs.Buffers.{zeros}
 use Rattle.blocks.specs.Fnv.{fnv1a}
 use Rattle.blocks.specs.Blocks.{capacity, recordSize, joined}
@@ -21,22 +22,23 @@ use Rattle.packer.proofs.Regular.{block-begun, full-but-last}
 use Rattle.packer.proofs.Putting.{chain, stored}
 use Rattle.packer.proofs.Walking.{walk-begun}
 
-module _ (kind : Kind) (boxes rows arrows l₀ : List ℕ) (w : Walk) (count : ℕ)
-    (asked : OfKind boxes rows arrows kind × Begins kind (length l₀) w count) where
+module _ (l₀ : List ℕ) {pic : Picture} {kind : Kind} {w : Walk} {count : ℕ}
+    (asked : OfKind pic kind × Begins kind (length l₀) w count) where
   -- head, records, zeros, and the check of what then stands there
-  pub block-made : (l₁ l₂ l₃ l₄ : List ℕ) (at number n : ℕ) → at ≡ blockByte kind w → number ≡ kind .first + w .block → n ≡ count
+  pub block-made : {l₁ l₂ l₃ l₄ : List ℕ} {at number n : ℕ} → at ≡ blockByte kind w → number ≡ kind .first + w .block → n ≡ count
       → l₁ ≡ sets l₀ at (headBytes (kind .number) number n)
-      → l₂ ≡ sets l₁ (blockByte kind w + 8) (joined (λ j. recordBytes boxes rows arrows (kind .number) (w .row + j)) count)
+      → l₂ ≡ sets l₁ (blockByte kind w + 8) (joined (λ j. recordBytes pic (kind .number) (w .row + j)) count)
       → l₃ ≡ sets l₂ (at + 8 + kind .size * count) (zeros (500 - kind .size * count))
       → l₄ ≡ sets l₃ (at + 508) (bytes32 (fnv1a (take 508 (drop at l₃))))
       → l₄ ≡ sets l₀ (blockByte kind w)
-      (blockOf (kind .number) (kind .first + w .block) count (λ j. recordBytes boxes rows arrows (kind .number) (w .row + j)))
+      (blockOf (kind .number) (kind .first + w .block) count (λ j. recordBytes pic (kind .number) (w .row + j)))
   unfolding blockOf covered
-  block-made l₁ l₂ l₃ l₄ at number n e₁ e₂ e₃ p₁ p₂ p₃ p₄ =
+  block-made {l₁} {l₂} {l₃} {l₄} e₁ e₂ e₃ p₁ p₂ p₃ p₄ =
       let of = asked .0 in
       let begins = asked .1 in
-      let f : ℕ → List ℕ = λ j. recordBytes boxes rows arrows (kind .number) (w .row + j) in
-      let len : (j : ℕ) → length (f j) ≡ recordSize (kind .number) = λ j. record-length (kind .number) (of .low) (of .high) boxes rows arrows (w .row + j) in
+      let f : ℕ → List ℕ = λ j. recordBytes pic (kind .number) (w .row + j) in
+      let len : (j : ℕ) → length (f j) ≡ recordSize (kind .number)
+      = λ j. record-length (kind .number) (of .low) (of .high) pic (w .row + j) in
       let fit : count ≤ capacity (kind .number) = rw (← of .the-capacity) (begins .most) in
       let h = headBytes (kind .number) (kind .first + w .block) count in
       let r = joined f count in
@@ -57,13 +59,13 @@ module _ (kind : Kind) (boxes rows arrows l₀ : List ℕ) (w : Walk) (count : �
       chain l₀ l₃ l₄ (blockByte kind w) 508 (h ++ (r ++ z)) (bytes32 (fnv1a (h ++ (r ++ z)))) whole all check
 
 -- a loop that has written so many blocks of a kind
-module _ (boxes rows arrows : List ℕ) (kind : Kind) (l₀ : List ℕ) (blocks : ℕ) where
+module _ (pic : Picture) (kind : Kind) (l₀ : List ℕ) (blocks : ℕ) where
   pub record Wrote (k : ℕ) (file : List ℕ) (w : Walk) : Type 0 where
     pub most : k ≤ blocks
     pub the-walk : w ≡ walkAt (kind .capacity) (w .row)
     pub the-row : k < blocks → w .row ≡ kind .capacity * k
     pub same-length : length file ≡ length l₀
-    pub so-far : file ≡ sets l₀ (512 * kind .first) (joined (kindBlock boxes rows arrows (kind .number)) k)
+    pub so-far : file ≡ sets l₀ (512 * kind .first) (joined (kindBlock pic (kind .number)) k)
 
   pub wrote-none : (w : Walk) → ((capacity : ℕ) → w ≡ walkAt capacity 0) → Wrote 0 l₀ w
   wrote-none w start = record {
@@ -71,65 +73,68 @@ module _ (boxes rows arrows : List ℕ) (kind : Kind) (l₀ : List ℕ) (blocks 
     the-walk = rw (start (kind .capacity));
     the-row = λ _. rw (start (kind .capacity), mul-zero);
     same-length = refl;
-    so-far = rw (joined-none (kindBlock boxes rows arrows (kind .number)));
+    so-far = rw (joined-none (kindBlock pic (kind .number)));
   }
 
-  module _ (of : OfKind boxes rows arrows kind)
-      (asked : (blocks ≡ blocksOf boxes rows arrows (kind .number)) × BlocksFit kind blocks (length l₀))
-      (k : ℕ) (file : List ℕ) (w : Walk) (wrote : Wrote k file w) (less : k < blocks) where
-    stands : w ≡ record { row = kind .capacity * k; block = k; place = 0 }
-    stands =
-        let some : 0 < kind .capacity = rw (of .the-capacity) (capacity-some (kind .number) (of .low) (of .high)) in
-        wrote .the-walk ∙ rw (wrote .the-row less) (walk-begun (kind .capacity) k some)
+module _ {pic : Picture} {kind : Kind} {l₀ : List ℕ} {blocks : ℕ}
+    (asked : OfKind pic kind × (blocks ≡ blocksOf pic (kind .number)) × BlocksFit kind blocks (length l₀))
+    {k : ℕ} {file : List ℕ} {w : Walk} (wrote : Wrote pic kind l₀ blocks k file w) (less : k < blocks) where
+  of : OfKind pic kind
+  of = asked .0
 
-    pub row-begun : w .row ≤ kind .rows
-    row-begun = rw (stands, of .the-capacity, of .the-rows) (block-begun boxes rows arrows (kind .number) (of .low) (of .high) k (rw (← asked .0) less))
+  stands : w ≡ record { row = kind .capacity * k; block = k; place = 0 }
+  stands =
+      let some : 0 < kind .capacity = rw (of .the-capacity) (capacity-some (kind .number) (of .low) (of .high)) in
+      wrote .the-walk ∙ rw (wrote .the-row less) (walk-begun (kind .capacity) k some)
 
-    -- the rows that the next block takes
-    module _ (count : ℕ) (is : count ≡ least (kind .rows - w .row) (kind .capacity)) where
-      count-is : count ≡ countIn boxes rows arrows (kind .number) k
-      unfolding countIn
-      count-is = is ∙ rw (stands, of .the-capacity, of .the-rows)
+  pub row-begun : w .row ≤ kind .rows
+  row-begun = rw (stands, of .the-capacity, of .the-rows) (block-begun pic (kind .number) (of .low) (of .high) k (rw (← asked .1) less))
 
-      pub next-begins : Begins kind (length file) w count
-      next-begins =
-          let m = least-most (kind .rows - w .row) (kind .capacity) in
-          let r = row-begun in
-          let n = asked .1 .numbers in
-          let l = asked .1 .room in
-          record {
-            rows-left = rw is (omega (arith, m .0));
-            most = rw is (m .1);
-            walked = wrote .the-walk;
-            the-place = rw stands;
-            the-block = rw stands (omega arith);
-            room = rw (stands, wrote .same-length) (omega arith);
-          }
+  -- the rows that the next block takes
+  module _ {count : ℕ} (is : count ≡ least (kind .rows - w .row) (kind .capacity)) where
+    count-is : count ≡ countIn pic (kind .number) k
+    unfolding countIn
+    count-is = is ∙ rw (stands, of .the-capacity, of .the-rows)
 
-      -- one block more
-      module _ (file′ : List ℕ) (w′ : Walk) (walked : w′ ≡ walkAt (kind .capacity) (w .row + count))
-          (put : file′ ≡ sets file (blockByte kind w)
-          (blockOf (kind .number) (kind .first + w .block) count (λ j. recordBytes boxes rows arrows (kind .number) (w .row + j)))) where
-        next-block : blockOf (kind .number) (kind .first + w .block) count (λ j. recordBytes boxes rows arrows (kind .number) (w .row + j))
-            ≡ kindBlock boxes rows arrows (kind .number) k
-        unfolding kindBlock
-        next-block = rw (stands, count-is, of .the-first, of .the-capacity)
-
-        next-row : w′ .row ≡ w .row + count
-        next-row = rw walked
-
-        next-begun : k + 1 < blocks → w′ .row ≡ kind .capacity * (k + 1)
-        next-begun h =
-            let last = full-but-last boxes rows arrows (kind .number) (of .low) (of .high) k (rw (← asked .0) h) in
-            let full : count ≡ kind .capacity = count-is ∙ last ∙ sym (of .the-capacity) in
-            next-row ∙ rw (full, stands, add-one k, mul-suc)
-
-        pub wrote-more : Wrote (k + 1) file′ w′
-        wrote-more = record {
-          most = omega arith;
-          the-walk = walked ∙ ap (λ (r : ℕ). walkAt (kind .capacity) r) (sym next-row);
-          the-row = next-begun;
-          same-length = rw put (simp length-sets (wrote .same-length));
-          so-far = put ∙ rw (next-block, wrote .so-far) (put-more l₀ (512 * kind .first) (kindBlock boxes rows arrows (kind .number)) 512
-              (kind-block-length (kind .number) (of .low) (of .high) boxes rows arrows) k _ (rw stands (omega arith)));
+    pub next-begins : Begins kind (length file) w count
+    next-begins =
+        let m = least-most (kind .rows - w .row) (kind .capacity) in
+        let r = row-begun in
+        let n = asked .2 .numbers in
+        let l = asked .2 .room in
+        record {
+          rows-left = rw is (omega (arith, m .0));
+          most = rw is (m .1);
+          walked = wrote .the-walk;
+          the-place = rw stands;
+          the-block = rw stands (omega arith);
+          room = rw (stands, wrote .same-length) (omega arith);
         }
+
+    -- one block more
+    module _ {file′ : List ℕ} {w′ : Walk} (walked : w′ ≡ walkAt (kind .capacity) (w .row + count))
+        (put : file′ ≡ sets file (blockByte kind w)
+        (blockOf (kind .number) (kind .first + w .block) count (λ j. recordBytes pic (kind .number) (w .row + j)))) where
+      next-block : blockOf (kind .number) (kind .first + w .block) count (λ j. recordBytes pic (kind .number) (w .row + j))
+          ≡ kindBlock pic (kind .number) k
+      unfolding kindBlock
+      next-block = rw (stands, count-is, of .the-first, of .the-capacity)
+
+      next-row : w′ .row ≡ w .row + count
+      next-row = rw walked
+
+      next-begun : k + 1 < blocks → w′ .row ≡ kind .capacity * (k + 1)
+      next-begun h =
+          let last = full-but-last pic (kind .number) (of .low) (of .high) k (rw (← asked .1) h) in
+          let full : count ≡ kind .capacity = count-is ∙ last ∙ sym (of .the-capacity) in
+          next-row ∙ rw (full, stands, add-one k, mul-suc)
+
+      pub wrote-more : Wrote pic kind l₀ blocks (k + 1) file′ w′
+      wrote-more = record {
+        most = omega arith;
+        the-walk = walked ∙ ap (λ (r : ℕ). walkAt (kind .capacity) r) (sym next-row);
+        the-row = next-begun;
+        same-length = rw put (simp length-sets (wrote .same-length));
+        so-far = put ∙ rw (next-block, wrote .so-far) (put-more l₀ (512 * kind .first) (kindBlock pic (kind .number)) 512
+            (kind-block-length (kind .number) (of .low) (of .high) pic) k _ (rw stands (omega arith)));
+      }

@@ -5,6 +5,7 @@ use mathlib.Core.List.{List, [], _∷_, _++_}
 use Prim.Native.Nat.{ℕ}
 use lib.ListN.{length}
 use Rattle.base.specs.Buffers.{zeros}
+use Rattle.tables.specs.Rows.{Picture}
 use Rattle.blocks.specs.Fnv.{fnvStart, fnvStep, fnvFold, fnv1a}
 use Rattle.blocks.specs.Blocks.{byKind, capacity, recordSize, joined}
 use Rattle.packer.specs.Packed.{bytes16, bytes32, boxBytes, containmentBytes, arrowBytes}
@@ -12,11 +13,6 @@ use Rattle.packer.specs.Packed.{headBytes, covered, blockOf, least, bloc
 use Rattle.packer.specs.Packed.{rowsOf, recordBytes, blocksOf, firstOf, countIn, kindBlock, kindBytes, packed}
 use Rattle.packer.specs.Walks.{walkAt}
 use Rattle.packer.specs.declared.Walk.{Walk}
-
-pub record Picture : Type 0 where
-  pub boxes : List ℕ
-  pub rows : List ℕ
-  pub arrows : List ℕ
 
 -- A: no boxes
 abbrev pub picture-A : Picture
@@ -34,9 +30,6 @@ picture-B = record {
 abbrev pub picture-of : (rows arrows : ℕ) → Picture
 picture-of rows arrows = record { boxes = zeros 2; rows = zeros rows; arrows = zeros arrows }
 
-abbrev pub packedPicture : Picture → List ℕ
-packedPicture p = packed (p .boxes) (p .rows) (p .arrows)
-
 -- the bytes of A, and those of B block by block: head and records, filler, check
 unfoldable pub bytes-A : List ℕ
 bytes-A = 1 ∷ zeros 507 ++ (132 ∷ 169 ∷ 245 ∷ 179 ∷ [])
@@ -52,13 +45,13 @@ bytes-B =
 
 -- two boxes with 125 containments and 83 arrows, and with one more of each
 unfoldable pub lengths : List ℕ
-lengths = length (packedPicture (picture-of 250 332)) ∷ length (packedPicture (picture-of 252 336)) ∷ []
+lengths = length (packed (picture-of 250 332)) ∷ length (packed (picture-of 252 336)) ∷ []
 
 -- the walk, by capacity and row: the last and the first row of a block, and the last rows of full tables
 unfoldable pub walks : List Walk
 walks = walkAt 125 124 ∷ walkAt 125 125 ∷ walkAt 125 1023 ∷ walkAt 83 82 ∷ walkAt 83 511 ∷ walkAt 500 255 ∷ []
 
-pub packed-right : (packedPicture picture-A ≡ bytes-A) × (packedPicture picture-B ≡ bytes-B)
+pub packed-right : (packed picture-A ≡ bytes-A) × (packed picture-B ≡ bytes-B)
 unfolding
     zeros fnvStart fnvStep fnvFold fnv1a byKind capacity recordSize joined bytes16 bytes32 boxBytes containmentBytes arrowBytes headBytes
     covered blockOf least blocksFor rowsOf recordBytes blocksOf firstOf countIn kindBlock kindBytes packed bytes-A bytes-B

@@ -6,7 +6,7 @@ use Prim.Native.Nat.{ℕ, _+_, _*_, _-_, _/_, _%_}
 use lib.Dec.{eqb, ltb}
 use lib.ListN.{length, getD}
 use Rattle.base.specs.Buffers.{zeros}
-use Rattle.tables.specs.Rows.{rowCount, rowAt, arrowCount, arrowAt}
+use Rattle.tables.specs.Rows.{Picture, rowCount, rowAt, arrowCount, arrowAt}
 use Rattle.blocks.specs.Fnv.{fnv1a}
 use Rattle.blocks.specs.Blocks.{byKind, capacity, recordSize, joined}
 
@@ -52,14 +52,15 @@ least a b = cond (ltb a b) a b
 unfoldable pub blocksFor : (capacity rows : ℕ) → ℕ
 blocksFor capacity rows = (rows + (capacity - 1)) / capacity
 
-module _ (boxes rows arrows : List ℕ) where
+module _ (pic : Picture) where
   -- how many rows a kind's table has
   unfoldable pub rowsOf : (kind : ℕ) → ℕ
-  rowsOf kind = byKind kind (length boxes) (rowCount rows) (arrowCount arrows)
+  rowsOf kind = byKind kind (length (pic .boxes)) (rowCount (pic .rows)) (arrowCount (pic .arrows))
 
   -- row i of a kind's table as a record
   unfoldable pub recordBytes : (kind i : ℕ) → List ℕ
-  recordBytes kind i = cond (eqb kind 1) (boxBytes boxes i) (cond (eqb kind 2) (containmentBytes rows i) (arrowBytes arrows i))
+  recordBytes kind i =
+      cond (eqb kind 1) (boxBytes (pic .boxes) i) (cond (eqb kind 2) (containmentBytes (pic .rows) i) (arrowBytes (pic .arrows) i))
 
   -- how many blocks a kind has: as many as its rows fill, and of boxes at least one
   unfoldable pub blocksOf : (kind : ℕ) → ℕ

@@ -6,6 +6,7 @@ use lib.ListN.{length}
 use Rattle.base.specs.Search.{orElse}
 use Rattle.base.specs.Buffers.{written}
 use Rattle.tables.specs.Refusals.{unlessRefused}
+use Rattle.tables.specs.Rows.{Picture}
 use Rattle.tables.specs.Faults.{tableFault, roomFault}
 use Rattle.tables.specs.declared.Refusal.{Refusal}
 use Rattle.packer.specs.Packed.{packed}
@@ -17,14 +18,14 @@ unfoldable pub packingOf : Option Refusal → ℕ → Packing
 packingOf none len = Packed len
 packingOf (some r) len = Refused r
 
-module _ (boxes rows arrows file : List ℕ) where
+module _ (pic : Picture) (file : List ℕ) where
   -- checks 1 to 7 as for a picture, then 9 with buffer 8 for the file
   unfoldable pub packFault : Option Refusal
-  packFault = orElse (tableFault boxes rows arrows) (roomFault 8 (length file) (length (packed boxes rows arrows)))
+  packFault = orElse (tableFault pic) (roomFault 8 (length file) (length (packed pic)))
 
   unfoldable pub packAnswer : Packing
-  packAnswer = packingOf packFault (length (packed boxes rows arrows))
+  packAnswer = packingOf packFault (length (packed pic))
 
   -- a refusal writes nothing; else bytes beyond the length stay
   unfoldable pub fileAfter : List ℕ
-  fileAfter = unlessRefused packFault (written (packed boxes rows arrows) file) file
+  fileAfter = unlessRefused packFault (written (packed pic) file) file

@@ -5,6 +5,7 @@ use mathlib.Core.List.{List}
 use mathlib.Core.Option.{none}
 use Prim.Native.Nat.{ℕ, _<_}
 use lib.ListN.{getD}
+use Rattle.tables.specs.Rows.{Picture, picture}
 use Rattle.blocks.specs.Blocks.{headOf, capacity}
 use Rattle.blocks.specs.Files.{blockAt, blockCount, fileFault, boxesOf, containmentsOf, arrowsOf}
 
@@ -22,11 +23,15 @@ pub record Regular (file : List ℕ) : Type 0 where
   pub full-but-last : (k l : ℕ) → k < l → l < blockCount file → kindAt file k ≡ kindAt file l → countAt file k ≡ capacity (kindAt file k)
   pub none-empty : (k : ℕ) → 0 < k → k < blockCount file → 0 < countAt file k
 
+-- the picture that a file says
+abbrev pub pictureOf : (file : List ℕ) → Picture
+pictureOf file = picture (boxesOf file) (containmentsOf file) (arrowsOf file)
+
 -- a regular packing of a picture: a file of bytes that is good and regular and says the picture's tables
-pub record RegularPacking (boxes rows arrows file : List ℕ) : Type 0 where
+pub record RegularPacking (pic : Picture) (file : List ℕ) : Type 0 where
   pub bytes : (i : ℕ) → getD file i 0 < 256
   pub good : fileFault file ≡ none
   pub regular : Regular file
-  pub says-boxes : boxesOf file ≡ boxes
-  pub says-containments : containmentsOf file ≡ rows
-  pub says-arrows : arrowsOf file ≡ arrows
+  pub says-boxes : boxesOf file ≡ pic .boxes
+  pub says-containments : containmentsOf file ≡ pic .rows
+  pub says-arrows : arrowsOf file ≡ pic .arrows

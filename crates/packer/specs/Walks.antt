@@ -1,8 +1,8 @@
 -- What the functions inside packing ask of and promise each other: the blocks of a kind, and the walk over its rows. What `pack`
 -- promises does not speak of them. Assumes nothing.
 use mathlib.Core.Path.{_≡_}
-use mathlib.Core.List.{List}
 use Prim.Native.Nat.{ℕ, _+_, _*_, _/_, _%_, _^_, _<_, _≤_}
+use Rattle.tables.specs.Rows.{Picture}
 use Rattle.blocks.specs.Blocks.{capacity, recordSize}
 use Rattle.packer.specs.Packed.{rowsOf, firstOf}
 use Rattle.packer.specs.declared.Kind.{Kind}
@@ -19,14 +19,14 @@ abbrev pub arrowKind : (rows first : ℕ) → Kind
 arrowKind rows first = record { number = 3; size = 6; capacity = 83; rows = rows; first = first }
 
 -- the numbers are those of a kind of the picture
-pub record OfKind (boxes rows arrows : List ℕ) (kind : Kind) : Type 0 where
+pub record OfKind (pic : Picture) (kind : Kind) : Type 0 where
   pub low : 1 ≤ kind .number
   pub high : kind .number ≤ 3
   pub few : kind .rows ≤ 1024
   pub the-size : kind .size ≡ recordSize (kind .number)
   pub the-capacity : kind .capacity ≡ capacity (kind .number)
-  pub the-rows : kind .rows ≡ rowsOf boxes rows arrows (kind .number)
-  pub the-first : kind .first ≡ firstOf boxes rows arrows (kind .number)
+  pub the-rows : kind .rows ≡ rowsOf pic (kind .number)
+  pub the-first : kind .first ≡ firstOf pic (kind .number)
 
 -- document 02, P5: where the walk stands at a row. The place is the remainder of the row's number by the kind's capacity, and the block
 -- the quotient, counted from the kind's first block

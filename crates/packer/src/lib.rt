@@ -6,6 +6,7 @@ ghost use mathlib.Core.Path.{_≡_};
 ghost use Prim.Native.Nat.{ℕ, _+_, _*_, _^_, _<_};
 ghost use lib.ListN.{length};
 ghost use lib.Seq.{sets};
+ghost use Rattle.tables.specs.Rows.{picture};
 ghost use Rattle.blocks.specs.Blocks.{joined};
 ghost use Rattle.packer.specs.Packed.{blockOf, least, blocksFor, recordBytes, blocksOf, kindBytes};
 ghost use Rattle.packer.specs.Packs.{packAnswer, fileAfter};
@@ -159,11 +160,11 @@ fn put_records(
     count: usize,
     file: &mut [u8],
 ) -> Walk
-    requires { ⌜ OfKind (now boxes) (now rows) (now arrows) kind × Begins kind (length (now file)) walk count ⌝ }
+    requires { ⌜ OfKind (picture (now boxes) (now rows) (now arrows)) kind × Begins kind (length (now file)) walk count ⌝ }
     ensures { λ r. ⌜ r ≡ walkAt (kind .capacity) (walk .row + count) ⌝ }
-    ensures { λ _. ⌜ now (file .exit) ≡ sets (now (file .entry)) (blockByte kind walk + 8)
-        (joined (λ j. recordBytes (now (boxes .entry)) (now (rows .entry)) (now (arrows .entry)) (kind .number) (walk .row + j))
-        count) ⌝ }
+    ensures { λ _. ⌜ (let pic = picture (now (boxes .entry)) (now (rows .entry)) (now (arrows .entry)) in
+        now (file .exit) ≡ sets (now (file .entry)) (blockByte kind walk + 8)
+        (joined (λ j. recordBytes pic (kind .number) (walk .row + j)) count)) ⌝ }
 {
     let at = block_byte(kind, walk) + 8;
     if kind.number == BoxRecord::KIND {
@@ -185,11 +186,11 @@ fn put_block(
     count: usize,
     file: &mut [u8],
 ) -> Walk
-    requires { ⌜ OfKind (now boxes) (now rows) (now arrows) kind × Begins kind (length (now file)) walk count ⌝ }
+    requires { ⌜ OfKind (picture (now boxes) (now rows) (now arrows)) kind × Begins kind (length (now file)) walk count ⌝ }
     ensures { λ r. ⌜ r ≡ walkAt (kind .capacity) (walk .row + count) ⌝ }
-    ensures { λ _. ⌜ now (file .exit) ≡ sets (now (file .entry)) (blockByte kind walk)
-        (blockOf (kind .number) (kind .first + walk .block) count
-        (λ j. recordBytes (now (boxes .entry)) (now (rows .entry)) (now (arrows .entry)) (kind .number) (walk .row + j))) ⌝ }
+    ensures { λ _. ⌜ (let pic = picture (now (boxes .entry)) (now (rows .entry)) (now (arrows .entry)) in
+        now (file .exit) ≡ sets (now (file .entry)) (blockByte kind walk)
+        (blockOf (kind .number) (kind .first + walk .block) count (λ j. recordBytes pic (kind .number) (walk .row + j)))) ⌝ }
 {
     let at = block_byte(kind, walk);
     put_head(
@@ -208,11 +209,10 @@ fn put_block(
 
 // Writes the blocks of a kind, of which there are so many.
 fn put_kind(kind: Kind, boxes: &[u8], rows: &[u16], arrows: &[u16], blocks: usize, file: &mut [u8])
-    requires { ⌜ OfKind (now boxes) (now rows) (now arrows) kind ⌝ }
-    requires { ⌜ (blocks ≡ blocksOf (now boxes) (now rows) (now arrows) (kind .number))
-        × BlocksFit kind blocks (length (now file)) ⌝ }
-    ensures { λ _. ⌜ now (file .exit) ≡ sets (now (file .entry)) (512 * kind .first)
-        (kindBytes (now (boxes .entry)) (now (rows .entry)) (now (arrows .entry)) (kind .number)) ⌝ }
+    requires { ⌜ (let pic = picture (now boxes) (now rows) (now arrows) in
+        OfKind pic kind × (blocks ≡ blocksOf pic (kind .number)) × BlocksFit kind blocks (length (now file))) ⌝ }
+    ensures { λ _. ⌜ (let pic = picture (now (boxes .entry)) (now (rows .entry)) (now (arrows .entry)) in
+        now (file .exit) ≡ sets (now (file .entry)) (512 * kind .first) (kindBytes pic (kind .number))) ⌝ }
 {
     let mut walk = Walk::start();
     for k in 0..blocks {
@@ -230,9 +230,10 @@ pub enum Packing {
 // Packs a picture into a lent file. Checks 1 to 7, then 9 with buffer 8, before a byte is written. A picture's boxes, at most 256,
 // fill one block.
 pub fn pack(boxes: &[u8], rows: &[u16], arrows: &[u16], file: &mut [u8]) -> Packing
-    ensures { λ r. ⌜ r ≡ packAnswer (now (boxes .entry)) (now (rows .entry)) (now (arrows .entry)) (now (file .entry)) ⌝ }
-    ensures { λ _. ⌜ now (file .exit)
-        ≡ fileAfter (now (boxes .entry)) (now (rows .entry)) (now (arrows .entry)) (now (file .entry)) ⌝ }
+    ensures { λ r. ⌜ (let pic = picture (now (boxes .entry)) (now (rows .entry)) (now (arrows .entry)) in
+        r ≡ packAnswer pic (now (file .entry))) ⌝ }
+    ensures { λ _. ⌜ (let pic = picture (now (boxes .entry)) (now (rows .entry)) (now (arrows .entry)) in
+        now (file .exit) ≡ fileAfter pic (now (file .entry))) ⌝ }
 {
     let tables = tables::check(boxes, rows, arrows);
     if let Verdict::Refused(r) = tables {

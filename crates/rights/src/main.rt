@@ -5,18 +5,20 @@ ghost use mathlib.Core.Path.{_≡_};
 ghost use mathlib.Core.Option.{some};
 ghost use Prim.Native.Nat.{_*_, _≤_};
 ghost use lib.ListN.{length, take};
-ghost use Rattle.tables.specs.Steps.{SoundRows, SoundArrows};
-ghost use Rattle.containment.specs.Steps.{Says};
-ghost use Rattle.answers.specs.Table.{Tabled};
-ghost use Rattle.listing.specs.Files.{fileRefusal};
+ghost use Rattle.tables.specs.Rows.{picture, arrowCount};
+ghost use Rattle.user_rows.specs.Steps.{Drawn};
+ghost use Rattle.listing.specs.Files.{filePicture, fileRefusal};
+ghost use Rattle.listing.specs.Listing.{countsLine};
 ghost use Rattle.listing.specs.Numbered.{fileLineCount, fileLine, linesFrom};
-ghost use Rattle.listing.specs.Steps.{Read, Good};
-ghost use Rattle.rights.specs.Steps.{GotMost, SentAll};
+ghost use Rattle.listing.specs.Steps.{Ready, Read, Good};
+ghost use Rattle.listing.specs.declared.Line.the-variants.{Counts as CountsLine};
+ghost use Rattle.rights.specs.Steps.{GotMost, SentAll, RowsSent};
 use blocks::Counts;
 use blocks::Reading;
 use libc::STDERR_FILENO;
 use libc::STDIN_FILENO;
 use libc::STDOUT_FILENO;
+use listing::Place;
 use tables::BoxRow;
 use tables::Refusal;
 use tables::Verdict;
@@ -81,82 +83,121 @@ fn send_stopped(file: &[u8], r: Refusal) -> Sent
     }
 }
 
-// All lines of a picture, a buffer at a time.
-fn send_lines(
-    file: &[u8],
-    boxes: &[u8],
-    rows: &[u16],
-    arrows: &[u16],
-    users: &[u16],
-    files: &[u16],
-    table: &[u64],
-) -> Sent
-    requires { ⌜ Good (now file) (now boxes) (now rows) (now arrows) ⌝ }
-    requires { ⌜ Tabled (now boxes) (now rows) (now arrows) (now users) (now files) (now table) ⌝ }
-    ensures { λ s. ⌜ SentAll (fileLineCount (now (file .entry))) s ⌝ }
+// The place up to which the rows went out, and whether a write failed there.
+struct Reached {
+    place: Place,
+    failed: bool,
+}
+
+// The pair lines, a buffer of whole rows at a time.
+fn send_rows(file: &[u8], closure: &[u64], arrows: &[u16], users: &[u16], files: &[u16]) -> Reached
+    requires { ⌜ Good (now file) (filePicture (now file)) ⌝ }
+    requires { ⌜ Ready (filePicture (now file)) (now closure) (now arrows) (now users) (now files) ⌝ }
+    ensures { λ r. ⌜ RowsSent (filePicture (now (file .entry))) r ⌝ }
 {
     let mut out = io::large_buffer();
     let mut place = listing::start(arrows);
-    let count = listing::line_count(users, files, place);
-    while place.line < count {
-        let chunk = listing::fill(boxes, rows, arrows, users, files, table, place, &mut out);
+    let count = listing::row_count(users, place);
+    while place.row < count {
+        let chunk = listing::fill(closure, arrows, users, files, place, &mut out);
         let n = chunk.bytes;
         let next = chunk.next;
         if !send(file, place.line, next.line - place.line, &out[..n]) {
-            return Sent {
-                lines: place.line,
+            return Reached {
+                place,
                 failed: true,
             };
         }
         place = next;
     }
-    Sent {
-        lines: place.line,
+    Reached {
+        place,
         failed: false,
     }
 }
 
-// The listing of a picture whose containments are in the scratch.
-fn list_picture(file: &[u8], boxes: &[u8], rows: &[u16], arrows: &[u16], scratch: &[u8]) -> Sent
-    requires { ⌜ Good (now file) (now boxes) (now rows) (now arrows) ⌝ }
-    requires { ⌜ SoundRows (now boxes) (now rows) × SoundArrows (now boxes) (now arrows) ⌝ }
-    requires { ⌜ Says (length (now boxes)) (now rows) (now scratch) ⌝ }
+// All lines of a picture, by its counts of boxes and containments: the counts, the pair lines, the last line.
+fn send_lines(
+    file: &[u8],
+    boxes: usize,
+    rows: usize,
+    closure: &[u64],
+    arrows: &[u16],
+    users: &[u16],
+    files: &[u16],
+) -> Sent
+    requires { ⌜ Good (now file) (filePicture (now file)) ⌝ }
+    requires { ⌜ Ready (filePicture (now file)) (now closure) (now arrows) (now users) (now files) ⌝ }
+    requires { ⌜ countsLine (filePicture (now file)) ≡ CountsLine boxes rows (arrowCount (now arrows)) ⌝ }
     ensures { λ s. ⌜ SentAll (fileLineCount (now (file .entry))) s ⌝ }
 {
-    let mut u = answers::no_boxes();
-    let mut f = answers::no_boxes();
-    let mut table = answers::no_words();
-    let s = answers::tabulate(boxes, rows, scratch, arrows, &mut u, &mut f, &mut table);
+    let mut out = io::buffer();
+    let first = listing::counts_line(boxes, rows, arrows.len() / 4, &mut out);
+    if !send(file, 0, 1, &out[..first]) {
+        return Sent {
+            lines: 0,
+            failed: true,
+        };
+    }
+    let reached = send_rows(file, closure, arrows, users, files);
+    let place = reached.place;
+    if reached.failed {
+        return Sent {
+            lines: place.line,
+            failed: true,
+        };
+    }
+    let seen = place.seen;
+    let last = listing::last_line(seen, &mut out);
+    let is_out = send(file, place.line, 1, &out[..last]);
+    Sent {
+        lines: place.line + 1,
+        failed: !is_out,
+    }
+}
+
+// The listing of a picture without faults.
+fn list_picture(file: &[u8], boxes: &[u8], rows: &[u16], arrows: &[u16], closure: &[u64]) -> Sent
+    requires { ⌜ Good (now file) (picture (now boxes) (now rows) (now arrows)) ⌝ }
+    requires { ⌜ Drawn (picture (now boxes) (now rows) (now arrows)) (now closure) ⌝ }
+    ensures { λ s. ⌜ SentAll (fileLineCount (now (file .entry))) s ⌝ }
+{
+    let mut u = tables::no_boxes();
+    let mut f = tables::no_boxes();
+    let users = tables::atoms_of(boxes, rows, BoxRow::USER, &mut u);
+    let files = tables::atoms_of(boxes, rows, BoxRow::FILE, &mut f);
     send_lines(
         file,
-        boxes,
-        rows,
+        boxes.len(),
+        rows.len() / 2,
+        closure,
         arrows,
-        &u[..s.users],
-        &f[..s.files],
-        &table,
+        &u[..users],
+        &f[..files],
     )
 }
 
 // The listing of a picture, or its refusal.
 fn list_tables(file: &[u8], boxes: &[u8], rows: &[u16], arrows: &[u16]) -> Sent
-    requires { ⌜ Read (now file) (now boxes) (now rows) (now arrows) ⌝ }
+    requires { ⌜ Read (now file) (picture (now boxes) (now rows) (now arrows)) ⌝ }
     ensures { λ s. ⌜ SentAll (fileLineCount (now (file .entry))) s ⌝ }
 {
     let mut scratch = io::large_buffer();
-    let v = containment::prepare(boxes, rows, arrows, &mut scratch);
+    let mut closure = containment::no_closure();
+    let early = containment::early_picture(boxes, rows, arrows, &scratch);
+    let v = containment::prepare(early, boxes, rows, &mut scratch, &mut closure);
     if let Verdict::Refused(r) = v {
         return send_stopped(file, r);
     }
-    list_picture(file, boxes, rows, arrows, &scratch)
+    list_picture(file, boxes, rows, arrows, &closure)
 }
 
 // The same for tables that were read, by their row counts.
 fn list_counted(file: &[u8], c: Counts, boxes: &[u8], rows: &[u16], arrows: &[u16]) -> Sent
     requires { ⌜ (c .boxes ≤ length (now boxes)) × (2 * c .containments ≤ length (now rows))
         × (4 * c .arrows ≤ length (now arrows)) ⌝ }
-    requires { ⌜ Read (now file) (take (c .boxes) (now boxes))
-        (take (2 * c .containments) (now rows)) (take (4 * c .arrows) (now arrows)) ⌝ }
+    requires { ⌜ Read (now file) (picture (take (c .boxes) (now boxes))
+        (take (2 * c .containments) (now rows)) (take (4 * c .arrows) (now arrows))) ⌝ }
     ensures { λ s. ⌜ SentAll (fileLineCount (now (file .entry))) s ⌝ }
 {
     let nb = c.boxes;

@@ -3,8 +3,8 @@ use Prim.Native.Nat.{ℕ}
 use Rattle.tables.specs.declared.Refusal.{Refusal}
 use Rattle.tables.specs.declared.Verdict.{Verdict}
 use Rattle.tables.specs.declared.Verdict.the-variants.{Passed, Refused}
-use Rattle.answers.specs.declared.Entry.{Entry}
-use Rattle.answers.specs.declared.Entry.the-variants.{Granted, Denied, Default, Unclear}
+use Rattle.meaning.specs.declared.Entry.{Entry}
+use Rattle.meaning.specs.declared.Entry.the-variants.{Granted, Denied, Default, Unclear}
 use Rattle.answers.specs.declared.Reply.the-variants.{Answered, Refused as EntryRefused}
 use Rattle.lists.specs.declared.Listed.{Listed}
 use Rattle.lists.specs.declared.Listed.the-variants.{Written, Refused as ListRefused}
@@ -66,4 +66,4 @@ packReply (PackRefused r) = refusedReply r
 
 -- the version: major 3, minor 1, patch 0, as major × 65,536 + minor × 256 + patch
 abbrev pub version : ℕ
-version = 196864
+version = 262144

@@ -2,9 +2,10 @@
 // a length in elements.
 ghost use mathlib.Core.Path.{_≡_};
 ghost use lib.ListN.{length};
+ghost use Rattle.tables.specs.Rows.{picture};
 ghost use Rattle.tables.specs.Refusals.{verdictOf};
 ghost use Rattle.containment.specs.Scratch.{scratchAfter, earlyFault};
-ghost use Rattle.answers.specs.Meaning.{answer};
+ghost use Rattle.meaning.specs.Meaning.{answer};
 ghost use Rattle.answers.specs.Calls.{replyOf, entryEarly, entryFault, judgeFault, matrixEarly, matrixFault, bytesAfter, numbersAfter};
 ghost use Rattle.lists.specs.Calls.{listEarly, listBefore, listAnswer, listAfter, workAfter};
 ghost use Rattle.headings.specs.Calls.{headingsOf, headingFault, usersAfter, filesAfter};
@@ -13,10 +14,10 @@ ghost use Rattle.packer.specs.Packs.{packAnswer, fileAfter};
 ghost use Rattle.rights_c.specs.Replies.{reply, doneReply, refusedReply, verdictReply, entryReply, askedReply};
 ghost use Rattle.rights_c.specs.Replies.{listReply, headingReply, readReply, packReply, version};
 ghost use Rattle.blocks.specs.declared.Reading.{Reading};
-use answers::Entry;
 use blocks::Reading;
 use headings::Headings;
 use lists::Listed;
+use meaning::Entry;
 use packer::Packing;
 use tables::Refusal;
 use tables::Verdict;
@@ -139,8 +140,11 @@ pub extern "C" fn rights_judge(
     arrows: &[u16],
     scratch: &mut [u8],
 ) -> Reply
-    ensures { λ r. ⌜ r ≡ verdictReply (verdictOf (judgeFault (now (boxes .entry)) (now (rows .entry)) (now (arrows .entry)) (now (scratch .entry)))) ⌝ }
-    ensures { λ _. ⌜ now (scratch .exit) ≡ scratchAfter (earlyFault (now (boxes .entry)) (now (rows .entry)) (now (arrows .entry)) (now (scratch .entry))) (now (boxes .entry)) (now (rows .entry)) (now (scratch .entry)) ⌝ }
+    ensures { λ r. ⌜ (let pic = picture (now (boxes .entry)) (now (rows .entry)) (now (arrows .entry)) in
+        r ≡ verdictReply (verdictOf (judgeFault pic (now (scratch .entry))))) ⌝ }
+    ensures { λ _. ⌜ (let pic = picture (now (boxes .entry)) (now (rows .entry)) (now (arrows .entry)) in
+        now (scratch .exit) ≡ scratchAfter (earlyFault pic (now (scratch .entry))) (now (boxes .entry)) (now (rows .entry))
+        (now (scratch .entry))) ⌝ }
 {
     of_verdict(answers::judge(boxes, rows, arrows, scratch))
 }
@@ -155,8 +159,11 @@ pub extern "C" fn rights_entry(
     mode: u16,
     scratch: &mut [u8],
 ) -> Reply
-    ensures { λ r. ⌜ r ≡ askedReply (replyOf (entryFault (now (boxes .entry)) (now (rows .entry)) (now (arrows .entry)) (now (scratch .entry)) mode user file) (answer (now (rows .entry)) (now (arrows .entry)) mode user file)) ⌝ }
-    ensures { λ _. ⌜ now (scratch .exit) ≡ scratchAfter (entryEarly (now (boxes .entry)) (now (rows .entry)) (now (arrows .entry)) (now (scratch .entry)) mode) (now (boxes .entry)) (now (rows .entry)) (now (scratch .entry)) ⌝ }
+    ensures { λ r. ⌜ (let pic = picture (now (boxes .entry)) (now (rows .entry)) (now (arrows .entry)) in
+        r ≡ askedReply (replyOf (entryFault pic (now (scratch .entry)) mode user file) (answer pic mode user file))) ⌝ }
+    ensures { λ _. ⌜ (let pic = picture (now (boxes .entry)) (now (rows .entry)) (now (arrows .entry)) in
+        now (scratch .exit) ≡ scratchAfter (entryEarly pic (now (scratch .entry)) mode) (now (boxes .entry)) (now (rows .entry))
+        (now (scratch .entry))) ⌝ }
 {
     of_asked(answers::one_entry(boxes, rows, arrows, scratch, user, file, mode))
 }
@@ -171,10 +178,15 @@ pub extern "C" fn rights_matrix(
     bytes: &mut [u8],
     numbers: &mut [u16],
 ) -> Reply
-    ensures { λ r. ⌜ r ≡ verdictReply (verdictOf (matrixFault (now (boxes .entry)) (now (rows .entry)) (now (arrows .entry)) (now (scratch .entry)) mode (now (bytes .entry)) (now (numbers .entry)))) ⌝ }
-    ensures { λ _. ⌜ now (scratch .exit) ≡ scratchAfter (matrixEarly (now (boxes .entry)) (now (rows .entry)) (now (arrows .entry)) (now (scratch .entry)) mode (now (bytes .entry)) (now (numbers .entry))) (now (boxes .entry)) (now (rows .entry)) (now (scratch .entry)) ⌝ }
-    ensures { λ _. ⌜ now (bytes .exit) ≡ bytesAfter (now (boxes .entry)) (now (rows .entry)) (now (arrows .entry)) (now (scratch .entry)) mode (now (bytes .entry)) (now (numbers .entry)) ⌝ }
-    ensures { λ _. ⌜ now (numbers .exit) ≡ numbersAfter (now (boxes .entry)) (now (rows .entry)) (now (arrows .entry)) (now (scratch .entry)) mode (now (bytes .entry)) (now (numbers .entry)) ⌝ }
+    ensures { λ r. ⌜ (let pic = picture (now (boxes .entry)) (now (rows .entry)) (now (arrows .entry)) in
+        r ≡ verdictReply (verdictOf (matrixFault pic (now (scratch .entry)) mode (now (bytes .entry)) (now (numbers .entry))))) ⌝ }
+    ensures { λ _. ⌜ (let pic = picture (now (boxes .entry)) (now (rows .entry)) (now (arrows .entry)) in
+        now (scratch .exit) ≡ scratchAfter (matrixEarly pic (now (scratch .entry)) mode (now (bytes .entry)) (now (numbers .entry)))
+        (now (boxes .entry)) (now (rows .entry)) (now (scratch .entry))) ⌝ }
+    ensures { λ _. ⌜ (let pic = picture (now (boxes .entry)) (now (rows .entry)) (now (arrows .entry)) in
+        now (bytes .exit) ≡ bytesAfter pic (now (scratch .entry)) mode (now (bytes .entry)) (now (numbers .entry))) ⌝ }
+    ensures { λ _. ⌜ (let pic = picture (now (boxes .entry)) (now (rows .entry)) (now (arrows .entry)) in
+        now (numbers .exit) ≡ numbersAfter pic (now (scratch .entry)) mode (now (bytes .entry)) (now (numbers .entry))) ⌝ }
 {
     of_verdict(answers::matrix(boxes, rows, arrows, scratch, mode, bytes, numbers))
 }
@@ -189,18 +201,17 @@ pub extern "C" fn rights_list(
     list: &mut [u16],
     work: &mut [u8],
 ) -> Reply
-    ensures { λ r. ⌜ r ≡ listReply (listAnswer (now (boxes .entry)) (now (rows .entry)) (now (arrows .entry)) mode
-        (listBefore (now (boxes .entry)) (now (rows .entry)) (now (arrows .entry)) mode
-        (now (scratch .entry)) (now (list .entry)) (now (work .entry)))) ⌝ }
-    ensures { λ _. ⌜ now (scratch .exit)
-        ≡ scratchAfter (listEarly (now (boxes .entry)) (now (rows .entry)) (now (arrows .entry)) mode
-        (now (scratch .entry)) (now (list .entry)) (now (work .entry))) (now (boxes .entry)) (now (rows .entry)) (now (scratch .entry)) ⌝ }
-    ensures { λ _. ⌜ now (list .exit) ≡ listAfter (now (boxes .entry)) (now (rows .entry)) (now (arrows .entry)) mode
-        (listBefore (now (boxes .entry)) (now (rows .entry)) (now (arrows .entry)) mode
-        (now (scratch .entry)) (now (list .entry)) (now (work .entry))) (now (list .entry)) ⌝ }
-    ensures { λ _. ⌜ now (work .exit) ≡ workAfter (now (boxes .entry)) (now (rows .entry)) (now (arrows .entry)) mode
-        (listBefore (now (boxes .entry)) (now (rows .entry)) (now (arrows .entry)) mode
-        (now (scratch .entry)) (now (list .entry)) (now (work .entry))) (now (work .entry)) ⌝ }
+    ensures { λ r. ⌜ (let pic = picture (now (boxes .entry)) (now (rows .entry)) (now (arrows .entry)) in
+        r ≡ listReply (listAnswer pic mode (listBefore pic mode (now (scratch .entry)) (now (list .entry)) (now (work .entry))))) ⌝ }
+    ensures { λ _. ⌜ (let pic = picture (now (boxes .entry)) (now (rows .entry)) (now (arrows .entry)) in
+        now (scratch .exit) ≡ scratchAfter (listEarly pic mode (now (scratch .entry)) (now (list .entry)) (now (work .entry)))
+        (now (boxes .entry)) (now (rows .entry)) (now (scratch .entry))) ⌝ }
+    ensures { λ _. ⌜ (let pic = picture (now (boxes .entry)) (now (rows .entry)) (now (arrows .entry)) in
+        now (list .exit) ≡ listAfter pic mode (listBefore pic mode (now (scratch .entry)) (now (list .entry)) (now (work .entry)))
+        (now (list .entry))) ⌝ }
+    ensures { λ _. ⌜ (let pic = picture (now (boxes .entry)) (now (rows .entry)) (now (arrows .entry)) in
+        now (work .exit) ≡ workAfter pic mode (listBefore pic mode (now (scratch .entry)) (now (list .entry)) (now (work .entry)))
+        (now (work .entry))) ⌝ }
 {
     of_list(lists::list(boxes, rows, arrows, scratch, mode, list, work))
 }
@@ -229,17 +240,19 @@ pub extern "C" fn rights_read(
     rows: &mut [u16],
     arrows: &mut [u16],
 ) -> Reply
-    ensures { λ r. ⌜ ((x : Reading) × (r ≡ readReply x) × ReadDone (now (file .entry)) (now (boxes .entry)) (now (rows .entry)) (now (arrows .entry)) (now (boxes .exit)) (now (rows .exit)) (now (arrows .exit)) x) ⌝ }
+    ensures { λ r. ⌜ ((x : Reading) × (r ≡ readReply x)
+        × ReadDone (now (file .entry)) (now (boxes .entry)) (now (rows .entry)) (now (arrows .entry)) (now (boxes .exit))
+        (now (rows .exit)) (now (arrows .exit)) x) ⌝ }
 {
     of_reading(blocks::read(file, boxes, rows, arrows))
 }
 
 #[no_mangle]
 pub extern "C" fn rights_pack(boxes: &[u8], rows: &[u16], arrows: &[u16], file: &mut [u8]) -> Reply
-    ensures { λ r. ⌜ r
-        ≡ packReply (packAnswer (now (boxes .entry)) (now (rows .entry)) (now (arrows .entry)) (now (file .entry))) ⌝ }
-    ensures { λ _. ⌜ now (file .exit)
-        ≡ fileAfter (now (boxes .entry)) (now (rows .entry)) (now (arrows .entry)) (now (file .entry)) ⌝ }
+    ensures { λ r. ⌜ (let pic = picture (now (boxes .entry)) (now (rows .entry)) (now (arrows .entry)) in
+        r ≡ packReply (packAnswer pic (now (file .entry)))) ⌝ }
+    ensures { λ _. ⌜ (let pic = picture (now (boxes .entry)) (now (rows .entry)) (now (arrows .entry)) in
+        now (file .exit) ≡ fileAfter pic (now (file .entry))) ⌝ }
 {
     of_packing(packer::pack(boxes, rows, arrows, file))
 }
@@ -249,5 +262,5 @@ pub extern "C" fn rights_pack(boxes: &[u8], rows: &[u16], arrows: &[u16], file: 
 pub extern "C" fn rights_version() -> u32
     ensures { λ r. ⌜ r ≡ version ⌝ }
 {
-    0x030100
+    0x040000
 }

@@ -3,6 +3,7 @@ use mathlib.Core.Path.{_≡_, refl, ap, fun-ext}
 use mathlib.Core.Bool.{Bool}
 use mathlib.Core.List.{List}
 use Prim.Native.Nat.{ℕ, _*_, _<_, _≤_}
+use native.Mathlib.Nat.{mul-le-mul, le-trans}
 use lib.Dec.{T}
 use lib.ListN.{length, getD}
 use Rattle.base.specs.Search.{select}
@@ -46,3 +47,7 @@ module _ (boxes rows : List ℕ) where
 pub atoms-by-outer : (boxes rows new : List ℕ) → ((b : ℕ) → outer rows b ≡ outer new b) → (s : ℕ) → atoms boxes rows s ≡ atoms boxes new s
 unfolding atoms atom
 atoms-by-outer boxes rows new same s = ap (λ (p : ℕ → Bool). select p (length boxes)) (fun-ext (λ b. rw (same b)))
+
+-- at most 256 boxes give so many pairs
+pub few-pairs : (boxes rows : List ℕ) → length boxes ≤ 256 → length (atoms boxes rows user) * length (atoms boxes rows file) ≤ 65536
+few-pairs boxes rows h = mul-le-mul (le-trans (atoms-most boxes rows user) h) (le-trans (atoms-most boxes rows file) h)

@@ -8,7 +8,7 @@ use native.Mathlib.Omega.{arith}
 use lib.Dec.{T, T-not, not-T, eqb, ltb, eqb→eq, ltb→lt}
 use lib.ListN.{length, getD}
 use Rattle.base.specs.Search.{select}
-use Rattle.tables.specs.Rows.{user, file, userGroup, folder, sideOf, isGroup, onSide}
+use Rattle.tables.specs.Rows.{picture, user, file, userGroup, folder, sideOf, isGroup, onSide}
 use Rattle.tables.specs.Atoms.{outer, atom, atoms}
 use Rattle.tables.specs.Faults.{byteFault, namesNoBox, acrossSides, wrongEnds, tableFault}
 use Rattle.base.proofs.Tests.{and-T, T-and, T?, T-true, not-false}
@@ -103,6 +103,6 @@ module _ (boxes others rows : List ℕ) (same : SameBoxes boxes others rows) whe
   atoms-by-bytes s = rw (same .lengths) (ap (λ (p : ℕ → Bool). select p (length others)) (fun-ext (same-atom s)))
 
   -- and, where check 3 passes both, the same faults by 1 to 7
-  pub faults-by-bytes : (arrows : List ℕ) → byteFault boxes ≡ byteFault others → tableFault boxes rows arrows ≡ tableFault others rows arrows
+  pub faults-by-bytes : (arrows : List ℕ) → byteFault boxes ≡ byteFault others → tableFault (picture boxes rows arrows) ≡ tableFault (picture others rows arrows)
   unfolding tableFault namesNoBox acrossSides wrongEnds
   faults-by-bytes arrows e = simp (same .lengths, e, same .sides-of, same-onSide)

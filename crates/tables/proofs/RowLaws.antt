@@ -10,10 +10,12 @@ use borrow.Author.Tests.{eq-eqb, ne-eqb}
 use lib.Dec.{eqb}
 use lib.ListN.{length, getD, set, drop, length-set}
 use lib.Seq.{drop-cons, drop-length, getD-set-same, getD-set-other}
-use Rattle.base.specs.Search.{bit}
+use Rattle.base.specs.Search.{bit, select}
+use Rattle.base.proofs.Bits.{bit-none}
+use Rattle.base.proofs.SelectLaws.{select-alike}
 use Rattle.tables.specs.Rows.{rowCount, rowAt}
-use Rattle.tables.specs.Atoms.{outer}
-use Rattle.tables.specs.Steps.{Marks}
+use Rattle.tables.specs.Atoms.{outer, atom, atoms}
+use Rattle.tables.specs.Steps.{Marks, unmarked}
 
 -- a table of whole rows ends after the last one
 pub rows-end : (rows : List ℕ) → length rows % 2 ≡ 0 → drop (2 * rowCount rows) rows ≡ []
@@ -56,3 +58,11 @@ module _ (rows : List ℕ) (k : ℕ) (pos : 0 < k) (h : k ≤ rowCount rows) whe
       go : Dec (o ≡ b) → getD (set marks o 1) b 0 ≡ bit (eqb o b || outer (drop (2 * k) rows) b)
       go (yes i) = rw (← i, eq-eqb o o refl) (getD-set-same marks o 1 0 l)
       go (no i) = rw (ne-eqb o b i) (getD-set-other marks o b 1 0 (λ j. i (sym j)) ∙ m b (rw length-set at lb))
+
+-- where the marks are those of the outer boxes, the unmarked boxes are the atomic ones
+pub unmarked-atoms : (boxes rows marks : List ℕ) (side : ℕ) → Marks (outer rows) marks → length boxes ≤ length marks
+    → select (unmarked boxes side marks) (length boxes) ≡ atoms boxes rows side
+unfolding unmarked atoms atom
+unmarked-atoms boxes rows marks side m h =
+    select-alike (unmarked boxes side marks) (atom boxes rows side) (length boxes)
+    (λ b l. rw (m b (omega arith), bit-none))

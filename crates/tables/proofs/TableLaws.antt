@@ -9,7 +9,7 @@ use borrow.Author.Tests.{le-ltb}
 use lib.Dec.{T, eqb, ltb, leb, not-T, eqb→eq, nltb→le, nleb→lt}
 use lib.ListN.{length, getD}
 use Rattle.base.specs.Search.{orElse, given}
-use Rattle.tables.specs.Rows.{user, file, sideOf, onSide, rowCount, rowAt, arrowCount, arrowAt}
+use Rattle.tables.specs.Rows.{picture, user, file, sideOf, onSide, rowCount, rowAt, arrowCount, arrowAt}
 use Rattle.tables.specs.Refusals.{ragged, tooMany, badByte, badRow, tooShort}
 use Rattle.tables.specs.Faults.{raggedFault, countFault, byteFault, namesNoBox, acrossSides, wrongEnds, wrongMode, rowFault, tableFault, roomFault, modeFault}
 use Rattle.tables.specs.Steps.{SoundRows, SoundArrows}
@@ -80,7 +80,7 @@ boxes-there boxes r e =
       nleb→lt (length boxes) (r .inner) (not-T i (λ t. none (T-or₂ o i t))),
     )
 
-module _ (boxes rows arrows : List ℕ) (e : tableFault boxes rows arrows ≡ none) where
+module _ (boxes rows arrows : List ℕ) (e : tableFault (picture boxes rows arrows) ≡ none) where
   Checks : Type 0
   Checks =
       (raggedFault (length rows) (length arrows) ≡ none)

@@ -5,7 +5,7 @@ use mathlib.Core.List.{List, [], _∷_, map}
 use mathlib.Core.Option.{Option, none, some}
 use Prim.Native.Nat.{ℕ}
 use Rattle.base.specs.Search.{orElse, given, first, select}
-use Rattle.tables.specs.Rows.{user, file, sideOf, isGroup, onSide}
+use Rattle.tables.specs.Rows.{picture, user, file, sideOf, isGroup, onSide}
 use Rattle.tables.specs.Atoms.{outer, atom, atoms}
 use Rattle.tables.specs.Refusals.{badByte, badRow}
 use Rattle.tables.specs.Faults.{raggedFault, countFault, byteFault, namesNoBox, acrossSides, wrongEnds, wrongMode}
@@ -66,7 +66,7 @@ faultTable =
     ∷ []
 
 unfoldable pub computeFaulty : Faulty → Faulty
-computeFaulty c = record { boxes = c .boxes; rows = c .rows; arrows = c .arrows; fault = tableFault (c .boxes) (c .rows) (c .arrows) }
+computeFaulty c = record { boxes = c .boxes; rows = c .rows; arrows = c .arrows; fault = tableFault (picture (c .boxes) (c .rows) (c .arrows)) }
 
 pub faults-right : map computeFaulty faultTable ≡ faultTable
 unfolding computeFaulty faultTable orElse given first sideOf onSide

@@ -6,7 +6,7 @@ use Prim.Native.Nat.{ℕ, _%_}
 use lib.Dec.{eqb, ltb, leb}
 use lib.ListN.{length, getD}
 use Rattle.base.specs.Search.{orElse, given, first}
-use Rattle.tables.specs.Rows.{user, file, sideOf, onSide, rowCount, rowAt, arrowCount, arrowAt}
+use Rattle.tables.specs.Rows.{Picture, user, file, sideOf, onSide, rowCount, rowAt, arrowCount, arrowAt}
 use Rattle.tables.specs.Refusals.{ragged, tooMany, badByte, badRow, noMode, tooShort}
 use Rattle.tables.specs.declared.Refusal.{Refusal}
 use Rattle.tables.specs.declared.Containment.{Containment}
@@ -50,15 +50,15 @@ unfoldable pub rowFault : ℕ → (ℕ → Bool) → ℕ → Option Refusal
 rowFault check bad count = first (λ k. given (bad k) (badRow check k)) count
 
 -- checks 1 to 7: a lower number wins, and within it the lower table, row or box
-unfoldable pub tableFault : List ℕ → List ℕ → List ℕ → Option Refusal
-tableFault boxes rows arrows =
-    orElse (raggedFault (length rows) (length arrows))
-    (orElse (countFault (length boxes) (rowCount rows) (arrowCount arrows))
-    (orElse (byteFault boxes)
-    (orElse (rowFault 4 (λ k. namesNoBox boxes (rowAt rows k)) (rowCount rows))
-    (orElse (rowFault 5 (λ k. acrossSides boxes (rowAt rows k)) (rowCount rows))
-    (orElse (rowFault 6 (λ k. wrongEnds boxes (arrowAt arrows k)) (arrowCount arrows))
-    (rowFault 7 (λ k. wrongMode (arrowAt arrows k)) (arrowCount arrows)))))))
+unfoldable pub tableFault : Picture → Option Refusal
+tableFault pic =
+    orElse (raggedFault (length (pic .rows)) (length (pic .arrows)))
+    (orElse (countFault (length (pic .boxes)) (rowCount (pic .rows)) (arrowCount (pic .arrows)))
+    (orElse (byteFault (pic .boxes))
+    (orElse (rowFault 4 (λ k. namesNoBox (pic .boxes) (rowAt (pic .rows) k)) (rowCount (pic .rows)))
+    (orElse (rowFault 5 (λ k. acrossSides (pic .boxes) (rowAt (pic .rows) k)) (rowCount (pic .rows)))
+    (orElse (rowFault 6 (λ k. wrongEnds (pic .boxes) (arrowAt (pic .arrows) k)) (arrowCount (pic .arrows)))
+    (rowFault 7 (λ k. wrongMode (arrowAt (pic .arrows) k)) (arrowCount (pic .arrows))))))))
 
 -- 8: the asked mode
 unfoldable pub modeFault : ℕ → Option Refusal

@@ -8,6 +8,15 @@ use lib.ListN.{length, getD}
 use Rattle.tables.specs.declared.Containment.{Containment}
 use Rattle.tables.specs.declared.Arrow.{Arrow}
 
+-- a picture is three lent tables
+pub record Picture : Type 0 where
+  pub boxes : List ℕ
+  pub rows : List ℕ
+  pub arrows : List ℕ
+
+abbrev pub picture : List ℕ → List ℕ → List ℕ → Picture
+picture boxes rows arrows = record { boxes = boxes; rows = rows; arrows = arrows }
+
 -- the two sides, which are bytes of boxes too
 abbrev pub user : ℕ
 user = 0

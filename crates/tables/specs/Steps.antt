@@ -1,12 +1,12 @@
 -- What the functions ask of and promise each other. Assumes nothing.
 use mathlib.Core.Path.{_≡_}
-use mathlib.Core.Bool.{Bool, cond}
+use mathlib.Core.Bool.{Bool, not, _&&_, cond}
 use mathlib.Core.List.{List}
 use Prim.Native.Nat.{ℕ, _%_, _<_, _≤_}
 use lib.Dec.{T, eqb, ltb}
 use lib.ListN.{length, getD}
 use Rattle.base.specs.Search.{bit}
-use Rattle.tables.specs.Rows.{user, file, sideOf, onSide, rowCount, rowAt, arrowCount, arrowAt}
+use Rattle.tables.specs.Rows.{user, file, sideOf, isGroup, onSide, rowCount, rowAt, arrowCount, arrowAt}
 use Rattle.tables.specs.Faults.{namesNoBox, acrossSides, wrongEnds, wrongMode}
 
 -- what holds of boxes and containments that pass checks 1 to 7 (`sound-rows`)
@@ -39,6 +39,10 @@ fails check boxes table k =
 
 abbrev pub rowsFor : ℕ → List ℕ → ℕ
 rowsFor check table = cond (ltb check 6) (rowCount table) (arrowCount table)
+
+-- b is a box of the side and no group, and its mark is 0
+unfoldable pub unmarked : List ℕ → ℕ → List ℕ → ℕ → Bool
+unmarked boxes side marks b = onSide boxes side b && not (isGroup (getD boxes b 0)) && eqb (getD marks b 0) 0
 
 -- byte b is 1 if f b, else 0: how outer boxes are marked while atomic ones are looked for
 abbrev pub Marks : (ℕ → Bool) → List ℕ → Type 0

@@ -16,7 +16,6 @@ ghost use Prim.Native.Nat.{_<_, _≤_};
 ghost use mathlib.Core.Path.{_≡_};
 ghost use lib.ListN.{length};
 ghost use Rattle.io.specs.Counts.{Counts};
-use answers::Entry;
 use answers::Reply;
 use blocks::Check;
 use blocks::Reading;
@@ -25,6 +24,7 @@ use headings::Headings;
 use libc::STDIN_FILENO;
 use libc::STDOUT_FILENO;
 use lists::Listed;
+use meaning::Entry;
 use packer::Packing;
 use tables::Refusal;
 use tables::Verdict;
@@ -372,6 +372,13 @@ fn ask() -> Question {
     }
 }
 
+// Checks 1 to 7, 9 for the scratch and 10.
+fn prepare(boxes: &[u8], rows: &[u16], arrows: &[u16], scratch: &mut [u8]) -> Verdict {
+    let mut closure = containment::no_closure();
+    let early = containment::early_picture(boxes, rows, arrows, scratch);
+    containment::prepare(early, boxes, rows, scratch, &mut closure)
+}
+
 // The call that a letter stands for, with the places that are lent.
 fn call(
     letter: u8,
@@ -391,7 +398,7 @@ fn call(
     let numbers = &mut numbers[..n];
     match letter {
         b'p' => {
-            show_verdict(containment::prepare(boxes, rows, arrows, scratch));
+            show_verdict(prepare(boxes, rows, arrows, scratch));
         }
         b'j' => {
             show_verdict(answers::judge(boxes, rows, arrows, scratch));

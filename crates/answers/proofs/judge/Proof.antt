@@ -1,32 +1,60 @@
--- `answers::judge` meets its contract: a refusal by `prepare` comes first, then the modes. Assumes nothing.
+-- `answers::judge` meets its contract: the stage that all calls share refuses, or leaves the modes a drawn picture. Assumes nothing.
 use mathlib.Core.Path.{_≡_, sym, _∙_}
 use borrow.Author.Needs.{needs}
-use Rattle.tables.specs.declared.Verdict.the-variants.{Passed}
+use Rattle.tables.specs.Rows.{Picture, picture}
 use Rattle.tables.specs.Refusals.{verdictOf}
-use Rattle.tables.proofs.Verdicts.{passed, refuses, passes}
-use Rattle.containment.specs.Scratch.{pictureFault}
-use Rattle.containment.proofs.PictureLaws.{picture-prepared, scratch-filled}
+use Rattle.tables.proofs.Verdicts.{refuses, passes}
+use Rattle.containment.specs.Scratch.{scratchAfter, earlyFault, pictureFault}
 use Rattle.answers.specs.Calls.{judgeFault}
+use Rattle.answers.proofs.CallLaws.{picture-early, ready-asks, ready-drawn}
 use Rattle.answers.proofs.judge.Statement.{statement}
 use Rattle.answers.proofs.judge.Tie as tie
 
+abbrev pic : tie.Start → Picture
+pic start = picture (start .args .boxes .now) (start .args .rows .now) (start .args .arrows .now)
+
+prepare-requires : tie.Need-prepare-requires
+prepare-requires c κs =
+    let start = c .before .before .before .before .before .before .before .before .before in
+    let s = start .args .scratch .now in (
+      ready-asks (pic start) s (earlyFault (pic start) s) (picture-early (pic start) s) (c .before .before .early-picture .result)
+          (c .before .before .early-picture .ensures),
+      c .before .before .before .before .no-closure .ensures,
+    )
+
+-- the verdict so far, and the scratch
+prepared : (c : tie.After-prepare) →
+    let start = c .before .before .before .before .before .before .before .before .before .before in
+    let s = start .args .scratch .now in
+    (c .prepare .result ≡ verdictOf (pictureFault (pic start) s))
+    × (c .prepare .last .1 .1 .1 .0 ≡ scratchAfter (earlyFault (pic start) s) (start .args .boxes .now) (start .args .rows .now) s)
+unfolding pictureFault
+prepared c =
+    let start = c .before .before .before .before .before .before .before .before .before .before in
+    c .prepare .ensures .0 (earlyFault (pic start) (start .args .scratch .now)) (c .before .before .before .early-picture .ensures)
+
 returns : tie.Need-returns
 unfolding judgeFault
-returns c = (refuses _ _ _ (sym (c .before .before .before .before .before .prepare .ensures .0) ∙ c .before .picture .given .1), c .before .before .before .before .before .prepare .ensures .1)
+returns c =
+    let p = prepared (c .before .before .before .before .before .before) in
+    (refuses _ _ _ (sym (p .0) ∙ c .before .ready .given .1), p .1)
 
-clean : (c : tie.After-enum-told) → let a = c .before .before .before .before .before .before .before .before .before .before .args in verdictOf (pictureFault (a .boxes .now) (a .rows .now) (a .arrows .now) (a .scratch .now)) ≡ Passed
-clean c = sym (c .before .before .before .before .prepare .ensures .0) ∙ c .enum-told .given .1
-
-check-modes-requires : tie.Need-check-modes-requires
-check-modes-requires c κs = let a = c .before .before .before .before .before .before .before .before .before .before .before .args in
-    let ready = picture-prepared (a .boxes .now) (a .rows .now) (a .arrows .now) (a .scratch .now) (passed _ (clean (c .before))) in
-    (ready .0 .rows-sound, ready .0 .arrows-sound, rw (c .before .before .before .before .before .prepare .ensures .1, scratch-filled (a .boxes .now) (a .rows .now) (a .scratch .now) (ready .1)) (ready .0 .says))
+judge-picture-requires : tie.Need-judge-picture-requires
+unfolding pictureFault
+judge-picture-requires c κs =
+    let at-prepare = c .before .before .before .before .before .before in
+    let start = at-prepare .before .before .before .before .before .before .before .before .before .before in
+    let s = start .args .scratch .now in
+    ready-drawn (pic start) s (earlyFault (pic start) s) (picture-early (pic start) s) (at-prepare .prepare .result) _
+    (prepared at-prepare .0) (at-prepare .prepare .ensures .1) (c .before .enum-told .given .1)
 
 returns-2 : tie.Need-returns-2
 unfolding judgeFault
-returns-2 c = (c .check-modes .ensures ∙ passes _ _ (clean (c .before .before)), c .before .before .before .before .before .before .prepare .ensures .1)
+returns-2 c =
+    let p = prepared (c .before .before .before .before .before .before .before) in
+    (c .judge-picture .ensures ∙ passes _ _ (sym (p .0) ∙ c .before .before .enum-told .given .1), p .1)
 
 pub judge-spec : {M : Type 1} → statement M
 judge-spec =
-    tie.close (tie.spec (λ c κs. search needs) (search needs) (search needs) returns (search needs) check-modes-requires (search needs)
-    returns-2)
+    tie.close (tie.spec (λ c κs. search needs) (λ c κs. search needs) (search needs) prepare-requires (search needs) (search needs) returns
+    (search needs) (search needs) judge-picture-requires (search needs) returns-2)

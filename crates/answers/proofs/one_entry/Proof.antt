@@ -1,97 +1,150 @@
--- `answers::one_entry` meets its contract: each stage refuses, or leaves the next one its facts. Assumes nothing.
-use mathlib.Core.Path.{_≡_, sym, ap, _∙_}
+-- `answers::one_entry` meets its contract: the stage that all calls share refuses, or leaves check 11 and the answer a drawn picture.
+-- Assumes nothing.
+use mathlib.Core.Path.{_≡_, refl, sym, ap, ap₂, _∙_}
 use borrow.Author.Needs.{needs}
+use Rattle.tables.specs.Rows.{Picture, picture}
+use Rattle.tables.specs.Refusals.{verdictOf}
+use Prim.Native.Nat.{ℕ, _<_}
+use native.Mathlib.Omega.{arith}
 use lib.ListN.{length}
 use Rattle.tables.specs.declared.Verdict.the-variants.{Passed}
-use Rattle.tables.specs.Faults.{tableFault, modeFault}
-use Rattle.tables.specs.Refusals.{verdictOf}
-use Rattle.tables.proofs.TableLaws.{both-none, sound-rows}
-use Rattle.tables.proofs.Verdicts.{passed, either-verdict}
-use Rattle.containment.specs.Scratch.{scratchFault}
-use Rattle.containment.specs.Contains.{loopFault}
-use Rattle.containment.proofs.PictureLaws.{Prepared, prepared}
-use Rattle.containment.proofs.ScratchLaws.{scratch-room}
+use Rattle.tables.proofs.Verdicts.{passed}
+use Rattle.containment.specs.Scratch.{scratchAfter}
+use Rattle.meaning.specs.Meaning.{answer}
+use Rattle.meaning.specs.declared.Entry.{Entry}
+use Rattle.user_rows.specs.Steps.{Drawn}
+use Rattle.answers.specs.Calls.{askedFault, entryEarly}
 use Rattle.answers.specs.declared.Reply.the-variants.{Answered}
-use Rattle.answers.specs.Calls.{askedFault}
-use Rattle.answers.proofs.ReadyLaws.{sound-within}
-use Rattle.answers.proofs.CallLaws.{early, late, asked-there, entry-tables, entry-early, entry-late, entry-answered}
+use Rattle.user_rows.proofs.CallerLaws.{small-arrows}
+use Rattle.answers.proofs.CallLaws.{entry-early, ready-asks, ready-drawn, asked-there}
+use Rattle.answers.proofs.CallLaws.{entryReady, entry-stopped, entry-not-asked, entry-answered}
 use Rattle.answers.proofs.one_entry.Statement.{statement}
 use Rattle.answers.proofs.one_entry.Tie as tie
 
--- what each stage found
-tabled : (c : tie.After-enum-told) → let a = c .before .before .before .before .before .before .before .args in verdictOf (tableFault (a .boxes .now) (a .rows .now) (a .arrows .now)) ≡ Passed
-tabled c = sym (c .before .before .check .ensures) ∙ c .enum-told .given .1
+-- ---- what is asked, and the points: early checks made, scratch filled, nothing refused, check 11 passed
 
-early-is : (c : tie.After-or-else) → let a = c .before .before .before .before .before .before .before .before .before .before .before .args in verdictOf (early (a .boxes .now) (a .rows .now) (a .arrows .now) (a .scratch .now) (a .mode) (a .u) (a .f)) ≡ c .or-else .result
-early-is c = let a = c .before .before .before .before .before .before .before .before .before .before .before .args in
-    sym (rw (c .or-else .ensures, c .before .before .before .check-mode .ensures, c .before .check-scratch .ensures) (either-verdict (modeFault (a .mode)) (scratchFault (length (a .boxes .now)) (a .scratch .now))))
+abbrev pic : tie.Start → Picture
+pic start = picture (start .args .boxes .now) (start .args .rows .now) (start .args .arrows .now)
 
-early-passed : (c : tie.After-enum-told2) → let a = c .before .before .before .before .before .before .before .before .before .before .before .before .before .args in verdictOf (early (a .boxes .now) (a .rows .now) (a .arrows .now) (a .scratch .now) (a .mode) (a .u) (a .f)) ≡ Passed
-early-passed c = early-is (c .before .before) ∙ c .enum-told2 .given .1
+abbrev said : tie.Start → Entry
+said start = answer (pic start) (start .args .mode) (start .args .u) (start .args .f)
 
-ready : (c : tie.After-enum-told2) → let a = c .before .before .before .before .before .before .before .before .before .before .before .before .before .args in Prepared (a .boxes .now) (a .rows .now) (a .arrows .now) (a .scratch .now)
-ready c = let a = c .before .before .before .before .before .before .before .before .before .before .before .before .before .args in
-    prepared (a .boxes .now) (a .rows .now) (a .arrows .now) (a .scratch .now) (passed _ (tabled (c .before .before .before .before .before .before)))
-    (both-none (modeFault (a .mode)) (scratchFault (length (a .boxes .now)) (a .scratch .now)) (passed _ (early-passed c)) .1)
+abbrev start : tie.After-prepare → tie.Start
+start c = c .before .before .before .before .before .before .before .before .before .before
 
-late-is : (c : tie.After-or-else2) → let a = c .before .before .before .before .before .before .before .before .before .before .before .before .before .before .before .before .before .before .before .args in verdictOf (late (a .boxes .now) (a .rows .now) (a .arrows .now) (a .scratch .now) (a .mode) (a .u) (a .f)) ≡ c .or-else2 .result
-late-is c = let a = c .before .before .before .before .before .before .before .before .before .before .before .before .before .before .before .before .before .before .before .args in
-    sym (rw (c .or-else2 .ensures, c .before .before .before .before .contain .ensures .0, c .before .check-asked .ensures) (either-verdict (loopFault (a .boxes .now) (a .rows .now)) (askedFault (a .boxes .now) (a .rows .now) (a .u) (a .f))))
+abbrev ready : tie.After-enum-told → tie.After-prepare
+ready c = c .before .before .before .before .before
+
+abbrev clear : tie.After-check-asked → tie.After-enum-told
+clear c = c .before .before .before
+
+-- ---- the stage that all calls share
+
+prepare-requires : tie.Need-prepare-requires
+prepare-requires c κs =
+    let begin = c .before .before .before .before .before .before .before .before .before in
+    let s = begin .args .scratch .now in
+    let m = begin .args .mode in (
+      ready-asks (pic begin) s (entryEarly (pic begin) s m) (entry-early (pic begin) s m) (c .before .before .early-entry .result)
+          (c .before .before .early-entry .ensures),
+      c .before .before .before .before .no-closure .ensures,
+    )
+
+-- the verdict so far, and the scratch
+prepared : (c : tie.After-prepare) →
+    let begin = start c in
+    let a = begin .args in
+    (c .prepare .result ≡ verdictOf (entryReady (pic begin) (a .scratch .now) (a .mode) (a .u) (a .f) (said begin)))
+    × (c .prepare .last .1 .1 .1 .0
+    ≡ scratchAfter (entryEarly (pic begin) (a .scratch .now) (a .mode)) (a .boxes .now) (a .rows .now) (a .scratch .now))
+prepared c =
+    let a = start c .args in
+    c .prepare .ensures .0 (entryEarly (pic (start c)) (a .scratch .now) (a .mode)) (c .before .before .before .early-entry .ensures)
 
 returns : tie.Need-returns
-returns c = let a = c .before .before .before .before .before .before .before .before .args in entry-tables (a .boxes .now) (a .rows .now) (a .arrows .now) (a .scratch .now) (a .mode) (a .u) (a .f) _ (sym (c .before .before .before .check .ensures) ∙ c .before .tables .given .1)
+returns c =
+    let at-prepare = c .before .before .before .before .before .before in
+    let begin = start at-prepare in
+    let a = begin .args in
+    let p = prepared at-prepare in (
+      entry-stopped (pic begin) (a .scratch .now) (a .mode) (a .u) (a .f) (said begin) _ (sym (p .0) ∙ c .before .ready .given .1),
+      p .1,
+    )
 
-check-scratch-requires : tie.Need-check-scratch-requires
-check-scratch-requires c κs = let a = c .before .before .before .before .before .before .before .before .before .args in sound-rows (a .boxes .now) (a .rows .now) (a .arrows .now) (passed _ (tabled (c .before .before))) .few-boxes
+drawn : (c : tie.After-enum-told) → Drawn (pic (start (ready c))) (ready c .prepare .last .1 .1 .1 .1 .0)
+drawn c =
+    let prepare = ready c .prepare in
+    let begin = start (ready c) in
+    let s = begin .args .scratch .now in
+    let m = begin .args .mode in
+    ready-drawn (pic begin) s (entryEarly (pic begin) s m) (entry-early (pic begin) s m) (prepare .result) _ (prepared (ready c) .0)
+    (prepare .ensures .1) (c .enum-told .given .1)
+
+-- ---- check 11
+
+asked : (c : tie.After-check-asked) →
+    let a = start (ready (clear c)) .args in
+    c .check-asked .result ≡ verdictOf (askedFault (a .boxes .now) (a .rows .now) (a .u) (a .f))
+asked c =
+    let a = start (ready (clear c)) .args in
+    c .check-asked .ensures
+    ∙ ap₂ (λ (u f : ℕ). verdictOf (askedFault (a .boxes .now) (a .rows .now) u f)) (c .before .before .wide .ensures) (c .before .wide2 .ensures)
 
 returns-2 : tie.Need-returns-2
-returns-2 c = let a = c .before .before .before .before .before .before .before .before .before .before .before .before .before .before .args in entry-early (a .boxes .now) (a .rows .now) (a .arrows .now) (a .scratch .now) (a .mode) (a .u) (a .f) _ (tabled (c .before .before .before .before .before .before .before)) (early-is (c .before .before .before) ∙ c .before .early .given .1)
+returns-2 c =
+    let told = clear (c .before .before .before) in
+    let begin = start (ready told) in
+    let a = begin .args in
+    let p = prepared (ready told) in (
+      entry-not-asked (pic begin) (a .scratch .now) (a .mode) (a .u) (a .f) (said begin) (sym (p .0) ∙ told .enum-told .given .1) _
+          (sym (asked (c .before .before .before)) ∙ c .before .asked .given .1),
+      p .1,
+    )
 
-contain-requires : tie.Need-contain-requires
-contain-requires c κs = let a = c .before .before .before .before .before .before .before .before .before .before .before .before .before .before .args in (
-  ready (c .before) .rows-sound,
-  scratch-room (length (a .boxes .now)) (a .scratch .now) (both-none (modeFault (a .mode)) (scratchFault (length (a .boxes .now)) (a .scratch .now)) (passed _ (early-passed (c .before))) .1),
-)
+-- it passed, and both boxes are there
+module _ (c : tie.After-enum-told2) where
+  abbrev begin : tie.Start
+  begin = start (ready (clear (c .before .before)))
 
-check-asked-requires : tie.Need-check-asked-requires
-check-asked-requires c κs = ready (c .before .before .before .before) .rows-sound .whole
+  asked-passed : verdictOf (askedFault (begin .args .boxes .now) (begin .args .rows .now) (begin .args .u) (begin .args .f)) ≡ Passed
+  asked-passed = sym (asked (c .before .before)) ∙ c .enum-told2 .given .1
 
-returns-3 : tie.Need-returns-3
-returns-3 c =
-    let at-or-else2 = c .before .before .before in
-    let at-contain = at-or-else2 .before .before .before .before in
-    let at-enum-told2 = at-contain .before .before in
-    let at-enum-told = at-enum-told2 .before .before .before .before .before .before in
-    let start = at-enum-told .before .before .before .before .before .before .before in
-    let a = start .args in
-    let z = entry-late (a .boxes .now) (a .rows .now) (a .arrows .now) (a .scratch .now) (a .mode) (a .u) (a .f) (tabled at-enum-told) (early-passed at-enum-told2) _ (late-is at-or-else2 ∙ c .before .late .given .1) in
-    (z .0, at-contain .contain .ensures .1 ∙ z .1)
+  there : (begin .args .u < length (begin .args .boxes .now)) × (begin .args .f < length (begin .args .boxes .now))
+  there = asked-there (begin .args .boxes .now) (begin .args .rows .now) (begin .args .u) (begin .args .f) (passed _ asked-passed)
 
-late-passed : (c : tie.After-enum-told3) → let a = c .before .before .before .before .before .before .before .before .before .before .before .before .before .before .before .before .before .before .before .before .before .args in verdictOf (late (a .boxes .now) (a .rows .now) (a .arrows .now) (a .scratch .now) (a .mode) (a .u) (a .f)) ≡ Passed
-late-passed c = late-is (c .before .before) ∙ c .enum-told3 .given .1
+-- ---- the answer
 
 answer-pair-requires : tie.Need-answer-pair-requires
 answer-pair-requires c κs =
-    let at-contain = c .before .before .before .before .before .before .before in
-    let at-enum-told2 = at-contain .before .before in
-    let start = at-enum-told2 .before .before .before .before .before .before .before .before .before .before .before .before .before in
-    let a = start .args in
-    let r = ready at-enum-told2 in
-    let there = asked-there (a .boxes .now) (a .rows .now) (a .u) (a .f) (both-none (loopFault (a .boxes .now) (a .rows .now)) (askedFault (a .boxes .now) (a .rows .now) (a .u) (a .f)) (passed _ (late-passed (c .before))) .1) in
-    (rw (at-contain .contain .ensures .1) (r .says), sound-within (a .boxes .now) (a .arrows .now) (r .arrows-sound), r .arrows-sound .few-arrows, there .0, there .1)
+    let told = c .before .before .before in
+    let d = drawn (clear (told .before .before)) in
+    let a = begin told .args in
+    let few = d .rows-sound .few-boxes in
+    let in-boxes = there told in (
+      d .closed .len,
+      small-arrows (a .boxes .now) (a .arrows .now) (d .arrows-sound) few,
+      omega (arith, few, in-boxes .0, c .before .wide3 .ensures),
+      omega (arith, few, in-boxes .1, c .wide4 .ensures),
+    )
 
-returns-4 : tie.Need-returns-4
-returns-4 c =
-    let at-contain = c .before .before .before .before .before .before .before .before in
-    let at-enum-told2 = at-contain .before .before in
-    let at-enum-told = at-enum-told2 .before .before .before .before .before .before in
-    let start = at-enum-told .before .before .before .before .before .before .before in
-    let a = start .args in
-    let z = entry-answered (a .boxes .now) (a .rows .now) (a .arrows .now) (a .scratch .now) (a .mode) (a .u) (a .f) (tabled at-enum-told) (early-passed at-enum-told2) (late-passed (c .before .before)) in
-    (ap Answered (c .answer-pair .ensures) ∙ z .0, at-contain .contain .ensures .1 ∙ z .1)
+returns-3 : tie.Need-returns-3
+returns-3 c =
+    let told = c .before .before .before .before in
+    let passed-early = clear (told .before .before) in
+    let a = begin told .args in
+    let p = prepared (ready passed-early) in
+    let eu = c .before .before .wide3 .ensures in
+    let ef = c .before .wide4 .ensures in
+    let is = c .answer-pair .ensures (pic (begin told)) (drawn passed-early) refl (rw eu (there told .0)) (rw ef (there told .1)) in (
+      ap Answered (is ∙ rw (eu, ef))
+          ∙ entry-answered (pic (begin told)) (a .scratch .now) (a .mode) (a .u) (a .f) (said (begin told))
+          (sym (p .0) ∙ passed-early .enum-told .given .1) (asked-passed told),
+      p .1,
+    )
 
 pub one-entry-spec : {M : Type 1} → statement M
 one-entry-spec =
-    tie.close (tie.spec (λ c κs. search needs) (search needs) returns (search needs) (λ c κs. search needs) check-scratch-requires
-    (λ c κs. search needs) (search needs) (search needs) returns-2 (search needs) contain-requires check-asked-requires
-    (λ c κs. search needs) (search needs) (search needs) returns-3 (search needs) answer-pair-requires (search needs) returns-4)
+    tie.close (tie.spec (λ c κs. search needs) (λ c κs. search needs) (search needs) prepare-requires (search needs) (search needs) returns
+    (search needs) (λ c κs. search needs) (λ c κs. search needs) (λ c κs. drawn (c .before .before) .rows-sound .whole) (search needs)
+    (search needs) returns-2 (search needs) (search needs) (λ c κs. search needs) (λ c κs. search needs) answer-pair-requires (search needs)
+    returns-3)

@@ -4,7 +4,7 @@ use mathlib.Core.List.{[]}
 use mathlib.Core.Path.{_≡_, sym, _∙_}
 use native.Mathlib.Omega.{arith}
 use borrow.Author.Needs.{needs}
-use Rattle.tables.specs.Rows.{user, file}
+use Rattle.tables.specs.Rows.{picture, user, file}
 use Rattle.tables.specs.Faults.{tableFault}
 use Rattle.tables.specs.Refusals.{verdictOf}
 use Rattle.tables.specs.Steps.{SoundRows}
@@ -19,7 +19,7 @@ use Rattle.headings.proofs.atomic_boxes.Statement.{statement}
 use Rattle.headings.proofs.atomic_boxes.Tie as tie
 
 -- what each stage found
-tabled : (c : tie.After-enum-told) → let a = c .before .before .before .before .before .before .before .before .args in verdictOf (tableFault (a .boxes .now) (a .rows .now) []) ≡ Passed
+tabled : (c : tie.After-enum-told) → let a = c .before .before .before .before .before .before .before .before .args in verdictOf (tableFault (picture (a .boxes .now) (a .rows .now) [])) ≡ Passed
 tabled c = sym (c .before .before .check .ensures) ∙ c .enum-told .given .1
 
 sound : (c : tie.After-enum-told) → let a = c .before .before .before .before .before .before .before .before .args in SoundRows (a .boxes .now) (a .rows .now)

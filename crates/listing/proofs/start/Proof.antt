@@ -1,9 +1,7 @@
--- `listing::start` meets its contract: no line is before the first. Assumes nothing.
-use mathlib.Core.Path.{refl, sym}
-use native.Mathlib.Omega.{arith}
+-- `listing::start` meets its contract: no pair is before the first row. Assumes nothing.
 use Rattle.base.proofs.PartLaws.{part-is}
 use Rattle.listing.specs.Numbered.{usedModes}
-use Rattle.listing.proofs.LineLaws.{seen-none}
+use Rattle.listing.proofs.StandLaws.{stands-first}
 use borrow.Author.Needs.{needs}
 use Rattle.listing.proofs.start.Statement.{statement}
 use Rattle.listing.proofs.start.Tie as tie
@@ -11,16 +9,7 @@ use Rattle.listing.proofs.start.Tie as tie
 returns : tie.Need-returns
 returns c =
     let modes = c .before .used-modes in
-    let arrows = c .before .before .before .before .args .arrows .now in (
-      refl,
-      λ boxes rows. record {
-        modes-are = part-is (usedModes arrows) _ _ _ (modes .ensures);
-        used-are = modes .ensures .0;
-        seen-are = sym (seen-none boxes rows arrows);
-        within = omega arith;
-      },
-    )
+    λ pic e. stands-first pic _ _ (part-is (usedModes (pic .arrows)) _ _ _ (rw e at (modes .ensures))) (rw e at (modes .ensures .0))
 
 pub start-spec : {M : Type 1} → statement M
-start-spec =
-    tie.close (tie.spec (λ c. search needs) (λ c κs. search needs) returns)
+start-spec = tie.close (tie.spec (λ c. search needs) (λ c κs. search needs) returns)

@@ -55,9 +55,10 @@ returns c =
     let at-head = at-records .before .before .before .before in
     let at-count = at-head .before .before in
     let at-number = at-count .before in
-    let at-block = at-number .before .before .before in (
+    let at-block = at-number .before .before .before in
+    let asked = at-block .before .before .before .before .before .pre in (
       at-records .put-records .ensures .0,
-      block-made _ _ _ _ _ _ _ (at-block .before .before .before .before .before .pre) _ _ _ _ _ _ _ (at-block .block-byte .ensures) (at-number .narrow .ensures) (at-count .narrow2 .ensures)
+      block-made _ asked (at-block .block-byte .ensures) (at-number .narrow .ensures) (at-count .narrow2 .ensures)
           (at-head .put-head .ensures) (at-records .put-records .ensures .1) (at-zeros .put-zeros .ensures) (at-check .put-check .ensures),
     )
 

@@ -7,35 +7,45 @@ use Rattle.packer.proofs.put_records.Tie as tie
 put-boxes-requires : tie.Need-put-boxes-requires
 put-boxes-requires c κs =
     let at-block = c .before .before .before in
-    boxes-run _ _ _ _ _ _ _ (at-block .before .before .before .before .before .pre) _ (at-block .block-byte .ensures) (c .before .if1 .taken)
+    let asked = at-block .before .before .before .before .before .pre in
+    boxes-run asked (at-block .block-byte .ensures) (c .before .if1 .taken)
 
 returns : tie.Need-returns
 returns c =
-    let at-block = c .before .before .before .before .before .before in
-    boxes-done _ _ _ _ _ _ _ (at-block .before .before .before .before .before .pre) _ (at-block .block-byte .ensures) (c .before .before .before .before .if1 .taken)
-    _ _ _ (c .before .before .put-boxes .ensures .0) (c .before .before .put-boxes .ensures .1)
+    let at-put = c .before .before in
+    let at-block = at-put .before .before .before .before in
+    let asked = at-block .before .before .before .before .before .pre in
+    boxes-done asked (at-block .block-byte .ensures) (at-put .before .before .if1 .taken) _ (at-put .put-boxes .ensures .0) (at-put .put-boxes .ensures .1)
 
 put-containments-requires : tie.Need-put-containments-requires
 put-containments-requires c κs =
     let at-block = c .before .before .before .before .before in
-    containments-run _ _ _ _ _ _ _ (at-block .before .before .before .before .before .pre) _ (at-block .block-byte .ensures) (c .before .if2 .taken)
+    let asked = at-block .before .before .before .before .before .pre in
+    containments-run asked (at-block .block-byte .ensures) (c .before .if2 .taken)
 
 returns-2 : tie.Need-returns-2
 returns-2 c =
-    let at-block = c .before .before .before .before .before .before .before .before in
-    containments-done _ _ _ _ _ _ _ (at-block .before .before .before .before .before .pre) _ (at-block .block-byte .ensures) (c .before .before .before .before .if2 .taken)
-    _ _ _ (c .before .before .put-containments .ensures .0) (c .before .before .put-containments .ensures .1)
+    let at-put = c .before .before in
+    let at-block = at-put .before .before .before .before .before .before in
+    let asked = at-block .before .before .before .before .before .pre in
+    containments-done asked (at-block .block-byte .ensures) (at-put .before .before .if2 .taken)
+    _ (at-put .put-containments .ensures .0) (at-put .put-containments .ensures .1)
 
 put-arrows-requires : tie.Need-put-arrows-requires
 put-arrows-requires c κs =
-    let at-block = c .before .before .before .before .before in
-    arrows-run _ _ _ _ _ _ _ (at-block .before .before .before .before .before .pre) _ (at-block .block-byte .ensures) (c .before .before .before .if1 .left) (c .before .if2 .left)
+    let at-second = c .before in
+    let at-block = at-second .before .before .before .before in
+    let asked = at-block .before .before .before .before .before .pre in
+    arrows-run asked (at-block .block-byte .ensures) (at-second .before .before .if1 .left) (at-second .if2 .left)
 
 returns-3 : tie.Need-returns-3
 returns-3 c =
-    let at-block = c .before .before .before .before .before .before .before .before in
-    arrows-done _ _ _ _ _ _ _ (at-block .before .before .before .before .before .pre) _ (at-block .block-byte .ensures) (c .before .before .before .before .before .before .if1 .left) (c .before .before .before .before .if2 .left)
-    _ _ _ (c .before .before .put-arrows .ensures .0) (c .before .before .put-arrows .ensures .1)
+    let at-put = c .before .before in
+    let at-second = at-put .before .before in
+    let at-block = at-second .before .before .before .before in
+    let asked = at-block .before .before .before .before .before .pre in
+    arrows-done asked (at-block .block-byte .ensures) (at-second .before .before .if1 .left) (at-second .if2 .left)
+    _ (at-put .put-arrows .ensures .0) (at-put .put-arrows .ensures .1)
 
 pub put-records-spec : {M : Type 1} → statement M
 put-records-spec =

@@ -1,44 +1,55 @@
--- `rights::list_picture` meets its contract: the table that is made is the picture's. Assumes nothing.
-use Rattle.answers.proofs.TableLaws.{users-within, files-within, users-length, files-length, made}
+-- `rights::list_picture` meets its contract: the atomic boxes are the picture's. Assumes nothing.
+use mathlib.Core.Path.{refl}
+use Rattle.tables.specs.Rows.{user, file}
+use Rattle.listing.proofs.FileLaws.{counts-are}
+use Rattle.rights.proofs.Ready.{atoms-there, atoms-length, atoms-part, ready}
 use borrow.Author.Needs.{needs}
 use Rattle.rights.proofs.list_picture.Statement.{statement}
 use Rattle.rights.proofs.list_picture.Tie as tie
 
+module _ (files-at : tie.After-atoms-of2) where
+  abbrev users-at : tie.After-atoms-of
+  users-at = files-at .before .before .before
+
+  abbrev rooms : tie.After-no-boxes2
+  rooms = users-at .before .before
+
+  abbrev start : tie.Start
+  start = rooms .before .before .before .before .before .before .before
+
 array-share-prefix-u : tie.Need-array-share-prefix-u
 array-share-prefix-u c =
-    let made-at = c .before .before .before in
-    let room = made-at .before .before .before .before in
-    let start = room .before .before .before .before .before .before .before .before in
-    users-within (start .pre .1 .0 .0) (made-at .tabulate .ensures) (room .before .before .no-boxes .ensures)
+    let at = c .before in
+    atoms-there user (start at .pre .1 .rows-sound) (rooms at .before .no-boxes .ensures) (users-at at .atoms-of .ensures)
 
 slice-aggregate-send-lines : tie.Need-slice-aggregate-send-lines
 slice-aggregate-send-lines c =
-    let made-at = c .before .before .before .before in
-    let start = made-at .before .before .before .before .before .before .before .before .before .before .before .before in
-    users-length (start .pre .1 .0 .0) (made-at .tabulate .ensures)
+    let at = c .before .before in
+    atoms-length user (start at .pre .1 .rows-sound) (rooms at .before .no-boxes .ensures) (users-at at .atoms-of .ensures)
 
 array-share-prefix-f : tie.Need-array-share-prefix-f
 array-share-prefix-f c =
-    let made-at = c .before .before .before .before in
-    let room = made-at .before .before .before .before in
-    let start = room .before .before .before .before .before .before .before .before in
-    files-within (start .pre .1 .0 .0) (made-at .tabulate .ensures) (room .before .no-boxes2 .ensures)
+    let at = c .before .before in
+    atoms-there file (start at .pre .1 .rows-sound) (rooms at .no-boxes2 .ensures) (at .atoms-of2 .ensures)
 
 slice-aggregate-send-lines-2 : tie.Need-slice-aggregate-send-lines-2
 slice-aggregate-send-lines-2 c =
-    let made-at = c .before .before .before .before .before in
-    let start = made-at .before .before .before .before .before .before .before .before .before .before .before .before in
-    files-length (start .pre .1 .0 .0) (made-at .tabulate .ensures)
+    let at = c .before .before .before in
+    atoms-length file (start at .pre .1 .rows-sound) (rooms at .no-boxes2 .ensures) (at .atoms-of2 .ensures)
 
 send-lines-requires : tie.Need-send-lines-requires
 send-lines-requires c κs =
-    let made-at = c .before .before .before .before .before .before in
-    let room = made-at .before .before .before .before in
-    let start = room .before .before .before .before .before .before .before .before in
-    (start .pre .0, made (start .pre .1 .0 .0) (made-at .tabulate .ensures) (start .pre .1 .0 .1) (room .no-words .ensures))
+    let at = c .before .before .before in
+    let a = start at .args in
+    let good = start at .pre .0 in
+    let drawn = start at .pre .1 in
+    let users = atoms-part user (drawn .rows-sound) (rooms at .before .no-boxes .ensures) (users-at at .atoms-of .ensures) in
+    let files = atoms-part file (drawn .rows-sound) (rooms at .no-boxes2 .ensures) (at .atoms-of2 .ensures) in
+    let counts = counts-are (a .boxes .now) (a .rows .now) (a .arrows .now) in
+    (record { picture-is = refl; right = good .right }, (ready good drawn users files, rw (← good .picture-is) counts))
 
 pub list-picture-spec : {M : Type 1} → statement M
 list-picture-spec =
-    tie.close (tie.spec (λ c κs. search needs) (λ c κs. search needs) (λ c κs. search needs) (λ c. search needs)
-    (λ c. search needs) (λ c. search needs) (λ c κs. search needs) array-share-prefix-u slice-aggregate-send-lines
-    array-share-prefix-f slice-aggregate-send-lines-2 (λ c. search needs) send-lines-requires (λ c. search needs))
+    tie.close (tie.spec (λ c κs. search needs) (λ c κs. search needs) (λ c. search needs) (λ c κs. search needs) (λ c. search needs)
+    (λ c κs. search needs) array-share-prefix-u slice-aggregate-send-lines array-share-prefix-f slice-aggregate-send-lines-2
+    send-lines-requires (λ c. search needs))

@@ -1,30 +1,58 @@
--- `rights::list_tables` meets its contract: a picture that is not refused is sound, and the scratch holds its containments. Assumes
--- nothing.
-use Rattle.rights.proofs.Ready.{ready}
+-- `rights::list_tables` meets its contract: a picture that is not refused is without faults, and its closure is made. Assumes nothing.
+use mathlib.Core.Path.{_≡_}
+use Rattle.tables.specs.Rows.{picture}
+use Rattle.tables.specs.Refusals.{verdictOf}
+use Rattle.containment.specs.Scratch.{earlyFault, pictureFault}
 use Rattle.listing.proofs.FileLaws.{picture-refused, picture-good}
+use Rattle.rights.proofs.Ready.{early-passed, stages-are, drawn}
 use borrow.Author.Needs.{needs}
 use Rattle.rights.proofs.list_tables.Statement.{statement}
 use Rattle.rights.proofs.list_tables.Tie as tie
 
+module _ (early : tie.After-early-picture) where
+  abbrev scratch : tie.After-large-buffer
+  scratch = early .before .before .before
+
+  abbrev start : tie.Start
+  start = scratch .before .before .before .before .before
+
+prepare-requires : tie.Need-prepare-requires
+prepare-requires c κs =
+    let early = c .before .before in
+    let a = start early .args in (
+      early-passed (a .boxes .now) (a .rows .now) (a .arrows .now) (scratch early .large-buffer .result) (early .early-picture .ensures),
+      early .before .before .no-closure .ensures,
+    )
+
+-- the verdict is by all checks
+told : (c : tie.After-prepare) → let early = c .before .before .before in let a = start early .args in
+    c .prepare .result
+    ≡ verdictOf (pictureFault (picture (a .boxes .now) (a .rows .now) (a .arrows .now)) (scratch early .large-buffer .result))
+told c =
+    let early = c .before .before .before in
+    let a = start early .args in
+    let s = scratch early .large-buffer .result in
+    stages-are (a .boxes .now) (a .rows .now) (a .arrows .now) s (early .early-picture .ensures)
+    (c .prepare .ensures .0 (earlyFault (picture (a .boxes .now) (a .rows .now) (a .arrows .now)) s) (early .early-picture .ensures) .0)
+
 send-stopped-requires : tie.Need-send-stopped-requires
 send-stopped-requires c κs =
-    let prepared = c .before .before .before .before in
-    let start = prepared .before .before .before .before .before .before .before in
-    let room = prepared .before .before .large-buffer .ensures in
-    picture-refused _ (start .pre) room _ (prepared .prepare .ensures .0) (c .before .v .given .1)
+    let prepared = c .before .before .before .before .before in
+    let early = prepared .before .before .before in
+    picture-refused _ (start early .pre) (scratch early .large-buffer .ensures) _ (told prepared) (c .before .v .given .1)
 
 list-picture-requires : tie.Need-list-picture-requires
 list-picture-requires c κs =
-    let prepared = c .before .before .before .before in
-    let start = prepared .before .before .before .before .before .before .before in
-    let a = start .args in
-    let pass = c .before .enum-told .given .1 in
-    let told = prepared .prepare .ensures in
-    let sound = ready (a .boxes .now) (a .rows .now) (a .arrows .now) _ (told .0) pass (told .1) in
-    let good = picture-good _ (start .pre) (prepared .before .before .large-buffer .ensures) (told .0) pass in
-    (good, ((sound .0, sound .1), sound .2))
+    let prepared = c .before .before .before .before .before in
+    let early = prepared .before .before .before in
+    let a = start early .args in
+    let pass = c .before .enum-told .given .1 in (
+      picture-good _ (start early .pre) (scratch early .large-buffer .ensures) (told prepared) pass,
+      drawn (a .boxes .now) (a .rows .now) (a .arrows .now) _ (told prepared) pass (prepared .prepare .ensures .1 pass),
+    )
 
 pub list-tables-spec : {M : Type 1} → statement M
 list-tables-spec =
-    tie.close (tie.spec (λ c κs. search needs) (λ c. search needs) (λ c κs. search needs) (λ c. search needs)
-    send-stopped-requires (λ c. search needs) (λ c. search needs) (λ c. search needs) list-picture-requires (λ c. search needs))
+    tie.close (tie.spec (λ c κs. search needs) (λ c κs. search needs) (λ c. search needs) (λ c κs. search needs) (λ c. search needs)
+    (λ c. search needs) prepare-requires (λ c. search needs) send-stopped-requires (λ c. search needs) (λ c. search needs)
+    (λ c. search needs) list-picture-requires (λ c. search needs))

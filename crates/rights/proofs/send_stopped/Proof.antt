@@ -8,7 +8,7 @@ send-requires : tie.Need-send-requires
 send-requires c κs =
     let stopped = c .before .before .stopped in
     let start = c .before .before .before .before .before .before in
-    stopped-line (start .args .file .now) (start .args .r) (start .pre) _ _ (stopped .result) (stopped .ensures .0) (stopped .ensures .1 .1)
+    stopped-line (start .args .file .now) (start .args .r) (start .pre) (stopped .ensures)
 
 returns : tie.Need-returns
 returns c =

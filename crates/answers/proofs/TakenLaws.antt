@@ -1,0 +1,47 @@
+-- The arrows of a mode as `user_rows::take_mode` leaves them, and the part of the numbers that a caller lends on. Assumes nothing.
+use mathlib.Core.Path.{_≡_, ap, _∙_}
+use mathlib.Core.List.{List}
+use Prim.Native.Nat.{ℕ, _≤_}
+use native.Mathlib.Omega.{arith}
+use lib.ListN.{length, take}
+use Rattle.base.specs.Buffers.{written, zeros}
+use Rattle.base.proofs.BufferLaws.{zeros-length}
+use Rattle.base.proofs.PartLaws.{Wrote, part-is, part-length, part-within}
+use Rattle.tables.specs.Rows.{Picture}
+use Rattle.user_rows.specs.Row.{ownArrows}
+use Rattle.user_rows.specs.Steps.{Small, Sized, ModeSets, Moded}
+use Rattle.user_rows.proofs.CallerLaws.{own-numbers}
+use Rattle.user_rows.proofs.OwnLaws.{own-most}
+
+-- a buffer of zeros has its places
+pub room : (n : ℕ) {l : List ℕ} → l ≡ zeros n → n ≤ length l
+room n e = omega (arith, ap length e, zeros-length n)
+
+-- the first `count` places of `own` are lent on, with the sets
+pub record Taken (arrows : List ℕ) (m count : ℕ) (own heads : List ℕ) : Type 0 where
+  pub sets : ModeSets arrows m heads
+  pub within : count ≤ length own
+  pub len : count ≡ length (take count own)
+  pub sized : (closure : List ℕ) → length closure ≡ 2048 → Sized closure heads arrows (take count own)
+  pub moded : (pic : Picture) → arrows ≡ pic .arrows → Moded pic m heads arrows (take count own)
+
+module _ (arrows : List ℕ) (m : ℕ) (small : Small arrows) where
+  -- by what `take_mode` promises
+  pub taken : (old : List ℕ) (count : ℕ) (own heads : List ℕ) → old ≡ zeros 512
+      → (count ≡ length (ownArrows arrows m)) × ((own ≡ written (ownArrows arrows m) old) × ModeSets arrows m heads)
+      → Taken arrows m count own heads
+  taken old count own heads e p =
+      let w : Wrote (ownArrows arrows m) old count own = (p .0, p .1 .0) in
+      let are = part-is (ownArrows arrows m) old count own w in
+      record {
+        sets = p .1 .1;
+        within = part-within (ownArrows arrows m) old count own w (omega (arith, own-most arrows m, small .few, room 512 e));
+        len = part-length (ownArrows arrows m) old count own w;
+        sized = λ closure l. record {
+          closure-len = l;
+          heads-len = p .1 .1 .len;
+          small = small;
+          numbers = rw are (own-numbers arrows m);
+        };
+        moded = λ pic i. record { arrows-are = i; sets = rw i at (p .1 .1); own-are = are ∙ rw i };
+      }

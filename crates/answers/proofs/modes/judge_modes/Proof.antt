@@ -1,0 +1,57 @@
+-- `answers::modes::judge_modes` meets its contract: no mode before m has an unclear pair. Assumes nothing.
+use mathlib.Core.Option.{none}
+use mathlib.Core.Path.{_≡_, sym, ap, _∙_}
+use Prim.Native.Nat.{ℕ, _-_, _≤_}
+use native.Mathlib.Omega.{arith}
+use borrow.Author.Needs.{needs}
+use Rattle.base.specs.Search.{first}
+use Rattle.base.proofs.SearchLaws.{first-zero, first-more, first-here}
+use Rattle.tables.specs.Rows.{Picture, user, file}
+use Rattle.tables.specs.Atoms.{atom, atoms}
+use Rattle.tables.specs.Refusals.{verdictOf}
+use Rattle.tables.proofs.Verdicts.{passed, refused}
+use Rattle.boxsets.specs.Sets.{isIn}
+use Rattle.meaning.specs.Pairs.{unclearFault, anyUnclear}
+use Rattle.user_rows.specs.Steps.{Drawn}
+use Rattle.answers.proofs.modes.judge_modes.Statement.{statement}
+use Rattle.answers.proofs.modes.judge_modes.Tie as tie
+
+abbrev Inv-loop : tie.InvT-loop
+Inv-loop closure arrows users files m₀ m =
+    (m ≤ 8)
+    × ((pic : Picture) → Drawn pic closure → arrows ≡ pic .arrows → users ≡ atoms (pic .boxes) (pic .rows) user
+    → ((f : ℕ) → isIn files f ≡ atom (pic .boxes) (pic .rows) file f) → first (unclearFault pic) m ≡ none)
+
+abbrev μ-loop : tie.MeasureT-loop
+μ-loop closure arrows users files m₀ m = 8 - m
+
+loop-holds : tie.Need-loop-holds Inv-loop μ-loop
+loop-holds c = (search needs, λ pic d o us fs. first-zero (unclearFault pic))
+
+returns : tie.Need-returns Inv-loop μ-loop
+unfolding anyUnclear
+returns c pic d o us fs =
+    let l = c .before .before .before .before .before .loop in
+    sym (ap verdictOf
+    (first-here (unclearFault pic) 8 (l .m) _ (l .inv .1 pic d o us fs)
+    (refused _ _ (sym (c .before .before .before .judge-mode .ensures pic d o us fs) ∙ c .before .v .given .1))
+    (omega (arith, c .before .before .before .before .loop-test .taken))))
+
+loop-again : tie.Need-loop-again Inv-loop μ-loop
+loop-again c =
+    let l = c .before .before .before .before .loop in (
+      search needs,
+      λ pic d o us fs. first-more (unclearFault pic) (l .m) (l .inv .1 pic d o us fs)
+          (passed _ (sym (c .before .before .judge-mode .ensures pic d o us fs) ∙ c .enum-told .given .1)),
+    )
+
+returns-2 : tie.Need-returns-2 Inv-loop μ-loop
+unfolding anyUnclear
+returns-2 c pic d o us fs =
+    let e : c .before .loop .m ≡ 8 = omega arith in
+    sym (ap verdictOf (rw e at (c .before .loop .inv .1 pic d o us fs)))
+
+pub judge-modes-spec : {M : Type 1} → statement M
+judge-modes-spec =
+    tie.close (tie.spec Inv-loop μ-loop loop-holds (λ c κs. search needs) (search needs) returns (search needs) (search needs)
+    (search needs) loop-again returns-2)

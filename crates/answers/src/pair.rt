@@ -1,0 +1,61 @@
+// One pair.
+ghost use mathlib.Core.Path.{_≡_};
+ghost use mathlib.Core.Bool.{_&&_};
+ghost use Prim.Native.Nat.{_%_, _<_};
+ghost use lib.ListN.{length};
+ghost use Rattle.tables.specs.Rows.{Picture, user, file};
+ghost use Rattle.tables.specs.Atoms.{atom};
+ghost use Rattle.tables.specs.Refusals.{verdictOf};
+ghost use Rattle.meaning.specs.Meaning.{answer};
+ghost use Rattle.user_rows.specs.Steps.{Small, Drawn};
+ghost use Rattle.answers.specs.Calls.{askedFault};
+use base::wide;
+use boxsets::single;
+use meaning::Entry;
+use tables::BoxRow;
+use tables::Verdict;
+use tables::is_atom;
+use user_rows::answer_row;
+use user_rows::entry_of;
+use user_rows::no_heads;
+use user_rows::no_numbers;
+use user_rows::no_row;
+use user_rows::take_mode;
+
+// Whether u is an atomic user and f an atomic file.
+fn is_pair(boxes: &[u8], rows: &[u16], u: usize, f: usize) -> bool
+    requires { ⌜ length (now rows) % 2 ≡ 0 ⌝ }
+    ensures { λ r. ⌜ r ≡ (atom (now (boxes .entry)) (now (rows .entry)) user u && atom (now (boxes .entry)) (now (rows .entry)) file f) ⌝ }
+{
+    is_atom(boxes, rows, BoxRow::USER, u) && is_atom(boxes, rows, BoxRow::FILE, f)
+}
+
+// Check 11.
+pub fn check_asked(boxes: &[u8], rows: &[u16], u: usize, f: usize) -> Verdict
+    requires { ⌜ length (now rows) % 2 ≡ 0 ⌝ }
+    ensures { λ r. ⌜ r ≡ verdictOf (askedFault (now (boxes .entry)) (now (rows .entry)) u f) ⌝ }
+{
+    Verdict::refused_if(!is_pair(boxes, rows, u, f), 11, u, f, 0)
+}
+
+// The answer for a pair of one mode: a row with one file.
+pub fn answer_pair(closure: &[u64], arrows: &[u16], mode: u16, u: usize, f: usize) -> Entry
+    requires { ⌜ (length (now closure) ≡ 2048) × Small (now arrows) × (u < 256) × (f < 256) ⌝ }
+    ensures { λ r. ⌜ ((pic : Picture) → Drawn pic (now (closure .entry)) → now (arrows .entry) ≡ pic .arrows
+        → u < length (pic .boxes) → f < length (pic .boxes) → r ≡ answer pic mode u f) ⌝ }
+{
+    let mut own = no_numbers();
+    let mut heads = no_heads();
+    let count = take_mode(arrows, mode, &mut own, &mut heads);
+    let mut found = no_row();
+    let row = answer_row(
+        closure,
+        &heads,
+        arrows,
+        &own[..count],
+        u,
+        single(f),
+        &mut found,
+    );
+    entry_of(closure, arrows, mode, row, u, f, found[f])
+}

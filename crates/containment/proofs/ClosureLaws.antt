@@ -1,0 +1,67 @@
+-- The closure of the rows, as the layers above read it, and how it is filled. Assumes nothing.
+use mathlib.Core.Path.{_≡_, sym, ap, _∙_}
+use mathlib.Core.Logic.{inl, inr}
+use mathlib.Core.Bool.{Bool}
+use mathlib.Core.List.{List}
+use Prim.Native.Nat.{ℕ, _+_, _<_, _≤_}
+use native.Mathlib.Omega.{arith}
+use lib.ListN.{length}
+use Rattle.base.specs.Search.{given}
+use Rattle.base.proofs.SearchLaws.{first-same}
+use Rattle.tables.specs.Refusals.{inItself}
+use Rattle.tables.specs.declared.Refusal.{Refusal}
+use Rattle.tables.specs.Steps.{SoundRows}
+use Rattle.boxsets.specs.Sets.{isIn, setAt, has}
+use Rattle.boxsets.proofs.TableLaws.{has-in}
+use Rattle.containment.specs.Contains.{direct, contains, around, loopFault}
+use Rattle.containment.specs.Steps.{RowsBelow, Both, Closure, Turns, rounds, selves, ownFault}
+use Rattle.containment.proofs.ContainsLaws.{around-test}
+use Rattle.containment.proofs.Rounds.{rounds-all}
+use Rattle.containment.proofs.ClosingLaws.{both-same}
+use Rattle.containment.proofs.SelvesLaws.{selves-all}
+use Rattle.containment.proofs.MarkLaws.{row-below}
+
+-- ---- its sets
+
+-- set a: what a is or contains
+pub within-in : (n : ℕ) (rows t : List ℕ) → Closure n rows t → (a b : ℕ) → a < n → isIn (setAt t a) b ≡ around rows a b
+within-in n rows t s a b l = sym (has-in t a b) ∙ s .down a b l
+
+-- set 256 + b: what is b or contains it
+pub above-in : (n : ℕ) (rows t : List ℕ) → Closure n rows t → (a b : ℕ) → b < n → isIn (setAt t (256 + b)) a ≡ around rows a b
+above-in n rows t s a b l = sym (has-in t (256 + b) a) ∙ s .up a b l
+
+-- ---- how it is filled
+
+pub both-fewer : (m n : ℕ) (f : ℕ → ℕ → Bool) (t : List ℕ) → n ≤ m → Both m f t → Both n f t
+both-fewer m n f t h s = record { len = s .len; down = λ a b l. s .down a b (omega arith); up = λ a b l. s .up a b (omega arith) }
+
+pub sound-below : (boxes rows : List ℕ) (n : ℕ) → length boxes ≤ n → SoundRows boxes rows → RowsBelow n rows
+sound-below boxes rows n h s = record {
+  whole = s .whole;
+  outer-below = λ k l. omega (arith, s .outer-there k l);
+  inner-below = λ k l. omega (arith, s .inner-there k l);
+}
+
+-- marked, and closed by n rounds
+pub closed-both : (n : ℕ) (rows t u : List ℕ) → RowsBelow n rows → Both 256 (direct rows) t → Turns (λ f. rounds f n) t u → Both 256 (contains rows) u
+closed-both n rows t u below s h =
+    both-same 256 (rounds (direct rows) n) (contains rows) u (rounds-all rows n (λ x y r. row-below n r (below .inner-below)))
+    (h .says (direct rows) s)
+
+-- check 10 sees which boxes contain themselves
+pub own-loops : (boxes rows t : List ℕ) → length boxes ≤ 256 → Both 256 (contains rows) t → ownFault (length boxes) t ≡ loopFault boxes rows
+unfolding ownFault loopFault
+own-loops boxes rows t h s =
+    first-same (λ b. given (has t b b) (inItself b)) (λ b. given (contains rows b b) (inItself b)) (length boxes)
+    (λ b l. ap (λ (z : Bool). given {A = Refusal} z (inItself b)) (s .down b b (omega arith)))
+
+-- each box added to its own sets
+pub closure-is : (n : ℕ) (rows t u : List ℕ) → n ≤ 256 → Both 256 (contains rows) t → Turns (λ f. selves f n) t u → Closure n rows u
+closure-is n rows t u h s g =
+    let w = g .says (contains rows) s in
+    record {
+      len = w .len;
+      down = λ a b l. w .down a b (omega arith) ∙ selves-all (contains rows) n a b (inl l) ∙ sym (around-test rows a b);
+      up = λ a b l. w .up a b (omega arith) ∙ selves-all (contains rows) n a b (inr l) ∙ sym (around-test rows a b);
+    }

@@ -1,0 +1,78 @@
+-- `containment::scratch::mark_direct` meets its contract: 2 stands at the rows from k on. Assumes nothing.
+use mathlib.Core.Path.{_≡_, refl, ap, _∙_}
+use Prim.Native.Nat.{_+_, _*_, _-_, _<_, _≤_}
+use native.Mathlib.Omega.{arith}
+use borrow.Author.Needs.{needs}
+use lib.ListN.{length}
+use Rattle.base.proofs.Index.{in-table}
+use Rattle.tables.specs.declared.Containment.{Containment}
+use Rattle.tables.specs.Rows.{rowCount, rowAt}
+use Rattle.tables.proofs.RowLaws.{rows-end}
+use Rattle.containment.specs.Contains.{direct}
+use Rattle.containment.specs.Steps.{over}
+use Rattle.containment.proofs.MarkLaws.{Marked, mark-turn}
+use Rattle.containment.proofs.scratch.mark_direct.Statement.{statement}
+use Rattle.containment.proofs.scratch.mark_direct.Tie as tie
+
+abbrev Inv-loop : tie.InvT-loop
+Inv-loop rows n scratch₀ k₀ scratch k = (k ≤ rowCount rows) × Marked n 2 rows k scratch₀ scratch
+
+abbrev μ-loop : tie.MeasureT-loop
+μ-loop rows n scratch₀ k₀ scratch k = k
+
+loop-holds : tie.Need-loop-holds Inv-loop μ-loop
+unfolding direct over
+loop-holds c =
+    let start = c .before .before in
+    (search needs, (λ g z. rw (rows-end (start .args .rows .now) (start .pre .0 .whole)) z, record { len = refl; rest = λ p l. refl }))
+
+-- the row's boxes are below n, and so their byte is there
+module _ (c : tie.After-wide2 Inv-loop μ-loop) where
+  abbrev at : tie.At-loop Inv-loop μ-loop
+  at = c .before .before .before .before
+
+  abbrev start : tie.Start Inv-loop μ-loop
+  start = at .before .before .before
+
+  o-is : c .before .wide .result ≡ rowAt (start .args .rows .now) (at .loop .k - 1) .outer
+  o-is = c .before .wide .ensures ∙ ap (λ (r : Containment). r .outer) (c .before .before .at .ensures)
+
+  i-is : c .wide2 .result ≡ rowAt (start .args .rows .now) (at .loop .k - 1) .inner
+  i-is = c .wide2 .ensures ∙ ap (λ (r : Containment). r .inner) (c .before .before .at .ensures)
+
+  o-below : c .before .wide .result < start .args .n
+  o-below = omega (arith, o-is, start .pre .0 .outer-below (at .loop .k - 1) (omega arith))
+
+  i-below : c .wide2 .result < start .args .n
+  i-below = omega (arith, i-is, start .pre .0 .inner-below (at .loop .k - 1) (omega arith))
+
+  byte : c .before .wide .result * start .args .n + c .wide2 .result < length (at .loop .scratch)
+  byte = omega (arith, in-table (start .args .n) (start .args .n) (c .before .wide .result) (c .wide2 .result) o-below i-below)
+
+mul-scratch : tie.Need-mul-scratch Inv-loop μ-loop
+mul-scratch c = omega (arith, byte c)
+
+add-scratch : tie.Need-add-scratch Inv-loop μ-loop
+add-scratch c = omega (arith, byte c)
+
+slice-write-scratch : tie.Need-slice-write-scratch Inv-loop μ-loop
+slice-write-scratch c = omega (arith, byte c)
+
+loop-again : tie.Need-loop-again Inv-loop μ-loop
+loop-again c =
+    let a = start c .args in (
+      search needs,
+      mark-turn (a .n) 2 (at c .loop .k) (a .rows .now) (a .scratch .now) (at c .loop .scratch) (omega arith) (omega arith) (omega arith)
+          (c .before .wide .result) (c .wide2 .result) (o-is c) (i-is c) (o-below c) (i-below c) (at c .loop .inv .1),
+    )
+
+returns : tie.Need-returns Inv-loop μ-loop
+returns c =
+    let at = c .before in
+    let e : at .loop .k ≡ 0 = omega arith in
+    rw e at (at .loop .inv .1)
+
+pub mark-direct-spec : {M : Type 1} → statement M
+mark-direct-spec =
+    tie.close (tie.spec Inv-loop μ-loop loop-holds (search needs) (λ c κs. search needs) (λ c κs. search needs) (λ c κs. search needs)
+    mul-scratch add-scratch slice-write-scratch (search needs) loop-again (search needs) returns)

@@ -1,0 +1,9 @@
+-- Laws for the proofs of this crate and of the crates above it.
+pub mod AnswerLaws
+pub mod PairLaws
+pub mod ClearLaws
+pub mod EmptiedLaws
+pub mod GrantLaws
+pub mod ModeLaws
+pub mod SamePictures
+pub mod RowPairs

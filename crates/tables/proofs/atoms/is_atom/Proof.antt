@@ -1,0 +1,16 @@
+-- `tables::is_atom` meets its contract: by the byte and the rows. Assumes nothing.
+use borrow.Author.Needs.{needs}
+use Rattle.tables.specs.Atoms.{atom}
+use Rattle.tables.proofs.atoms.is_atom.Statement.{statement}
+use Rattle.tables.proofs.atoms.is_atom.Tie as tie
+
+returns : tie.Need-returns
+unfolding atom
+returns c = rw (c .is-outer .ensures, ← c .before .before .is-single .ensures, c .before .if1 .taken)
+
+returns-2 : tie.Need-returns-2
+unfolding atom
+returns-2 c = rw (← c .before .is-single .ensures, c .if1 .left)
+
+pub is-atom-spec : {M : Type 1} → statement M
+is-atom-spec = tie.close (tie.spec (search needs) (search needs) returns returns-2)

@@ -1,0 +1,14 @@
+-- `tables::check_ragged` meets its contract: two faults, the lower table first. Assumes nothing.
+use borrow.Author.Needs.{needs}
+use Rattle.tables.specs.Faults.{raggedFault}
+use Rattle.tables.proofs.Verdicts.{either-verdict}
+use Rattle.tables.proofs.checks.check_ragged.Statement.{statement}
+use Rattle.tables.proofs.checks.check_ragged.Tie as tie
+
+returns : tie.Need-returns
+unfolding raggedFault
+returns c = rw (c .or-else .ensures, c .before .refused-if2 .ensures, c .before .before .refused-if .ensures)
+    (simp either-verdict)
+
+pub check-ragged-spec : {M : Type 1} → statement M
+check-ragged-spec = tie.close (tie.spec (search needs) (search needs) (search needs) returns)

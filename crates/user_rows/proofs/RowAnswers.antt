@@ -1,0 +1,163 @@
+-- The answer of a pair by its lowest certificate and by which signs reach it. Assumes nothing.
+use mathlib.Core.Path.{_≡_, refl, sym, ap, _∙_}
+use mathlib.Core.Logic.{_⊎_, ⊎-elim}
+use mathlib.Core.Bool.{Bool, true, false, cond}
+use mathlib.Core.Option.{Option, none, some}
+use Prim.Native.Nat.{ℕ, _<_}
+use lib.Dec.{T, eqb}
+use Rattle.base.specs.Search.{lowest}
+use Rattle.base.proofs.Tests.{T?, T-true, not-false}
+use Rattle.base.proofs.SearchLaws.{lowest-some, lowest-none}
+use Rattle.base.proofs.SelectLaws.{lowest-is, lowest-nothing}
+use Rattle.base.proofs.AnyLaws.{any-found, any-is}
+use Rattle.tables.specs.Rows.{Picture, arrowCount, arrowAt}
+use Rattle.meaning.specs.Meaning.{positive, negative, settle, hits, certifies, answer, isGranted, isUnclear, numberOf}
+use Rattle.meaning.specs.declared.Entry.the-variants.{Granted, Denied, Default}
+use Rattle.meaning.proofs.AnswerLaws.{certifies-hits, certifies-is, hit-sign, one-sign}
+use Rattle.user_rows.specs.Row.{shows, saidBy, reachedBy}
+use Rattle.user_rows.proofs.ShowLaws.{shows-parts, shows-grants, shows-denies, shows-hits, certifies-sign}
+
+-- what an arrow says
+said-number : (s k : ℕ) → numberOf (saidBy s k) ≡ k
+unfolding saidBy numberOf
+said-number s k = go (eqb s positive)
+  where
+    go : (b : Bool) → numberOf (cond b (Granted k) (Denied k)) ≡ k
+    go true = refl
+    go false = refl
+
+said-granted : (s k : ℕ) → isGranted (saidBy s k) ≡ eqb s positive
+unfolding saidBy isGranted
+said-granted s k = go (eqb s positive)
+  where
+    go : (b : Bool) → isGranted (cond b (Granted k) (Denied k)) ≡ b
+    go true = refl
+    go false = refl
+
+said-clear : (s k : ℕ) → isUnclear (saidBy s k) ≡ false
+unfolding saidBy isUnclear
+said-clear s k = go (eqb s positive)
+  where
+    go : (b : Bool) → isUnclear (cond b (Granted k) (Denied k)) ≡ false
+    go true = refl
+    go false = refl
+
+module _ (pic : Picture) (m u f : ℕ) where
+  abbrev count : ℕ
+  count = arrowCount (pic .arrows)
+
+  -- ---- by the lowest certificate
+
+  pub shown-said : (k : ℕ) → lowest (shows pic m u f) count ≡ some k → answer pic m u f ≡ saidBy (arrowAt (pic .arrows) k .sign) k
+  unfolding answer settle saidBy
+  shown-said k e =
+      let g = lowest-some (shows pic m u f) count k e in
+      ⊎-elim
+      (λ p.
+      let first = lowest-is (certifies pic m positive negative u f) count k (g .0) p (λ j l t. g .2 j l (shows-grants pic m u f j t)) in
+      rw (first, certifies-sign pic m u f positive negative k p))
+      (λ n.
+      let no-other = lowest-nothing (certifies pic m positive negative u f) count (λ j l t. one-sign pic m u f j k l (g .0) t n) in
+      let first = lowest-is (certifies pic m negative positive u f) count k (g .0) n (λ j l t. g .2 j l (shows-denies pic m u f j t)) in
+      rw (no-other, first, certifies-sign pic m u f negative positive k n))
+      (shows-parts pic m u f k (g .1))
+
+  -- ---- which signs reach the pair
+
+  pub reached-hit : (s k : ℕ) → k < count → T (hits pic m s u f k) → T (reachedBy pic m s u f)
+  unfolding reachedBy
+  reached-hit s k l t = any-is (hits pic m s u f) count k l t
+
+  reached-found : (s : ℕ) → T (reachedBy pic m s u f) → (k : ℕ) × (k < count) × T (hits pic m s u f k)
+  unfolding reachedBy
+  reached-found s t = any-found (hits pic m s u f) count t
+
+  -- a pair that one sign only reaches has a certificate
+  other-sign : lowest (shows pic m u f) count ≡ none → (s o : ℕ) → ((k : ℕ) → T (certifies pic m s o u f k) → T (shows pic m u f k))
+      → T (reachedBy pic m s u f) → T (reachedBy pic m o u f)
+  other-sign e s o to r = go (T? (reachedBy pic m o u f))
+    where
+      go : Dec (T (reachedBy pic m o u f)) → T (reachedBy pic m o u f)
+      go (yes t) = t
+      go (no n) =
+          let h = reached-found s r in
+          absurd
+          (lowest-none (shows pic m u f) count e (h .0) (h .1)
+          (to (h .0) (certifies-is pic m u f s o (h .0) (h .2) (λ j l t. absurd (n (reached-hit o j l t))))))
+
+  -- ---- a pair without a certificate: no arrow reaches it, or both signs do
+
+  none-certifies : lowest (shows pic m u f) count ≡ none
+      → (lowest (certifies pic m positive negative u f) count ≡ none) × (lowest (certifies pic m negative positive u f) count ≡ none)
+  none-certifies e = (
+    lowest-nothing (certifies pic m positive negative u f) count (λ j l t. lowest-none (shows pic m u f) count e j l (shows-grants pic m u f j t)),
+    lowest-nothing (certifies pic m negative positive u f) count (λ j l t. lowest-none (shows pic m u f) count e j l (shows-denies pic m u f j t)),
+  )
+
+  hits-some : (s : ℕ) → T (reachedBy pic m s u f) → (k : ℕ) × (lowest (hits pic m s u f) count ≡ some k)
+  hits-some s t = go (lowest (hits pic m s u f) count) refl
+    where
+      go : (r : Option ℕ) → lowest (hits pic m s u f) count ≡ r → (k : ℕ) × (lowest (hits pic m s u f) count ≡ some k)
+      go (some k) e = (k, e)
+      go none e = let h = reached-found s t in absurd (lowest-none (hits pic m s u f) count e (h .0) (h .1) (h .2))
+
+  pub reached-unclear : lowest (shows pic m u f) count ≡ none → T (reachedBy pic m positive u f) ⊎ T (reachedBy pic m negative u f)
+      → (isUnclear (answer pic m u f) ≡ true) × (isGranted (answer pic m u f) ≡ false) × (numberOf (answer pic m u f) ≡ 65535)
+  unfolding answer settle isUnclear isGranted numberOf
+  reached-unclear e r =
+      let both : T (reachedBy pic m positive u f) × T (reachedBy pic m negative u f)
+      = ⊎-elim
+      (λ p. (p, other-sign e positive negative (shows-grants pic m u f) p))
+      (λ n. (other-sign e negative positive (shows-denies pic m u f) n, n)) r in
+      let c = none-certifies e in
+      let i = hits-some positive (both .0) in
+      let j = hits-some negative (both .1) in
+      rw (c .0, c .1, i .1, j .1) (refl, refl, refl)
+
+  none-hits : (s : ℕ) → (T (reachedBy pic m s u f) → ⊥) → (k : ℕ) → k < count → T (hits pic m s u f k) → ⊥
+  none-hits s n k l t = n (reached-hit s k l t)
+
+  pub unreached : (T (reachedBy pic m positive u f) → ⊥) → (T (reachedBy pic m negative u f) → ⊥) → answer pic m u f ≡ Default
+  unfolding answer settle
+  unreached p n =
+      rw (
+        lowest-nothing (certifies pic m positive negative u f) count (λ k l t. none-hits positive p k l (certifies-hits pic m u f positive negative k t)),
+        lowest-nothing (certifies pic m negative positive u f) count (λ k l t. none-hits negative n k l (certifies-hits pic m u f negative positive k t)),
+        lowest-nothing (hits pic m positive u f) count (none-hits positive p),
+      )
+
+  -- a pair that not both signs reach is granted exactly if the positive one does, and it is clear
+  pub one-sided : (T (reachedBy pic m positive u f) → T (reachedBy pic m negative u f) → ⊥)
+      → (isGranted (answer pic m u f) ≡ reachedBy pic m positive u f) × (isUnclear (answer pic m u f) ≡ false)
+  unfolding isGranted isUnclear
+  one-sided not-both = go (lowest (shows pic m u f) count) refl
+    where
+      says : (k : ℕ) → lowest (shows pic m u f) count ≡ some k → T (hits pic m positive u f k) ⊎ T (hits pic m negative u f k)
+          → eqb (arrowAt (pic .arrows) k .sign) positive ≡ reachedBy pic m positive u f
+      says k e h =
+          let l = lowest-some (shows pic m u f) count k e .0 in
+          ⊎-elim
+          (λ p. rw (hit-sign pic m u f positive k p) (sym (T-true (reachedBy pic m positive u f) (reached-hit positive k l p))))
+          (λ n. rw (hit-sign pic m u f negative k n) (sym (not-false (reachedBy pic m positive u f) (λ t. not-both t (reached-hit negative k l n)))))
+          h
+
+      go : (r : Option ℕ) → lowest (shows pic m u f) count ≡ r
+          → (isGranted (answer pic m u f) ≡ reachedBy pic m positive u f) × (isUnclear (answer pic m u f) ≡ false)
+      go (some k) e = (
+        ap isGranted (shown-said k e) ∙ said-granted (arrowAt (pic .arrows) k .sign) k
+            ∙ says k e (shows-hits pic m u f k (lowest-some (shows pic m u f) count k e .1)),
+        ap isUnclear (shown-said k e) ∙ said-clear (arrowAt (pic .arrows) k .sign) k,
+      )
+      go none e =
+          let no-positive : T (reachedBy pic m positive u f) → ⊥ = λ t. not-both t (other-sign e positive negative (shows-grants pic m u f) t) in
+          let no-negative : T (reachedBy pic m negative u f) → ⊥ = λ t. not-both (other-sign e negative positive (shows-denies pic m u f) t) t in
+          let d = unreached no-positive no-negative in
+          (ap isGranted d ∙ sym (not-false (reachedBy pic m positive u f) no-positive), ap isUnclear d)
+
+  -- a pair with a certificate
+  pub shown-row : (k : ℕ) → lowest (shows pic m u f) count ≡ some k
+      → (isGranted (answer pic m u f) ≡ eqb (arrowAt (pic .arrows) k .sign) positive)
+      × (isUnclear (answer pic m u f) ≡ false) × (numberOf (answer pic m u f) ≡ k)
+  shown-row k e =
+      let s = arrowAt (pic .arrows) k .sign in
+      (ap isGranted (shown-said k e) ∙ said-granted s k, ap isUnclear (shown-said k e) ∙ said-clear s k, ap numberOf (shown-said k e) ∙ said-number s k)

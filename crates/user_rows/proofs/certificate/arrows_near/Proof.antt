@@ -1,0 +1,32 @@
+-- `user_rows::certificate::arrows_near` meets its contract. Assumes nothing.
+use mathlib.Core.Path.{ap₂, _∙_}
+use mathlib.Core.Bool.{_&&_}
+use borrow.Author.Needs.{needs}
+use Rattle.boxsets.specs.Sets.{isIn, has}
+use Rattle.boxsets.specs.declared.Set.{Set}
+use Rattle.user_rows.proofs.NearLaws.{near-made}
+use Rattle.user_rows.proofs.certificate.arrows_near.Statement.{statement}
+use Rattle.user_rows.proofs.certificate.arrows_near.Tie as tie
+
+returns : tie.Need-returns
+unfolding has
+returns c =
+    let o = c .before in
+    let h = o .before in
+    let t = h .before in
+    let y = t .before in
+    let x = y .before in
+    let a = x .before .before .before .args in (
+      search needs,
+      λ pic m d sets there.
+          near-made pic m (a .closure .now) (a .heads .now) d sets (a .sign) (a .user) (x .before .before .before .pre .2) there
+          (record { sign = a .sign; tails = t .shared .result; heads = h .heads-of .result; files = c .minus .result })
+          (a .asked) (o .outside-all .result)
+          (λ k. t .shared .ensures k ∙ ap₂ (λ (p q : Set). isIn p k && isIn q k) (x .set-at .ensures) (y .set-at2 .ensures))
+          (h .heads-of .ensures) (o .outside-all .ensures pic d) (c .minus .ensures),
+    )
+
+pub arrows-near-spec : {M : Type 1} → statement M
+arrows-near-spec =
+    tie.close (tie.spec (search needs) (λ c κs. search needs) (search needs) (λ c κs. search needs) (λ c κs. search needs) (λ c κs. search needs)
+    (λ c κs. search needs) (λ c κs. search needs) returns)
