@@ -1763,6 +1763,6 @@ pub fn run() -> Report {
     limits_of_atoms(&mut report);
     files(&mut report);
     packing_cases::run(&mut report);
-    report.same("version", rights::version(), (3, 1, 0));
+    report.same("version", rights::version(), (4, 0, 0));
     report
 }

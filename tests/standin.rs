@@ -1385,7 +1385,7 @@ fn leave(t: &Tables, by: Wrong, scratch: &mut [u8], answer: Reply) -> Reply {
 
 #[no_mangle]
 pub extern "C" fn rights_version() -> u32 {
-    0x03_01_00
+    0x04_00_00
 }
 
 #[no_mangle]

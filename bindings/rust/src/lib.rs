@@ -80,7 +80,7 @@ pub use rows::{Arrow, BoxKind, Mode, Side, Sign};
 /// The library's version: major, minor, patch.
 ///
 /// ```
-/// assert_eq!(rights::version(), (3, 1, 0));
+/// assert_eq!(rights::version(), (4, 0, 0));
 /// ```
 pub fn version() -> (u8, u8, u8) {
     // SAFETY: the call takes nothing and keeps nothing.
