@@ -1,7 +1,7 @@
 //! The first-match list of a mode.
 
 use super::containment::{check_scratch, contain, Closure};
-use super::rows::{Arrow, Mode, Rows};
+use super::rows::{Arrow, Kept, Mode, Rows};
 use super::sets::Set;
 use super::tables::{atoms_of, check, check_mode, check_room};
 use super::{refuse, Refusal, Tables, ARROWS, BOXES, NO_ARROW};
@@ -104,8 +104,10 @@ pub fn list(
         mode: &mode,
     };
     let asked = files.iter().copied().collect();
+    let mut last = Kept::EMPTY;
     for &u in users {
-        let row = rows.sort(u, asked);
+        last = rows.sort_next(u, asked, last);
+        let row = last.row;
         if let Some(f) = row.unclear.lowest() {
             return refuse(12, m as usize, u as usize, f as usize);
         }

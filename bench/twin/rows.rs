@@ -89,6 +89,25 @@ pub struct Row {
     pub unclear: Set,
 }
 
+/// The row of the last user, and the tails of the mode's arrows around them: whoever has the same ones has
+/// the same row.
+#[derive(Clone, Copy)]
+pub struct Kept {
+    tails: Set,
+    pub row: Row,
+}
+
+impl Kept {
+    /// Around whom there is no arrow, nothing is granted or unclear.
+    pub const EMPTY: Kept = Kept {
+        tails: Set::EMPTY,
+        row: Row {
+            granted: Set::EMPTY,
+            unclear: Set::EMPTY,
+        },
+    };
+}
+
 /// What rows are answered by.
 #[derive(Clone, Copy)]
 pub struct Rows<'a> {
@@ -198,6 +217,36 @@ impl Rows<'_> {
             }
         });
         Row { granted, unclear }
+    }
+
+    fn tails_near(self, user: u8) -> Set {
+        let [negative, positive] = self.mode.tails;
+        self.closure.above[user as usize] & (negative | positive)
+    }
+
+    /// The row of the next user, by that of the last.
+    pub fn sort_next(self, user: u8, asked: Set, last: Kept) -> Kept {
+        let tails = self.tails_near(user);
+        if tails == last.tails {
+            return last;
+        }
+        Kept {
+            tails,
+            row: self.sort(user, asked),
+        }
+    }
+
+    /// The same with numbers.
+    pub fn answer_next(self, user: u8, asked: Set, last: Kept, numbers: &mut [u16; BOXES]) -> Kept {
+        let tails = self.tails_near(user);
+        if tails == last.tails {
+            return last;
+        }
+        numbers.fill(NO_ARROW);
+        Kept {
+            tails,
+            row: self.answer(user, asked, numbers),
+        }
     }
 
     /// The lowest arrow of a sign that reaches the pair.

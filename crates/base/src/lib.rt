@@ -1,7 +1,7 @@
-// What every crate needs and knows nothing of pictures: numbers of 16 bits, and lent places that are cleared.
+// What every crate needs and knows nothing of pictures: numbers of 16 bits, and lent places that are filled.
 ghost use mathlib.Core.Path.{_≡_};
 ghost use Prim.Native.Nat.{_<_, _≤_};
-ghost use lib.ListN.{length};
+ghost use lib.ListN.{length, replicate};
 ghost use Rattle.base.specs.Buffers.{written, zeros};
 
 // A number of 16 bits as an index.
@@ -33,5 +33,15 @@ pub fn clear(s: &mut [u8], count: usize)
 {
     for p in 0..count {
         s[p] = 0;
+    }
+}
+
+// Sets the first `count` places to one value.
+pub fn fill(places: &mut [u16], count: usize, value: u16)
+    requires { ⌜ count ≤ length (now places) ⌝ }
+    ensures { λ _. ⌜ now (places .exit) ≡ written (replicate count value) (now (places .entry)) ⌝ }
+{
+    for p in 0..count {
+        places[p] = value;
     }
 }

@@ -6,7 +6,7 @@ ghost use mathlib.Core.Path.{_≡_};
 ghost use mathlib.Core.Bool.{false, not, _&&_, _||_};
 ghost use mathlib.Core.Option.{some};
 ghost use Prim.Native.Nat.{ℕ, _<_};
-ghost use lib.Dec.{eqb};
+ghost use lib.Dec.{T, eqb};
 ghost use lib.ListN.{length, getD};
 ghost use Rattle.base.specs.Search.{lowest};
 ghost use Rattle.boxsets.specs.Words.{bitAt};
@@ -157,6 +157,12 @@ pub fn minus(x: Set, y: Set) -> Set
         c: x.c - (x.c & y.c),
         d: x.d - (x.d & y.d),
     }
+}
+
+pub fn same(x: Set, y: Set) -> bool
+    ensures { λ r. ⌜ (T r → x ≡ y) × (x ≡ y → T r) ⌝ }
+{
+    (x.a == y.a) & (x.b == y.b) & (x.c == y.c) & (x.d == y.d)
 }
 
 // ---- One by one

@@ -6,4 +6,5 @@ pub mod EmptiedLaws
 pub mod GrantLaws
 pub mod ModeLaws
 pub mod SamePictures
+pub mod SameUsers
 pub mod RowPairs

@@ -1,13 +1,13 @@
 -- What the crates above cite: sound arrows are small, the numbers of a mode's own arrows, and a mode that lacks a sign has no unclear pair.
 -- Assumes nothing.
-use mathlib.Core.Path.{_≡_, sym, subst, _∙_}
+use mathlib.Core.Path.{_≡_, refl, sym, subst, _∙_}
 use mathlib.Core.Bool.{false, _&&_}
 use mathlib.Core.List.{List}
 use mathlib.Core.Option.{none}
 use Prim.Native.Nat.{ℕ, _+_, _<_, _≤_}
 use native.Mathlib.Omega.{arith}
 use lib.Dec.{T, eqb, eqb-refl}
-use lib.ListN.{length, getD, length-replicate, getD-replicate}
+use lib.ListN.{length, getD, replicate, length-replicate, getD-replicate}
 use Rattle.base.proofs.Tests.{and-T, T-and, false-not}
 use Rattle.base.proofs.AnyLaws.{any-is}
 use Rattle.tables.specs.Rows.{Picture, arrowCount, arrowAt}
@@ -41,6 +41,10 @@ own-numbers arrows m i l = own-found arrows m i l .0
 pub blank-length : length blankRow ≡ 256
 unfolding blankRow
 blank-length = length-replicate {A = ℕ} 256 65535
+
+pub blank-is : replicate 256 65535 ≡ blankRow
+unfolding blankRow
+blank-is = refl
 
 pub blank-at : (f : ℕ) → f < 256 → getD blankRow f 0 ≡ 65535
 unfolding blankRow

@@ -16,3 +16,4 @@ mod RowWalk
 mod RowSorts
 mod EntryLaws
 pub mod CallerLaws
+pub mod TailLaws

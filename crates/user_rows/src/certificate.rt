@@ -53,7 +53,8 @@ fn heads_of(heads: &[u64], sign: usize, tails: Set) -> Set
     found
 }
 
-// The files of a set that are in none of the boxes. What a box has is done with it, boxes and files.
+// The files of a set that are in none of the boxes. What a box has is done with it, boxes and files. Each turn takes at least the lowest
+// box, which has itself, so 256 turns are enough.
 fn outside_all(closure: &[u64], files: Set, boxes: Set) -> Set
     requires { ⌜ length (now closure) ≡ 2048 ⌝ }
     ensures { λ r. ⌜ ((pic : Picture) → Drawn pic (now (closure .entry)) → ((b : ℕ) → T (isIn boxes b) → b < length (pic .boxes))
@@ -61,9 +62,12 @@ fn outside_all(closure: &[u64], files: Set, boxes: Set) -> Set
 {
     let mut left = files;
     let mut rest = boxes;
-    while !is_empty(rest) && !is_empty(left) {
+    for turn in 0..256usize {
+        if is_empty(rest) | is_empty(left) {
+            return left;
+        }
         let gone = set_at(closure, lowest(rest));
-        rest = minus(dropped(rest), gone);
+        rest = minus(rest, gone);
         left = minus(left, gone);
     }
     left

@@ -1,0 +1,74 @@
+-- Two users around whom the same arrows of the mode are get the same answers; one around whom there is none has nothing granted or
+-- unclear. Assumes nothing.
+use mathlib.Core.Path.{_≡_, refl, ap}
+use mathlib.Core.Bool.{Bool, true, false, _&&_}
+use Prim.Native.Nat.{ℕ, _<_}
+use lib.Dec.{T, eqb}
+use Rattle.base.specs.Search.{given, implies, lowest}
+use Rattle.base.proofs.Tests.{and-T, T-eqb, false-not}
+use Rattle.base.proofs.SearchLaws.{first-same, every-same}
+use Rattle.tables.specs.Rows.{Picture, arrowCount, arrowAt}
+use Rattle.containment.specs.Contains.{around}
+use Rattle.meaning.specs.Meaning.{positive, negative, hasMode, reaches, overrides, hits, certifies, answer, numberOf, isGranted, isUnclear}
+use Rattle.meaning.specs.declared.Entry.the-variants.{Default}
+use Rattle.meaning.proofs.AnswerLaws.{unreached-default}
+
+module _ (pic : Picture) (m : ℕ) where
+  -- an arrow of the mode is around one of the users exactly if it is around the other
+  abbrev pub SameAround : (u v : ℕ) → Type 0
+  SameAround u v = (k : ℕ) → k < arrowCount (pic .arrows) → T (hasMode (pic .arrows) m k)
+      → around (pic .rows) (arrowAt (pic .arrows) k .tail) u ≡ around (pic .rows) (arrowAt (pic .arrows) k .tail) v
+
+  module _ (u v : ℕ) (same : SameAround u v) where
+    same-hits : (s f k : ℕ) → k < arrowCount (pic .arrows) → hits pic m s u f k ≡ hits pic m s v f k
+    unfolding hits reaches
+    same-hits s f k l = go (hasMode (pic .arrows) m k) (same k l)
+      where
+        go : (b : Bool) → (T b → around (pic .rows) (arrowAt (pic .arrows) k .tail) u ≡ around (pic .rows) (arrowAt (pic .arrows) k .tail) v)
+            → (b && (eqb (arrowAt (pic .arrows) k .sign) s
+            && (around (pic .rows) (arrowAt (pic .arrows) k .tail) u && around (pic .rows) (arrowAt (pic .arrows) k .head) f)))
+            ≡ (b && (eqb (arrowAt (pic .arrows) k .sign) s
+            && (around (pic .rows) (arrowAt (pic .arrows) k .tail) v && around (pic .rows) (arrowAt (pic .arrows) k .head) f)))
+        go true e = rw (e tt)
+        go false e = refl
+
+    same-certifies : (s o f k : ℕ) → k < arrowCount (pic .arrows) → certifies pic m s o u f k ≡ certifies pic m s o v f k
+    unfolding certifies
+    same-certifies s o f k l =
+        rw (same-hits s f k l)
+        (ap (λ (b : Bool). hits pic m s v f k && b)
+        (every-same _ _ (arrowCount (pic .arrows))
+        (λ j b. ap (λ (h : Bool). implies h (overrides pic (arrowAt (pic .arrows) k) (arrowAt (pic .arrows) j))) (same-hits o f j b))))
+
+    pub same-user : (f : ℕ) → answer pic m u f ≡ answer pic m v f
+    unfolding answer lowest
+    same-user f =
+        rw (
+          first-same _ _ (arrowCount (pic .arrows)) (λ k l. ap (λ (b : Bool). given b k) (same-certifies positive negative f k l)),
+          first-same _ _ (arrowCount (pic .arrows)) (λ k l. ap (λ (b : Bool). given b k) (same-certifies negative positive f k l)),
+          first-same _ _ (arrowCount (pic .arrows)) (λ k l. ap (λ (b : Bool). given b k) (same-hits positive f k l)),
+          first-same _ _ (arrowCount (pic .arrows)) (λ k l. ap (λ (b : Bool). given b k) (same-hits negative f k l)),
+        )
+
+  -- a user around whom there is no arrow of the mode
+  module _ (u : ℕ) (none-around : (k : ℕ) → k < arrowCount (pic .arrows) → T (hasMode (pic .arrows) m k)
+      → around (pic .rows) (arrowAt (pic .arrows) k .tail) u ≡ false) (f : ℕ) where
+    none-reaches : answer pic m u f ≡ Default
+    unfolding hasMode reaches
+    none-reaches =
+        unreached-default pic m u f
+        (λ k l e t.
+        false-not (around (pic .rows) (arrowAt (pic .arrows) k .tail) u) (none-around k l (T-eqb e))
+        (and-T (around (pic .rows) (arrowAt (pic .arrows) k .tail) u) (around (pic .rows) (arrowAt (pic .arrows) k .head) f) t .0))
+
+    pub not-granted : isGranted (answer pic m u f) ≡ false
+    unfolding isGranted
+    not-granted = ap isGranted none-reaches
+
+    pub not-unclear : isUnclear (answer pic m u f) ≡ false
+    unfolding isUnclear
+    not-unclear = ap isUnclear none-reaches
+
+    pub no-number : numberOf (answer pic m u f) ≡ 65535
+    unfolding numberOf
+    no-number = ap numberOf none-reaches
