@@ -7,3 +7,4 @@ pub mod GrantLaws
 pub mod ModeLaws
 pub mod SamePictures
 pub mod RowPairs
+pub mod MatrixLaws
