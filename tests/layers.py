@@ -14,8 +14,6 @@ import sys
 LIBRARY = "base"
 STILL = {
     ("containment", "boxsets"): "has",
-    ("lists", "meaning"): "answerAt firstPair hasMode unclearFault",
-    ("lists", "user_rows"): "isOwn ownArrows",
     ("user_rows", "boxsets"): "has",
     ("user_rows", "meaning"): "answer certifies hasMode hits isGranted isUnclear nests numberOf reaches settle unclearFault",
 }
