@@ -9,7 +9,7 @@ use native.Mathlib.Omega.{arith}
 use lib.Dec.{T, ltb, ltb→lt, lt→ltb}
 use lib.ListN.{length, getD, take, length-append}
 use Rattle.base.proofs.Tests.{and-T, T-and}
-use Rattle.base.proofs.PartLaws.{Wrote, part-is}
+use Rattle.base.proofs.PartLaws.{Wrote, part-is, part-length, part-within}
 use Rattle.base.proofs.SelectLaws.{select-within}
 use Rattle.tables.specs.Rows.{Picture, arrowCount, arrowAt}
 use Rattle.meaning.specs.Meaning.{hasMode, modeArrows}
@@ -27,20 +27,26 @@ use Rattle.lists.proofs.NextLaws.{next-some, to-next, to-holds, to-grow
 
 -- ---- the part of the numbers that is lent on
 
-pub record OwnPart (arrows : List ℕ) (m : ℕ) (own : List ℕ) : Type 0 where
-  pub numbers : Numbers arrows own
-  pub few : length own ≤ 512
-  pub most : length own ≤ length (modeArrows arrows m)
+pub record OwnPart (arrows : List ℕ) (m count : ℕ) (own : List ℕ) : Type 0 where
+  pub within : count ≤ length own
+  pub len : count ≡ length (take count own)
+  pub are : take count own ≡ ownArrows arrows m
+  pub numbers : Numbers arrows (take count own)
+  pub few : length (take count own) ≤ 512
+  pub most : length (take count own) ≤ length (modeArrows arrows m)
 
 pub own-part : (arrows : List ℕ) (m : ℕ) (old : List ℕ) (count : ℕ) (own : List ℕ) → Wrote (ownArrows arrows m) old count own → Small arrows
-    → OwnPart arrows m (take count own)
-own-part arrows m old count own w small =
-    rw (part-is (ownArrows arrows m) old count own w)
-    (record {
-      numbers = own-numbers arrows m;
-      few = omega (arith, own-most arrows m, small .few);
-      most = own-mode-most arrows m;
-    })
+    → 512 ≤ length old → OwnPart arrows m count own
+own-part arrows m old count own w small places =
+    let are = part-is (ownArrows arrows m) old count own w in
+    record {
+      within = part-within (ownArrows arrows m) old count own w (omega (arith, own-most arrows m, small .few));
+      len = part-length (ownArrows arrows m) old count own w;
+      are = are;
+      numbers = rw are (own-numbers arrows m);
+      few = rw are (omega (arith, own-most arrows m, small .few));
+      most = rw are (own-mode-most arrows m);
+    }
 
 -- ---- the arrows that can be added
 
