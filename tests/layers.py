@@ -13,11 +13,7 @@ import sys
 
 LIBRARY = "base"
 STILL = {
-    ("answers", "containment"): "earlyFault pictureFault",
-    ("answers", "meaning"): "anyUnclear byteAt byteOf isGranted isUnclear matrixBytes matrixNumbers numberAt unclearFault",
     ("containment", "boxsets"): "has",
-    ("lists", "meaning"): "answerAt firstPair hasMode unclearFault",
-    ("lists", "user_rows"): "isOwn ownArrows",
     ("user_rows", "boxsets"): "has",
     ("user_rows", "meaning"): "answer certifies hasMode hits isGranted isUnclear nests numberOf reaches settle unclearFault",
 }

@@ -26,6 +26,7 @@ use Rattle.containment.specs.Contains.{loopFault}
 use Rattle.containment.specs.Scratch.{scratchFault, earlyFault}
 use Rattle.containment.specs.Steps.{Closure}
 use Rattle.containment.proofs.ScratchLaws.{scratch-room}
+use Rattle.containment.proofs.PictureLaws.{early-parts}
 use Rattle.meaning.specs.Pairs.{matrixBytes, matrixNumbers}
 use Rattle.meaning.specs.declared.Entry.{Entry}
 use Rattle.user_rows.specs.Steps.{Drawn}
@@ -54,8 +55,7 @@ module _ (pic : Picture) (s : List ℕ) where
   Early e = e ≡ none → (tableFault pic ≡ none) × (scratchFault (length (pic .boxes)) s ≡ none)
 
   pub picture-early : Early (earlyFault pic s)
-  unfolding earlyFault
-  picture-early e = both-none (tableFault pic) (scratchFault (length (pic .boxes)) s) e
+  picture-early = early-parts pic s
 
   pub entry-early : (m : ℕ) → Early (entryEarly pic s m)
   unfolding entryEarly

@@ -1,7 +1,7 @@
 -- The cells of the matrix: a row of them is written after another. Assumes nothing.
 use mathlib.Core.Path.{_≡_, refl, sym, ap, _∙_}
 use mathlib.Core.Logic.{_⊎_, inl, inr, ⊎-elim}
-use mathlib.Core.Bool.{Bool, cond}
+use mathlib.Core.Bool.{Bool}
 use mathlib.Core.List.{List}
 use Prim.Native.Nat.{ℕ, _+_, _*_, _-_, _<_, _≤_}
 use native.Mathlib.Decide.{decLt}
@@ -16,12 +16,9 @@ use Rattle.base.proofs.BufferLaws.{written-length, written-at, written-rest, bu
 use Rattle.base.proofs.PartLaws.{built-none}
 use Rattle.base.proofs.Index.{next-row}
 use Rattle.tables.specs.Rows.{Picture}
-use Rattle.tables.proofs.AtomPlaces.{pairCount-is}
-use Rattle.meaning.specs.Meaning.{answer, byteOf, numberOf, isGranted, isUnclear}
+use Rattle.meaning.specs.Meaning.{answer, byteOf, numberOf}
 use Rattle.meaning.specs.Pairs.{users, files, byteAt, numberAt, matrixBytes, matrixNumbers}
-use Rattle.meaning.proofs.RowPairs.{row-place}
-use Rattle.meaning.specs.declared.Entry.{Entry}
-use Rattle.meaning.specs.declared.Entry.the-variants.{Granted, Denied, Default, Unclear}
+use Rattle.meaning.proofs.MatrixLaws.{byte-by, byte-place, number-place, bytes-are, numbers-are}
 use Rattle.user_rows.specs.Steps.{Sorts}
 use Rattle.user_rows.specs.declared.Row.{Row}
 use Rattle.answers.specs.Steps.{byteIn, Emitted}
@@ -78,28 +75,11 @@ emitted-written g h at n old mid new room e m same =
 
 -- ---- what a row says of a file
 
-byte-is : (e : Entry) → cond (isGranted e) 1 (cond (isUnclear e) 2 0) ≡ byteOf e
-unfolding isGranted isUnclear byteOf
-byte-is (Granted k) = refl
-byte-is (Denied k) = refl
-byte-is Default = refl
-byte-is (Unclear p n) = refl
-
 module _ (pic : Picture) (m : ℕ) where
   byte-said : (u f : ℕ) (asked : ℕ → Bool) (row : Row) → Sorts pic m u asked row → T (asked f) → byteIn row f ≡ byteOf (answer pic m u f)
   unfolding byteIn
   byte-said u f asked row s t =
-      rw (s .granted-are f, s .unclear-are f, T-true (asked f) t) (byte-is (answer pic m u f))
-
-  place-byte : (i j : ℕ) → j < length (files pic)
-      → byteOf (answer pic m (getD (users pic) i 0) (getD (files pic) j 0)) ≡ byteAt pic m (i * length (files pic) + j)
-  unfolding byteAt
-  place-byte i j l = sym (ap byteOf (row-place pic m i j l))
-
-  place-number : (i j : ℕ) → j < length (files pic)
-      → numberOf (answer pic m (getD (users pic) i 0) (getD (files pic) j 0)) ≡ numberAt pic m (i * length (files pic) + j)
-  unfolding numberAt
-  place-number i j l = sym (ap numberOf (row-place pic m i j l))
+      rw (s .granted-are f, s .unclear-are f, T-true (asked f) t) (sym (byte-by (answer pic m u f)))
 
   -- the bytes and numbers of the places before k are written
   abbrev pub Filled : (k : ℕ) (bytes numbers bytes′ numbers′ : List ℕ) → Type 0
@@ -113,11 +93,11 @@ module _ (pic : Picture) (m : ℕ) where
   module _ (i u : ℕ) (fs : List ℕ) (asked : ℕ → Bool) (row : Row) (found : List ℕ) (is : u ≡ getD (users pic) i 0) (are : fs ≡ files pic)
       (all : (j : ℕ) → j < length fs → T (asked (getD fs j 0))) where
     cell-byte : Sorts pic m u asked row → (j : ℕ) → j < length fs → byteIn row (getD fs j 0) ≡ byteAt pic m (i * length fs + j)
-    cell-byte sorts j l = byte-said u (getD fs j 0) asked row sorts (all j l) ∙ rw (is, are) (place-byte i j (rw are at l))
+    cell-byte sorts j l = byte-said u (getD fs j 0) asked row sorts (all j l) ∙ rw (is, are) (sym (byte-place pic m i j (rw are at l)))
 
     cell-number : ((f : ℕ) → T (asked f) → getD found f 0 ≡ numberOf (answer pic m u f))
         → (j : ℕ) → j < length fs → getD found (getD fs j 0) 0 ≡ numberAt pic m (i * length fs + j)
-    cell-number says j l = says (getD fs j 0) (all j l) ∙ rw (is, are) (place-number i j (rw are at l))
+    cell-number says j l = says (getD fs j 0) (all j l) ∙ rw (is, are) (sym (number-place pic m i j (rw are at l)))
 
     pub filled-row : (bytes numbers b n b′ n′ : List ℕ) → i * length fs + length fs ≤ length bytes → i * length fs + length fs ≤ length numbers
         → Sorts pic m u asked row × ((f : ℕ) → T (asked f) → getD found f 0 ≡ numberOf (answer pic m u f))
@@ -135,5 +115,4 @@ module _ (pic : Picture) (m : ℕ) where
   -- all rows are
   pub filled-all : (us fs bytes numbers b n : List ℕ) → us ≡ users pic → fs ≡ files pic → Filled (length us * length fs) bytes numbers b n
       → (b ≡ written (matrixBytes pic m) bytes) × (n ≡ written (matrixNumbers pic m) numbers)
-  unfolding matrixBytes matrixNumbers
-  filled-all us fs bytes numbers b n eu ef e = (e .0 ∙ rw (eu, ef, pairCount-is), e .1 ∙ rw (eu, ef, pairCount-is))
+  filled-all us fs bytes numbers b n eu ef e = (e .0 ∙ rw (eu, ef, bytes-are), e .1 ∙ rw (eu, ef, numbers-are))

@@ -18,6 +18,7 @@ use Rattle.boxsets.proofs.WalkLaws.{empty-none, some-low}
 use Rattle.boxsets.proofs.TableLaws.{has-in}
 use Rattle.meaning.specs.Meaning.{answer, isUnclear}
 use Rattle.meaning.specs.Pairs.{users, unclearFault}
+use Rattle.meaning.proofs.MatrixLaws.{unclear-first}
 use Rattle.meaning.proofs.RowPairs.{RowsClear, rows-more, rows-found, rows-end}
 use Rattle.user_rows.specs.Steps.{ModeSets, Sorts}
 use Rattle.user_rows.specs.declared.Row.{Row}
@@ -45,18 +46,16 @@ module _ (pic : Picture) (m : ℕ) where
 
     pub clear-found : (f : ℕ) → i < length (users pic) → f ≡ low (row .unclear) → eqb (low (row .unclear)) 256 ≡ false
         → Refused (refusal 12 m u f) ≡ verdictOf (unclearFault pic m)
-    unfolding unclearFault
     clear-found f l e n =
         let there = subst T (found-in (low (row .unclear))) (some-low (row .unclear) n .1) in
         let both = and-T (atom (pic .boxes) (pic .rows) file (low (row .unclear))) (unclear (getD (users pic) i 0) (low (row .unclear))) there in
-        rw (is, e)
+        rw (is, e, unclear-first)
         (sym (ap verdictOf (rows-found pic unclear (unclearPair m) i l before (low (row .unclear)) (both .0) (both .1)
         (λ g b a t. low-least (row .unclear) g b
         (subst T (sym (found-in g)) (T-and (atom (pic .boxes) (pic .rows) file g) (unclear (getD (users pic) i 0) g) a t))))))
 
   pub clear-end : Clear (length (users pic)) → unclearFault pic m ≡ none
-  unfolding unclearFault
-  clear-end c = rows-end pic unclear (unclearPair m) c
+  clear-end c = unclear-first pic m ∙ rows-end pic unclear (unclearPair m) c
 
   -- a mode that has no arrow of a sign has no unclear pair
   pub no-sign : (heads : List ℕ) → ModeSets (pic .arrows) m heads → (s : ℕ) → s ≤ 1 → eqb (low (setAt heads (512 + s))) 256 ≡ true

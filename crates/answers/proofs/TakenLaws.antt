@@ -25,17 +25,19 @@ pub record Taken (arrows : List ℕ) (m count : ℕ) (own heads : List ℕ) : Ty
   pub sized : (closure : List ℕ) → length closure ≡ 2048 → Sized closure heads arrows (take count own)
   pub moded : (pic : Picture) → arrows ≡ pic .arrows → Moded pic m heads arrows (take count own)
 
-module _ (arrows : List ℕ) (m : ℕ) (small : Small arrows) where
-  -- by what `take_mode` promises
-  pub taken : (old : List ℕ) (count : ℕ) (own heads : List ℕ) → old ≡ zeros 512
-      → (count ≡ length (ownArrows arrows m)) × ((own ≡ written (ownArrows arrows m) old) × ModeSets arrows m heads)
-      → Taken arrows m count own heads
-  taken old count own heads e p =
+module _ (arrows : List ℕ) (m : ℕ) (small : Small arrows) (old : List ℕ) (count : ℕ) (own heads : List ℕ) where
+  -- what `take_mode` promises
+  abbrev Promised : Type 0
+  Promised = (count ≡ length (ownArrows arrows m)) × ((own ≡ written (ownArrows arrows m) old) × ModeSets arrows m heads)
+
+  -- where each arrow had a place
+  pub taken-in : 512 ≤ length old → Promised → Taken arrows m count own heads
+  taken-in places p =
       let w : Wrote (ownArrows arrows m) old count own = (p .0, p .1 .0) in
       let are = part-is (ownArrows arrows m) old count own w in
       record {
         sets = p .1 .1;
-        within = part-within (ownArrows arrows m) old count own w (omega (arith, own-most arrows m, small .few, room 512 e));
+        within = part-within (ownArrows arrows m) old count own w (omega (arith, own-most arrows m, small .few));
         len = part-length (ownArrows arrows m) old count own w;
         sized = λ closure l. record {
           closure-len = l;
@@ -45,3 +47,6 @@ module _ (arrows : List ℕ) (m : ℕ) (small : Small arrows) where
         };
         moded = λ pic i. record { arrows-are = i; sets = rw i at (p .1 .1); own-are = are ∙ rw i };
       }
+
+  pub taken : old ≡ zeros 512 → Promised → Taken arrows m count own heads
+  taken e = taken-in (room 512 e)

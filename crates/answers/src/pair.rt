@@ -25,7 +25,8 @@ use user_rows::take_mode;
 // Whether u is an atomic user and f an atomic file.
 fn is_pair(boxes: &[u8], rows: &[u16], u: usize, f: usize) -> bool
     requires { ⌜ length (now rows) % 2 ≡ 0 ⌝ }
-    ensures { λ r. ⌜ r ≡ (atom (now (boxes .entry)) (now (rows .entry)) user u && atom (now (boxes .entry)) (now (rows .entry)) file f) ⌝ }
+    ensures { λ r. ⌜ r ≡ (atom (now (boxes .entry)) (now (rows .entry)) user u
+        && atom (now (boxes .entry)) (now (rows .entry)) file f) ⌝ }
 {
     is_atom(boxes, rows, BoxRow::USER, u) && is_atom(boxes, rows, BoxRow::FILE, f)
 }

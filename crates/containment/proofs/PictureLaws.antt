@@ -6,7 +6,7 @@ use Rattle.tables.specs.declared.Refusal.{Refusal}
 use Prim.Native.Nat.{ℕ, _*_, _≤_}
 use lib.ListN.{length}
 use Rattle.base.specs.Search.{orElse}
-use Rattle.tables.specs.Rows.{picture}
+use Rattle.tables.specs.Rows.{Picture, picture}
 use Rattle.tables.specs.Faults.{tableFault}
 use Rattle.tables.specs.Steps.{SoundRows, SoundArrows}
 use Rattle.tables.proofs.TableLaws.{both-none, sound-rows, sound-arrows}
@@ -30,19 +30,23 @@ prepared boxes rows arrows s t r = record {
 pub scratch-filled : (boxes rows s : List ℕ) {fault : Option Refusal} → fault ≡ none → scratchAfter fault boxes rows s ≡ filled (length boxes) rows s
 scratch-filled boxes rows s e = rw e
 
+-- the checks before the closure are those of the tables and of the scratch
+pub early-parts : (pic : Picture) (s : List ℕ) → earlyFault pic s ≡ none → (tableFault pic ≡ none) × (scratchFault (length (pic .boxes)) s ≡ none)
+unfolding earlyFault
+early-parts pic s e = both-none (tableFault pic) (scratchFault (length (pic .boxes)) s) e
+
+-- they found nothing
+pub early-prepared : (boxes rows arrows s : List ℕ) → earlyFault (picture boxes rows arrows) s ≡ none → Prepared boxes rows arrows s
+early-prepared boxes rows arrows s e =
+    let two = early-parts (picture boxes rows arrows) s e in
+    prepared boxes rows arrows s (two .0) (two .1)
+
+-- nor did the loops
 pub picture-prepared : (boxes rows arrows s : List ℕ) → pictureFault (picture boxes rows arrows) s ≡ none → Prepared boxes rows arrows s × (earlyFault (picture boxes rows arrows) s ≡ none)
-unfolding pictureFault earlyFault
+unfolding pictureFault
 picture-prepared boxes rows arrows s e =
     let early = both-none (earlyFault (picture boxes rows arrows) s) (loopFault boxes rows) e .0 in
-    let two = both-none (tableFault (picture boxes rows arrows)) (scratchFault (length boxes) s) early in
-    (prepared boxes rows arrows s (two .0) (two .1), early)
-
--- the checks before the closure found nothing
-pub early-prepared : (boxes rows arrows s : List ℕ) → earlyFault (picture boxes rows arrows) s ≡ none → Prepared boxes rows arrows s
-unfolding earlyFault
-early-prepared boxes rows arrows s e =
-    let two = both-none (tableFault (picture boxes rows arrows)) (scratchFault (length boxes) s) e in
-    prepared boxes rows arrows s (two .0) (two .1)
+    (early-prepared boxes rows arrows s early, early)
 
 -- the checks before the closure, then the loops, are all checks
 pub picture-stages : (boxes rows arrows s : List ℕ)

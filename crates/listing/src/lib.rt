@@ -181,7 +181,8 @@ pub fn fill(
 ) -> Chunk
     requires { ⌜ Sized (now closure) (now arrows) (now users) (now files) × Fits (now users) (now files) from ⌝ }
     requires { ⌜ length (now files) * 111 ≤ length (now out) ⌝ }
-    ensures { λ r. ⌜ ((pic : Picture) → Ready pic (now (closure .entry)) (now (arrows .entry)) (now (users .entry)) (now (files .entry))
+    ensures { λ r. ⌜ ((pic : Picture)
+        → Ready pic (now (closure .entry)) (now (arrows .entry)) (now (users .entry)) (now (files .entry))
         → Stands pic from → Filled pic from (now (out .entry)) (now (out .exit)) r) ⌝ }
 {
     let count = row_count(users, from);

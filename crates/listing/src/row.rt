@@ -24,7 +24,8 @@ fn answers_of(
     files: &[u16],
     numbers: &mut [u16],
 ) -> Row
-    requires { ⌜ (length (now closure) ≡ 2048) × Small (now arrows) × (user < 256) × Bytes (now files) × (now numbers ≡ blankRow) ⌝ }
+    requires { ⌜ (length (now closure) ≡ 2048) × Small (now arrows) × (user < 256)
+        × Bytes (now files) × (now numbers ≡ blankRow) ⌝ }
     ensures { λ r. ⌜ ((pic : Picture) → Drawn pic (now (closure .entry)) → now (arrows .entry) ≡ pic .arrows
         → user < length (pic .boxes) → Sorts pic mode user (among (now (files .entry))) r
         × ((i : ℕ) → i < length (now (files .entry)) → getD (now (numbers .exit)) (getD (now (files .entry)) i 0) 0

@@ -22,7 +22,8 @@ use Rattle.meaning.specs.Meaning.{positive, negative, reaches, answer, isGrante
 use Rattle.meaning.specs.Pairs.{pairs, userAt, fileAt, unclearFault}
 use Rattle.meaning.specs.declared.Entry.{Entry}
 use Rattle.meaning.proofs.ModeLaws.{reaches-is, answer-at}
-use Rattle.meaning.proofs.PairLaws.{pair-place, userAt-atom, fileAt-atom, firstPair-none}
+use Rattle.meaning.proofs.PairLaws.{pair-place, userAt-atom, fileAt-atom}
+use Rattle.meaning.proofs.MatrixLaws.{clear-pair}
 use Rattle.user_rows.specs.Steps.{Drawn}
 use Rattle.lists.specs.Order.{anyOf, gives, ofMode, meets, right}
 use Rattle.lists.specs.Greedy.{addable}
@@ -149,15 +150,14 @@ module _ (pic : Picture) (closure : List ℕ) (drawn : Drawn pic closure) where
     module _ (m : ℕ) (of : T (ofMode (pic .arrows) m k)) (clear : unclearFault pic m ≡ none) (granted : List ℕ)
         (tg : Table pic (grantedTo pic m) granted) where
       wrong-is : (p : ℕ) → p < pairs pic → wrong granted (userAt pic p) (fileAt pic p) ≡ not (right pic m p k)
-      unfolding right unclearFault
+      unfolding right
       wrong-is p b =
           let u = userAt pic p in
           let f = fileAt pic p in
           let pair : IsPair u f = (userAt-atom pic p b, fileAt-atom pic p b) in
-          let sure : isUnclear (answer pic m u f) ≡ false
-          = not-false (isUnclear (answer pic m u f)) (firstPair-none pic (λ u f. isUnclear (answer pic m u f)) _ clear u f (pair .0) (pair .1)) in
           rw (at-pair (grantedTo pic m) granted tg u f pair, answer-at pic m p)
-          (gives-clear (arrowAt (pic .arrows) k .sign) (answer pic m u f) (drawn .arrows-sound .sign-most k there) sure)
+          (gives-clear (arrowAt (pic .arrows) k .sign) (answer pic m u f) (drawn .arrows-sound .sign-most k there)
+          (clear-pair pic m clear u f (pair .0) (pair .1)))
 
       wrong-test : someIn tails heads (wrongAt left granted (arrowAt (pic .arrows) k .sign)) ≡ someIn tails heads (leftAnd (wrong granted))
       unfolding someIn wrongAt

@@ -26,7 +26,9 @@ use Rattle.boxsets.specs.declared.Set.{Set}
 use Rattle.boxsets.proofs.TableLaws.{put-hit, put-miss, zeros-has}
 use Rattle.boxsets.proofs.LowLaws.{low-least}
 use Rattle.boxsets.proofs.WalkLaws.{empty-none, some-low}
-use Rattle.meaning.specs.Pairs.{users, firstPair, answerAt}
+use Rattle.meaning.specs.Pairs.{users, firstPair}
+use Rattle.meaning.proofs.ModeLaws.{answer-at}
+use Rattle.meaning.proofs.MatrixLaws.{firstPair-places}
 use Rattle.meaning.proofs.RowPairs.{RowsClear, rows-found, rows-end}
 use Rattle.user_rows.specs.Steps.{Ready}
 use Rattle.lists.specs.Order.{anyOf, meets, reached, granted}
@@ -128,8 +130,8 @@ module _ (pic : Picture) (m : ℕ) (closure arrows us : List ℕ) (files : Set) 
   missed u f = grantedTo pic m u f && unreached pic (greedy pic m) u f
 
   order-rows : orderFault pic m ≡ firstPair pic missed (noOrder m)
-  unfolding orderFault leftBy granted reached meets answerAt firstPair
-  order-rows = refl
+  unfolding orderFault leftBy granted reached meets
+  order-rows = simp (firstPair-places, answer-at)
 
   missed-is : (i : ℕ) → i < length us → (f : ℕ)
       → (has left (getD us i 0) f && has granted (getD us i 0) f) ≡ (atom (pic .boxes) (pic .rows) file f && missed (getD (users pic) i 0) f)

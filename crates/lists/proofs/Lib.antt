@@ -13,7 +13,5 @@ pub mod FreeLaws
 pub mod GrowLaws
 pub mod OwnLaws
 pub mod TurnLaws
-pub mod AtomParts
-pub mod TakenParts
 pub mod LeftLaws
 pub mod SortLaws

@@ -18,7 +18,7 @@ use Rattle.meaning.specs.Pairs.{users, unclearFault}
 use Rattle.meaning.proofs.RowPairs.{rows-start}
 use Rattle.user_rows.specs.Steps.{Ready, Sorts}
 use Rattle.user_rows.specs.declared.Row.{Row}
-use Rattle.lists.proofs.AtomParts.{atoms-there}
+use Rattle.answers.proofs.AtomLaws.{listed-at}
 use Rattle.answers.proofs.RowLaws.{unclear, Clear, clear-more, clear-found, clear-end}
 use Rattle.lists.specs.Steps.{grantedTo, Check12}
 use Rattle.lists.proofs.LeftLaws.{Filled, filled-none, filled-more, filled-all}
@@ -38,7 +38,7 @@ module _ (pic : Picture) (m : ℕ) (closure arrows us : List ℕ) (files : Set) 
 
   -- each user is a box of the picture
   pub user-there : (i u : ℕ) → u ≡ getD us i 0 → i < length us → u < length (pic .boxes)
-  user-there i u e l = rw (e, ready .users-are) (atoms-there (pic .boxes) (pic .rows) user i (rw (ready .users-are) at l))
+  user-there i u e l = listed-at (pic .boxes) (pic .rows) user us (ready .users-are) i u l e .2
 
   module _ (i u : ℕ) (r : Row) (granted : List ℕ) (is : u ≡ getD us i 0) (sorts : Sorts pic m u (isIn files) r) (s : Sorting i granted) where
     same : u ≡ getD (users pic) i 0

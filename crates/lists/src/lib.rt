@@ -109,7 +109,8 @@ fn write_list(
     work: &mut [u8],
 ) -> Listed
     requires { ⌜ Drawn (picture (now boxes) (now rows) (now arrows)) (now closure) ⌝ }
-    requires { ⌜ (length (modeArrows (now arrows) mode) ≤ length (now out)) × (pairCount (now boxes) (now rows) ≤ length (now work)) ⌝ }
+    requires { ⌜ (length (modeArrows (now arrows) mode) ≤ length (now out))
+        × (pairCount (now boxes) (now rows) ≤ length (now work)) ⌝ }
     ensures { λ r. ⌜ Listing (picture (now (boxes .entry)) (now (rows .entry)) (now (arrows .entry))) mode (now (out .entry))
         (now (work .entry)) r (now (out .exit)) (now (work .exit)) ⌝ }
 {

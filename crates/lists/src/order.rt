@@ -81,7 +81,8 @@ fn standing_by(closure: &[u64], arrows: &[u16], left: &[u64], granted: &[u64], k
 fn look(closure: &[u64], arrows: &[u16], left: &[u64], granted: &[u64], k: usize, mark: u8) -> u8
     requires { ⌜ (length (now closure) ≡ 2048) × (length (now left) ≡ 1024) × (length (now granted) ≡ 1024)
         × Small (now arrows) × (k < arrowCount (now arrows)) ⌝ }
-    requires { ⌜ ((mark ≡ 0 → ⊥) → standingBy (now closure) (now left) (now granted) (arrowAt (now arrows) k) ≡ Standing.Spent) ⌝ }
+    requires { ⌜ ((mark ≡ 0 → ⊥)
+        → standingBy (now closure) (now left) (now granted) (arrowAt (now arrows) k) ≡ Standing.Spent) ⌝ }
     ensures { λ r. ⌜ r ≡ markOf (standingBy (now (closure .entry)) (now (left .entry)) (now (granted .entry))
         (arrowAt (now (arrows .entry)) k)) ⌝ }
 {
@@ -140,7 +141,8 @@ fn take_files(users: Set, files: Set, left: &mut [u64])
 
 // Takes the pairs of arrow k from what is left.
 fn take_arrow(closure: &[u64], arrows: &[u16], k: usize, left: &mut [u64])
-    requires { ⌜ (length (now closure) ≡ 2048) × (length (now left) ≡ 1024) × Small (now arrows) × (k < arrowCount (now arrows)) ⌝ }
+    requires { ⌜ (length (now closure) ≡ 2048) × (length (now left) ≡ 1024)
+        × Small (now arrows) × (k < arrowCount (now arrows)) ⌝ }
     ensures { λ _. ⌜ Takes (setAt (now (closure .entry)) (arrowAt (now (arrows .entry)) k .tail))
         (setAt (now (closure .entry)) (arrowAt (now (arrows .entry)) k .head)) (now (left .entry)) (now (left .exit)) ⌝ }
 {
@@ -161,7 +163,8 @@ pub fn order(
     out: &mut [u16],
 ) -> usize
     requires { ⌜ (length (now closure) ≡ 2048) × (length (now left) ≡ 1024) × (length (now granted) ≡ 1024) ⌝ }
-    requires { ⌜ Small (now arrows) × Numbers (now arrows) (now own) × (length (now own) ≤ 512) × (length (now own) ≤ length (now out)) ⌝ }
+    requires { ⌜ Small (now arrows) × Numbers (now arrows) (now own)
+        × (length (now own) ≤ 512) × (length (now own) ≤ length (now out)) ⌝ }
     ensures { λ r. ⌜ ((pic : Picture) (m : ℕ)
         → Clear pic m (now (closure .entry)) (now (arrows .entry)) (now (own .entry)) (now (granted .entry))
         → Table pic (unreached pic []) (now (left .entry))

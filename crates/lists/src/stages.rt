@@ -43,7 +43,8 @@ pub fn mode_count(arrows: &[u16], mode: u16) -> usize
 // Check 13: the list stays, or 65,535 goes into each needed place where it leaves a granted pair.
 fn finish(left: Verdict, count: usize, need: usize, out: &mut [u16]) -> Listed
     requires { ⌜ need ≤ length (now out) ⌝ }
-    ensures { λ r. ⌜ ((pic : Picture) (m : ℕ) (old : List ℕ) → left ≡ verdictOf (orderFault pic m) → count ≡ length (greedy pic m)
+    ensures { λ r. ⌜ ((pic : Picture) (m : ℕ) (old : List ℕ)
+        → left ≡ verdictOf (orderFault pic m) → count ≡ length (greedy pic m)
         → need ≡ listRoom pic m → need ≤ length old → now (out .entry) ≡ written (greedy pic m) old
         → (r ≡ listAnswer pic m none) × (now (out .exit) ≡ listAfter pic m none old)) ⌝ }
 {

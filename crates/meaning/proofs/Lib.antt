@@ -8,3 +8,4 @@ pub mod ModeLaws
 pub mod SamePictures
 pub mod SameUsers
 pub mod RowPairs
+pub mod MatrixLaws

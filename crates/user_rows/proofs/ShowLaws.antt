@@ -105,11 +105,11 @@ module _ (pic : Picture) (m u f : ℕ) where
   pub own-shown : (i : ℕ) → i < length (ownArrows (pic .arrows) m) → T (shows pic m u f (getD (ownArrows (pic .arrows) m) i 0))
       → ((j : ℕ) → j < i → T (shows pic m u f (getD (ownArrows (pic .arrows) m) j 0)) → ⊥)
       → lowest (shows pic m u f) (arrowCount (pic .arrows)) ≡ some (getD (ownArrows (pic .arrows) m) i 0)
-  own-shown = own-first (pic .arrows) m (shows pic m u f) shows-mode shows-same
+  own-shown = own-first (pic .arrows) m (shows pic m u f) shows-mode (λ k j b l. shows-same k j)
 
   pub own-none : ((i : ℕ) → i < length (ownArrows (pic .arrows) m) → T (shows pic m u f (getD (ownArrows (pic .arrows) m) i 0)) → ⊥)
       → lowest (shows pic m u f) (arrowCount (pic .arrows)) ≡ none
-  own-none = own-nothing (pic .arrows) m (shows pic m u f) shows-mode shows-same
+  own-none = own-nothing (pic .arrows) m (shows pic m u f) shows-mode (λ k j b l. shows-same k j)
 
 -- ---- for an arrow that the code has read
 

@@ -1,10 +1,13 @@
 -- `answers::judge` meets its contract: the stage that all calls share refuses, or leaves the modes a drawn picture. Assumes nothing.
-use mathlib.Core.Path.{_≡_, sym, _∙_}
+use mathlib.Core.Path.{_≡_, sym, ap, _∙_}
 use borrow.Author.Needs.{needs}
+use Rattle.base.specs.Search.{orElse}
 use Rattle.tables.specs.Rows.{Picture, picture}
 use Rattle.tables.specs.Refusals.{verdictOf}
 use Rattle.tables.proofs.Verdicts.{refuses, passes}
+use Rattle.containment.specs.Contains.{loopFault}
 use Rattle.containment.specs.Scratch.{scratchAfter, earlyFault, pictureFault}
+use Rattle.containment.proofs.PictureLaws.{picture-stages}
 use Rattle.answers.specs.Calls.{judgeFault}
 use Rattle.answers.proofs.CallLaws.{picture-early, ready-asks, ready-drawn}
 use Rattle.answers.proofs.judge.Statement.{statement}
@@ -26,21 +29,27 @@ prepare-requires c κs =
 prepared : (c : tie.After-prepare) →
     let start = c .before .before .before .before .before .before .before .before .before .before in
     let s = start .args .scratch .now in
-    (c .prepare .result ≡ verdictOf (pictureFault (pic start) s))
+    (c .prepare .result ≡ verdictOf (orElse (earlyFault (pic start) s) (loopFault (start .args .boxes .now) (start .args .rows .now))))
     × (c .prepare .last .1 .1 .1 .0 ≡ scratchAfter (earlyFault (pic start) s) (start .args .boxes .now) (start .args .rows .now) s)
-unfolding pictureFault
 prepared c =
     let start = c .before .before .before .before .before .before .before .before .before .before in
     c .prepare .ensures .0 (earlyFault (pic start) (start .args .scratch .now)) (c .before .before .before .early-picture .ensures)
 
+-- the checks of a picture are done
+checked : (c : tie.After-prepare) →
+    let start = c .before .before .before .before .before .before .before .before .before .before in
+    c .prepare .result ≡ verdictOf (pictureFault (pic start) (start .args .scratch .now))
+checked c =
+    let a = c .before .before .before .before .before .before .before .before .before .before .args in
+    prepared c .0 ∙ ap verdictOf (picture-stages (a .boxes .now) (a .rows .now) (a .arrows .now) (a .scratch .now))
+
 returns : tie.Need-returns
 unfolding judgeFault
 returns c =
-    let p = prepared (c .before .before .before .before .before .before) in
-    (refuses _ _ _ (sym (p .0) ∙ c .before .ready .given .1), p .1)
+    let at-prepare = c .before .before .before .before .before .before in
+    (refuses _ _ _ (sym (checked at-prepare) ∙ c .before .ready .given .1), prepared at-prepare .1)
 
 judge-picture-requires : tie.Need-judge-picture-requires
-unfolding pictureFault
 judge-picture-requires c κs =
     let at-prepare = c .before .before .before .before .before .before in
     let start = at-prepare .before .before .before .before .before .before .before .before .before .before in
@@ -51,8 +60,8 @@ judge-picture-requires c κs =
 returns-2 : tie.Need-returns-2
 unfolding judgeFault
 returns-2 c =
-    let p = prepared (c .before .before .before .before .before .before .before) in
-    (c .judge-picture .ensures ∙ passes _ _ (sym (p .0) ∙ c .before .before .enum-told .given .1), p .1)
+    let at-prepare = c .before .before .before .before .before .before .before in
+    (c .judge-picture .ensures ∙ passes _ _ (sym (checked at-prepare) ∙ c .before .before .enum-told .given .1), prepared at-prepare .1)
 
 pub judge-spec : {M : Type 1} → statement M
 judge-spec =

@@ -7,30 +7,18 @@ use lib.ListN.{length}
 use Rattle.tables.specs.Rows.{user, file}
 use Rattle.tables.specs.Atoms.{atoms}
 use Rattle.tables.proofs.AtomPlaces.{pairCount-is, few-pairs}
-use Rattle.answers.proofs.TakenLaws.{room}
-use Rattle.answers.proofs.AtomLaws.{among-atoms}
-use Rattle.lists.proofs.AtomParts.{atoms-within, atoms-length, atoms-are, atoms-boxes}
+use Rattle.answers.proofs.AtomLaws.{Listed, listed, among-atoms}
 use Rattle.lists.proofs.asked_of.Statement.{statement}
 use Rattle.lists.proofs.asked_of.Tie as tie
 
-array-share-prefix-f : tie.Need-array-share-prefix-f
-array-share-prefix-f c =
-    let start = c .before .before .before .before .before .before in
+-- the atomic files
+listing : (c : tie.After-atoms-of) →
+    let a = c .before .before .before .before .before .args in
+    Listed (a .boxes .now) (a .rows .now) file (c .atoms-of .result) (c .atoms-of .last .1 .1 .1 .0)
+listing c =
+    let start = c .before .before .before .before .before in
     let a = start .args in
-    atoms-within (a .boxes .now) (a .rows .now) file (start .pre .0 .few-boxes) _ _ _ (c .before .atoms-of .ensures)
-    (room 256 (c .before .before .before .no-boxes .ensures))
-
-slice-aggregate-set-of : tie.Need-slice-aggregate-set-of
-slice-aggregate-set-of c =
-    let start = c .before .before .before .before .before .before .before in
-    let a = start .args in
-    atoms-length (a .boxes .now) (a .rows .now) file (start .pre .0 .few-boxes) _ _ _ (c .before .before .atoms-of .ensures)
-
-set-of-requires : tie.Need-set-of-requires
-set-of-requires c κs =
-    let start = c .before .before .before .before .before .before .before in
-    let a = start .args in
-    atoms-boxes (a .boxes .now) (a .rows .now) file (start .pre .0 .few-boxes) _ _ _ (c .before .before .atoms-of .ensures)
+    listed (a .boxes .now) (a .rows .now) file (start .pre .0 .few-boxes) _ _ _ (c .before .before .no-boxes .ensures) (c .atoms-of .ensures)
 
 -- how many pairs there are
 count-is : (c : tie.After-set-of) →
@@ -50,15 +38,14 @@ mul-t13 c =
 
 returns : tie.Need-returns
 returns c =
-    let start = c .before .before .before .before .before .before .before .before in
-    let a = start .args in
-    let are = atoms-are (a .boxes .now) (a .rows .now) file (start .pre .0 .few-boxes) _ _ _ (c .before .before .before .atoms-of .ensures) in (
+    let found = c .before .before .before in
+    let a = found .before .before .before .before .before .args in (
       refl,
-      λ b. c .set-of .ensures b ∙ rw are (among-atoms (a .boxes .now) (a .rows .now) file b),
+      λ b. c .set-of .ensures b ∙ rw (listing found .are) (among-atoms (a .boxes .now) (a .rows .now) file b),
       count-is c ∙ sym (pairCount-is (a .boxes .now) (a .rows .now)),
     )
 
 pub asked-of-spec : {M : Type 1} → statement M
 asked-of-spec =
-    tie.close (tie.spec (λ c κs. search needs) (search needs) (λ c κs. search needs) array-share-prefix-f slice-aggregate-set-of
-    set-of-requires mul-t13 returns)
+    tie.close (tie.spec (λ c κs. search needs) (search needs) (λ c κs. search needs) (λ c. listing (c .before) .within)
+    (λ c. listing (c .before .before) .len) (λ c κs. listing (c .before .before) .small) mul-t13 returns)

@@ -11,7 +11,8 @@ use Rattle.tables.specs.Atoms.{atom, atoms}
 use Rattle.tables.specs.Refusals.{verdictOf}
 use Rattle.tables.proofs.Verdicts.{passed, refused}
 use Rattle.boxsets.specs.Sets.{isIn}
-use Rattle.meaning.specs.Pairs.{unclearFault, anyUnclear}
+use Rattle.meaning.specs.Pairs.{unclearFault}
+use Rattle.meaning.proofs.ClearLaws.{any-unclear}
 use Rattle.user_rows.specs.Steps.{Drawn}
 use Rattle.answers.proofs.modes.judge_modes.Statement.{statement}
 use Rattle.answers.proofs.modes.judge_modes.Tie as tie
@@ -29,11 +30,11 @@ loop-holds : tie.Need-loop-holds Inv-loop μ-loop
 loop-holds c = (search needs, λ pic d o us fs. first-zero (unclearFault pic))
 
 returns : tie.Need-returns Inv-loop μ-loop
-unfolding anyUnclear
 returns c pic d o us fs =
     let l = c .before .before .before .before .before .loop in
     sym (ap verdictOf
-    (first-here (unclearFault pic) 8 (l .m) _ (l .inv .1 pic d o us fs)
+    (any-unclear pic
+    ∙ first-here (unclearFault pic) 8 (l .m) _ (l .inv .1 pic d o us fs)
     (refused _ _ (sym (c .before .before .before .judge-mode .ensures pic d o us fs) ∙ c .before .v .given .1))
     (omega (arith, c .before .before .before .before .loop-test .taken))))
 
@@ -46,10 +47,9 @@ loop-again c =
     )
 
 returns-2 : tie.Need-returns-2 Inv-loop μ-loop
-unfolding anyUnclear
 returns-2 c pic d o us fs =
     let e : c .before .loop .m ≡ 8 = omega arith in
-    sym (ap verdictOf (rw e at (c .before .loop .inv .1 pic d o us fs)))
+    sym (ap verdictOf (any-unclear pic ∙ rw e at (c .before .loop .inv .1 pic d o us fs)))
 
 pub judge-modes-spec : {M : Type 1} → statement M
 judge-modes-spec =

@@ -5,24 +5,24 @@ use Prim.Native.Nat.{ℕ}
 use native.Mathlib.Nat.{le-trans}
 use borrow.Author.Needs.{needs}
 use Rattle.base.specs.Buffers.{written, zeros}
-use Rattle.base.proofs.PartLaws.{Wrote, part-is}
 use Rattle.tables.proofs.Verdicts.{passed, refused}
 use Rattle.meaning.specs.Pairs.{unclearFault}
 use Rattle.user_rows.specs.Row.{ownArrows}
 use Rattle.answers.proofs.TakenLaws.{room}
-use Rattle.lists.proofs.TakenParts.{taken-within, taken-length}
 use Rattle.lists.proofs.CallLaws.{listing-refused, listing-done}
-use Rattle.lists.proofs.OwnLaws.{own-part}
+use Rattle.lists.proofs.OwnLaws.{OwnPart, own-part}
 use Rattle.lists.proofs.stages.list_mode.Statement.{statement}
 use Rattle.lists.proofs.stages.list_mode.Tie as tie
 
 -- the mode's arrows
-wrote : (c : tie.After-sort-mode) →
+part : (c : tie.After-sort-mode) →
+    let a = c .before .before .before .before .before .before .before .before .before .before .args in
+    OwnPart (a .arrows .now) (a .asked .mode) (c .sort-mode .result .own) (c .sort-mode .last .1 .1 .1 .1 .0)
+part c =
     let at-numbers = c .before .before .before .before in
-    let a = at-numbers .before .before .before .before .before .before .args in
-    Wrote (ownArrows (a .arrows .now) (a .asked .mode)) (at-numbers .no-numbers .result) (c .sort-mode .result .own)
-    (c .sort-mode .last .1 .1 .1 .1 .0)
-wrote c = c .sort-mode .ensures .0
+    let start = at-numbers .before .before .before .before .before .before in
+    own-part (start .args .arrows .now) (start .args .asked .mode) _ _ _ (c .sort-mode .ensures .0) (start .pre .0 .1)
+    (room 512 (at-numbers .no-numbers .ensures))
 
 returns : tie.Need-returns
 returns c pic ready pairs-are =
@@ -31,27 +31,13 @@ returns c pic ready pairs-are =
     listing-refused pic (a .asked .mode) (a .out .now) (a .work .now) _
     (refused (unclearFault pic (a .asked .mode)) _ (sym (sorted .sort-mode .ensures .1 .1 pic ready .said) ∙ c .before .unclear .given .1))
 
-array-share-prefix-own : tie.Need-array-share-prefix-own
-array-share-prefix-own c =
-    let sorted = c .before .before .before .before .before .before .before .before in
-    let at-numbers = sorted .before .before .before .before in
-    let start = at-numbers .before .before .before .before .before .before in
-    taken-within (start .args .arrows .now) (start .args .asked .mode) _ _ _ (wrote sorted) (start .pre .0 .1) (room 512 (at-numbers .no-numbers .ensures))
-
-slice-aggregate-list-clear : tie.Need-slice-aggregate-list-clear
-slice-aggregate-list-clear c =
-    let sorted = c .before .before .before .before .before .before .before .before .before in
-    let a = sorted .before .before .before .before .before .before .before .before .before .before .args in
-    taken-length (a .arrows .now) (a .asked .mode) _ _ _ (wrote sorted)
-
 list-clear-requires : tie.Need-list-clear-requires
 list-clear-requires c κs =
     let sorted = c .before .before .before .before .before .before .before .before .before .before .before in
     let start = sorted .before .before .before .before .before .before .before .before .before .before in
-    let a = start .args in
-    let part = own-part (a .arrows .now) (a .asked .mode) _ _ _ (wrote sorted) (start .pre .0 .1) in (
+    let own = part sorted in (
       (start .pre .0 .0, sorted .sort-mode .ensures .1 .0, start .pre .0 .2),
-      ((start .pre .0 .1, part .numbers, part .few), (le-trans (part .most) (start .pre .1 .0), start .pre .1 .0)),
+      ((start .pre .0 .1, own .numbers, own .few), (le-trans (own .most) (start .pre .1 .0), start .pre .1 .0)),
     )
 
 returns-2 : tie.Need-returns-2
@@ -69,7 +55,7 @@ returns-2 c pic ready pairs-are =
     (record {
       drawn = ready .drawn;
       arrows-are = ready .arrows-are;
-      own-are = part-is (ownArrows (a .arrows .now) m) _ _ _ (wrote sorted) ∙ ap (λ (xs : List ℕ). ownArrows xs m) (ready .arrows-are);
+      own-are = part sorted .are ∙ ap (λ (xs : List ℕ). ownArrows xs m) (ready .arrows-are);
       clear = clear;
       says = s .says clear;
     })
@@ -79,5 +65,6 @@ returns-2 c pic ready pairs-are =
 pub list-mode-spec : {M : Type 1} → statement M
 list-mode-spec =
     tie.close (tie.spec (λ c κs. search needs) (λ c κs. search needs) (search needs) (search needs) (λ c κs. search needs) (search needs) returns
-    (search needs) (λ c κs. search needs) array-share-prefix-own slice-aggregate-list-clear (search needs) list-clear-requires (search needs)
+    (search needs) (λ c κs. search needs) (λ c. part (c .before .before .before .before .before .before .before .before) .within)
+    (λ c. part (c .before .before .before .before .before .before .before .before .before) .len) (search needs) list-clear-requires (search needs)
     (search needs) returns-2)

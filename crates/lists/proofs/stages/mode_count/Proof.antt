@@ -11,7 +11,7 @@ use Rattle.base.proofs.BufferLaws.{select-most}
 use Rattle.tables.specs.Rows.{arrowCount}
 use Rattle.tables.specs.declared.Arrow.{Arrow}
 use Rattle.meaning.specs.Meaning.{hasMode}
-use Rattle.meaning.proofs.ModeLaws.{mode-select}
+use Rattle.meaning.proofs.ModeLaws.{hasMode-is, mode-select}
 use Rattle.lists.proofs.CountLaws.{select-none, select-one, select-skip}
 use Rattle.lists.proofs.stages.mode_count.Statement.{statement}
 use Rattle.lists.proofs.stages.mode_count.Tie as tie
@@ -32,7 +32,6 @@ add-count c =
     omega (arith, at-loop .loop .inv, select-most (hasMode (a .arrows .now) (a .mode)) (at-loop .loop .k))
 
 loop-again : tie.Need-loop-again Inv-loop μ-loop
-unfolding hasMode
 loop-again c =
     let at-loop = c .before .before .before .before in
     let a = at-loop .before .before .args in
@@ -41,12 +40,12 @@ loop-again c =
     (λ w. (
       search needs,
       w .1 ∙ select-one (hasMode (a .arrows .now) (a .mode)) (at-loop .loop .k) (at-loop .loop .count)
-          (eq-eqb _ (a .mode) (sym mode-is ∙ w .0 .taken)) (at-loop .loop .inv .1),
+          (hasMode-is _ _ _ ∙ eq-eqb _ (a .mode) (sym mode-is ∙ w .0 .taken)) (at-loop .loop .inv .1),
     ))
     (λ w. (
       search needs,
       w .1 ∙ select-skip (hasMode (a .arrows .now) (a .mode)) (at-loop .loop .k) (at-loop .loop .count)
-          (ne-eqb _ (a .mode) (λ e. w .0 .left (mode-is ∙ e))) (at-loop .loop .inv .1),
+          (hasMode-is _ _ _ ∙ ne-eqb _ (a .mode) (λ e. w .0 .left (mode-is ∙ e))) (at-loop .loop .inv .1),
     ))
     (c .if1 .came)
 
