@@ -7,7 +7,7 @@ use Prim.Native.Nat.{ℕ, _<_, _≤_}
 use native.Mathlib.Omega.{arith}
 use native.Mathlib.Nat.{eq-zero-or-pos}
 use mathlib.Core.Logic.{⊎-elim}
-use lib.Dec.{eqb→eq}
+use lib.Dec.{eqb, eqb→eq}
 use lib.ListN.{length}
 use Rattle.base.specs.Search.{select}
 use Rattle.base.proofs.SelectLaws.{select-found, select-has}
@@ -17,6 +17,10 @@ use Rattle.tables.specs.declared.Arrow.{Arrow}
 use Rattle.containment.specs.Contains.{around}
 use Rattle.meaning.specs.Meaning.{reaches, answer, hasMode, modeArrows}
 use Rattle.meaning.specs.Pairs.{userAt, fileAt, answerAt}
+
+pub hasMode-is : (arrows : List ℕ) (m k : ℕ) → hasMode arrows m k ≡ eqb (arrowAt arrows k .mode) m
+unfolding hasMode
+hasMode-is arrows m k = refl
 
 pub mode-select : (arrows : List ℕ) (m : ℕ) → modeArrows arrows m ≡ select (hasMode arrows m) (arrowCount arrows)
 unfolding modeArrows
