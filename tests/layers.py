@@ -15,7 +15,6 @@ LIBRARY = "base"
 STILL = {
     ("answers", "containment"): "earlyFault pictureFault",
     ("answers", "meaning"): "anyUnclear byteAt byteOf isGranted isUnclear matrixBytes matrixNumbers numberAt unclearFault",
-    ("containment", "boxsets"): "has",
     ("lists", "meaning"): "answerAt firstPair hasMode unclearFault",
     ("lists", "user_rows"): "isOwn ownArrows",
     ("user_rows", "boxsets"): "has",
