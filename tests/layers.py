@@ -17,8 +17,6 @@ STILL = {
     ("answers", "meaning"): "anyUnclear byteAt byteOf isGranted isUnclear matrixBytes matrixNumbers numberAt unclearFault",
     ("lists", "meaning"): "answerAt firstPair hasMode unclearFault",
     ("lists", "user_rows"): "isOwn ownArrows",
-    ("user_rows", "boxsets"): "has",
-    ("user_rows", "meaning"): "answer certifies hasMode hits isGranted isUnclear nests numberOf reaches settle unclearFault",
 }
 CRATES = pathlib.Path(__file__).resolve().parent.parent / "crates"
 
