@@ -144,6 +144,7 @@ module _ (pic : Picture) (m u f : ℕ) where
       → T (certifies pic m s o u f k)
   unopposed s o k h n = certifies-is s o k h (λ j l t. absurd (n j l t))
 
+  -- where no arrow of either sign hits, the answer is the default
   pub unhit-default : ((k : ℕ) → k < arrowCount (pic .arrows) → T (hits pic m positive u f k) → ⊥)
       → ((k : ℕ) → k < arrowCount (pic .arrows) → T (hits pic m negative u f k) → ⊥) → answer pic m u f ≡ Default
   unfolding answer settle
