@@ -17,7 +17,7 @@ use Rattle.boxsets.specs.Sets.{isIn, setAt, has, Added, Joins}
 use Rattle.boxsets.specs.declared.Set.{Set}
 use Rattle.boxsets.proofs.WordLaws.{eqb-turned, eqb-shifted}
 use Rattle.boxsets.proofs.MemberLaws.{in-beyond}
-use Rattle.boxsets.proofs.TableLaws.{zeros-has}
+use Rattle.boxsets.proofs.TableLaws.{has-in, zeros-has}
 use Rattle.containment.specs.Contains.{direct}
 use Rattle.containment.specs.Steps.{Both, Turns, through, rounds}
 
@@ -87,11 +87,11 @@ mark-row k rows t u v o i pos most eo ei ho hi h g s =
 module _ (k : ℕ) (t : List ℕ) (l : k < 256) where
   -- where one side of box k is empty there is no way through it
   pub round-down : ((b : ℕ) → isIn (setAt t k) b ≡ false) → Turns (λ f. through f k) t t
-  unfolding through has
+  unfolding through
   round-down z = record {
     len = refl;
     says = λ f s. both-same 256 f (through f k) t
-        (λ a b. sym (rw (sym (s .down k b l) ∙ z b) (none (f a b) (f a k)))) s;
+        (λ a b. sym (rw (sym (s .down k b l) ∙ has-in t k b ∙ z b) (none (f a b) (f a k)))) s;
   }
     where
       none : (p q : Bool) → (p || q && false) ≡ p
@@ -100,16 +100,16 @@ module _ (k : ℕ) (t : List ℕ) (l : k < 256) where
       none false false = refl
 
   pub round-up : ((a : ℕ) → isIn (setAt t (256 + k)) a ≡ false) → Turns (λ f. through f k) t t
-  unfolding through has
+  unfolding through
   round-up z = record {
     len = refl;
-    says = λ f s. both-same 256 f (through f k) t (λ a b. sym (rw (sym (s .up a k l) ∙ z a) (or-false (f a b)))) s;
+    says = λ f s. both-same 256 f (through f k) t (λ a b. sym (rw (sym (s .up a k l) ∙ has-in t (256 + k) a ∙ z a) (or-false (f a b)))) s;
   }
 
   -- else each box above k gets what k has, and each box below it what has k
   joined-turns : (u v : List ℕ) → Joins 0 (isIn (setAt t (256 + k))) (setAt t k) t u → Joins 256 (isIn (setAt t k)) (setAt t (256 + k)) u v
       → Turns (λ f. through f k) t v
-  unfolding through has
+  unfolding through
   joined-turns u v h g = record {
     len = g .len ∙ h .len;
     says = λ f s. record {
@@ -117,18 +117,18 @@ module _ (k : ℕ) (t : List ℕ) (l : k < 256) where
       down = λ a b la.
           g .before a b la
           ∙ rw zero-add at (h .each a b)
-          ∙ rw (s .down a b la, s .up a k l, s .down k b l);
+          ∙ rw (← has-in t (256 + k) a, ← has-in t k b, s .down a b la, s .up a k l, s .down k b l);
       up = λ a b lb.
           g .each b a
-          ∙ ap (λ (z : Bool). z || has t k b && has t (256 + k) a) (other b a)
-          ∙ rw (s .up a b lb, s .up a k l, s .down k b l) (turned (f a b) (f k b) (f a k));
+          ∙ ap (λ (z : Bool). z || isIn (setAt t k) b && isIn (setAt t (256 + k)) a) (other b a)
+          ∙ rw (← has-in t (256 + k) a, ← has-in t k b, s .up a b lb, s .up a k l, s .down k b l) (turned (f a b) (f k b) (f a k));
     };
   }
     where
       other : (b a : ℕ) → has u (256 + b) a ≡ has t (256 + b) a
       other b a =
           rw zero-add at (h .each (256 + b) a)
-          ∙ ap (λ (z : Bool). has t (256 + b) a || z && has t k a) (in-beyond (setAt t (256 + k)) (256 + b) (omega arith))
+          ∙ ap (λ (z : Bool). has t (256 + b) a || z && isIn (setAt t k) a) (in-beyond (setAt t (256 + k)) (256 + b) (omega arith))
           ∙ or-false (has t (256 + b) a)
 
       turned : (p q r : Bool) → (p || q && r) ≡ (p || r && q)

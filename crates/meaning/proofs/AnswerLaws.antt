@@ -13,6 +13,7 @@ use Rattle.tables.specs.Rows.{Picture, arrowCount, arrowAt}
 use Rattle.tables.specs.declared.Arrow.{Arrow}
 use Rattle.base.proofs.Tests.{or-T, and-T, T-and, T-eqb, T-true, true-T, not-false, false-not}
 use Rattle.base.proofs.SearchLaws.{every-at, every-is, lowest-some, lowest-none}
+use Rattle.base.proofs.SelectLaws.{lowest-nothing}
 use Rattle.meaning.specs.Meaning.{positive, negative, hasMode, reaches, nests, level, overrides, settle, hits, certifies, answer}
 use Rattle.meaning.specs.declared.Entry.the-variants.{Default}
 
@@ -143,26 +144,22 @@ module _ (pic : Picture) (m u f : ℕ) where
       → T (certifies pic m s o u f k)
   unopposed s o k h n = certifies-is s o k h (λ j l t. absurd (n j l t))
 
-  pub unreached-default : Unreached → answer pic m u f ≡ Default
+  -- where no arrow of either sign hits, the answer is the default
+  pub unhit-default : ((k : ℕ) → k < arrowCount (pic .arrows) → T (hits pic m positive u f k) → ⊥)
+      → ((k : ℕ) → k < arrowCount (pic .arrows) → T (hits pic m negative u f k) → ⊥) → answer pic m u f ≡ Default
   unfolding answer settle
-  unreached-default n =
-      go
-      (lowest (certifies pic m positive negative u f) (arrowCount (pic .arrows))) refl
-      (lowest (certifies pic m negative positive u f) (arrowCount (pic .arrows))) refl
-      (lowest (hits pic m positive u f) (arrowCount (pic .arrows))) refl
-      (lowest (hits pic m negative u f) (arrowCount (pic .arrows)))
+  unhit-default p n =
+      rw (
+        lowest-nothing (certifies pic m positive negative u f) (arrowCount (pic .arrows)) (λ k l t. p k l (certifies-hits positive negative k t)),
+        lowest-nothing (certifies pic m negative positive u f) (arrowCount (pic .arrows)) (λ k l t. n k l (certifies-hits negative positive k t)),
+        lowest-nothing (hits pic m positive u f) (arrowCount (pic .arrows)) p,
+      )
+
+  pub unreached-default : Unreached → answer pic m u f ≡ Default
+  unreached-default n = unhit-default (none-hit positive) (none-hit negative)
     where
       none-hit : (s k : ℕ) → k < arrowCount (pic .arrows) → T (hits pic m s u f k) → ⊥
       none-hit s k l t = n k l (hit-mode s k t) (hit-reaches s k t)
-
-      go : (a : Option ℕ) → lowest (certifies pic m positive negative u f) (arrowCount (pic .arrows)) ≡ a
-          → (b : Option ℕ) → lowest (certifies pic m negative positive u f) (arrowCount (pic .arrows)) ≡ b
-          → (c : Option ℕ) → lowest (hits pic m positive u f) (arrowCount (pic .arrows)) ≡ c
-          → (d : Option ℕ) → settle a b c d ≡ Default
-      go (some k) p b q c r d = let g = lowest-some _ _ k p in absurd (none-hit positive k (g .0) (certifies-hits positive negative k (g .1)))
-      go none p (some k) q c r d = let g = lowest-some _ _ k q in absurd (none-hit negative k (g .0) (certifies-hits negative positive k (g .1)))
-      go none p none q (some k) r d = let g = lowest-some _ _ k r in absurd (none-hit positive k (g .0) (g .1))
-      go none p none q none r d = refl
 
   -- where the signs are 0 and 1, as check 7 says
   pub default-unreached : ((k : ℕ) → k < arrowCount (pic .arrows) → arrowAt (pic .arrows) k .sign ≤ 1) → answer pic m u f ≡ Default → Unreached

@@ -1,21 +1,24 @@
--- For the crates above: the first unclear pair mode by mode, and modes without an arrow. Assumes nothing.
+-- For the crates above: the first unclear pair mode by mode, and modes without an unclear pair or without an arrow. Assumes nothing.
 use mathlib.Core.Path.{_≡_, refl, ap, _∙_}
 use mathlib.Core.List.{List}
 use mathlib.Core.Option.{none}
 use Prim.Native.Nat.{ℕ, _<_, _≤_}
 use native.Mathlib.Omega.{arith}
+use lib.Dec.{T}
 use lib.ListN.{length}
 use Rattle.base.specs.Search.{first, select}
-use Rattle.tables.specs.Rows.{Picture, arrowCount, arrowAt}
-use Rattle.tables.specs.Atoms.{pairCount}
+use Rattle.tables.specs.Rows.{Picture, user, file, arrowCount, arrowAt}
+use Rattle.tables.specs.Atoms.{atom, pairCount}
+use Rattle.tables.specs.Refusals.{unclearPair}
 use Rattle.base.proofs.Tests.{T-eqb}
 use Rattle.base.proofs.SearchLaws.{first-nothing}
 use Rattle.base.proofs.SelectLaws.{select-has}
-use Rattle.meaning.specs.Meaning.{hasMode, modeArrows, isUnclear}
+use Rattle.meaning.specs.Meaning.{hasMode, modeArrows, answer, isUnclear}
 use Rattle.meaning.specs.Pairs.{pairs, userAt, fileAt, unclearFault, anyUnclear}
 use Rattle.meaning.proofs.AnswerLaws.{unreached-default}
 use Rattle.meaning.proofs.PairLaws.{unclearAt, unclear-is, unclear-none}
 use Rattle.meaning.proofs.ModeLaws.{mode-select, answer-at}
+use Rattle.meaning.proofs.RowPairs.{firstPair-nothing}
 
 module _ (pic : Picture) where
   -- the first unclear pair, mode by mode
@@ -24,6 +27,12 @@ module _ (pic : Picture) where
   any-unclear = refl
 
   module _ (m : ℕ) where
+    -- a mode in which no pair is unclear
+    pub all-clear : ((u f : ℕ) → T (atom (pic .boxes) (pic .rows) user u) → T (atom (pic .boxes) (pic .rows) file f)
+        → T (isUnclear (answer pic m u f)) → ⊥) → unclearFault pic m ≡ none
+    unfolding unclearFault
+    all-clear clear = firstPair-nothing pic (λ u f. isUnclear (answer pic m u f)) (unclearPair m) clear
+
     no-arrow : length (modeArrows (pic .arrows) m) ≤ 0 → (k : ℕ) → k < arrowCount (pic .arrows) → arrowAt (pic .arrows) k .mode ≡ m → ⊥
     unfolding hasMode
     no-arrow few k l e =

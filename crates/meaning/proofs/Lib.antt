@@ -1,5 +1,7 @@
 -- Laws for the proofs of this crate and of the crates above it.
 pub mod AnswerLaws
+pub mod CertificateLaws
+pub mod SettleLaws
 pub mod PairLaws
 pub mod ClearLaws
 pub mod EmptiedLaws

@@ -1,5 +1,5 @@
--- For the crates above: the mode's arrows as the numbers at which a test holds, the answer at a place, and what reaches a pair.
--- Assumes nothing.
+-- For the crates above: the mode's arrows as the numbers at which a test holds, the answer at a place, what reaches a pair, and what is
+-- nested in what. Assumes nothing.
 use mathlib.Core.Path.{_≡_, refl}
 use mathlib.Core.Bool.{_&&_}
 use mathlib.Core.List.{List}
@@ -14,8 +14,8 @@ use Rattle.base.proofs.SelectLaws.{select-found, select-has}
 use Rattle.base.proofs.Tests.{T-eqb}
 use Rattle.tables.specs.Rows.{Picture, arrowCount, arrowAt}
 use Rattle.tables.specs.declared.Arrow.{Arrow}
-use Rattle.containment.specs.Contains.{around}
-use Rattle.meaning.specs.Meaning.{reaches, answer, hasMode, modeArrows}
+use Rattle.containment.specs.Contains.{contains, around}
+use Rattle.meaning.specs.Meaning.{reaches, nests, hits, answer, hasMode, modeArrows}
 use Rattle.meaning.specs.Pairs.{userAt, fileAt, answerAt}
 
 pub hasMode-is : (arrows : List ℕ) (m k : ℕ) → hasMode arrows m k ≡ eqb (arrowAt arrows k .mode) m
@@ -50,3 +50,14 @@ module _ (pic : Picture) (m : ℕ) where
 pub reaches-is : (pic : Picture) (a : Arrow) (u f : ℕ) → reaches pic a u f ≡ (around (pic .rows) (a .tail) u && around (pic .rows) (a .head) f)
 unfolding reaches
 reaches-is pic a u f = refl
+
+-- a hit, by its mode, its sign and its two ends
+pub hits-ends : (pic : Picture) (m s u f k : ℕ) → hits pic m s u f k
+    ≡ (hasMode (pic .arrows) m k && (eqb (arrowAt (pic .arrows) k .sign) s
+    && (around (pic .rows) (arrowAt (pic .arrows) k .tail) u && around (pic .rows) (arrowAt (pic .arrows) k .head) f)))
+unfolding hits reaches
+hits-ends pic m s u f k = refl
+
+pub nests-is : (pic : Picture) (a b : ℕ) → nests pic a b ≡ contains (pic .rows) a b
+unfolding nests
+nests-is pic a b = refl

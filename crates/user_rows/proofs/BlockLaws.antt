@@ -6,14 +6,14 @@ use Prim.Native.Nat.{ℕ}
 use lib.Dec.{T, eqb, eqb→eq}
 use Rattle.base.specs.Search.{anyBelow}
 use Rattle.base.proofs.Tests.{and-T, T-true, true-T}
-use Rattle.base.proofs.SearchLaws.{every-same}
-use Rattle.base.proofs.AnyLaws.{any-within, any-same, any-or, any-and, not-any}
+use Rattle.base.proofs.AnyLaws.{any-within, any-same, any-or, any-and}
 use Rattle.tables.specs.Rows.{Picture, arrowCount, arrowAt}
 use Rattle.tables.specs.Steps.{SoundArrows}
 use Rattle.tables.specs.declared.Arrow.{Arrow}
 use Rattle.containment.specs.Contains.{around}
 use Rattle.meaning.specs.Meaning.{hasMode, nests, overrides, hits, certifies}
 use Rattle.meaning.proofs.AnswerLaws.{overrides-is}
+use Rattle.meaning.proofs.CertificateLaws.{certifies-unless}
 use Rattle.user_rows.specs.Row.{leaves, headsBelow, inOne, blocks, certified, reachedBy}
 use Rattle.user_rows.proofs.HeadLaws.{hits-is, in-heads}
 
@@ -133,27 +133,13 @@ module _ (pic : Picture) (m o u : ℕ) (p : Arrow) where
 pub certified-is : (pic : Picture) → SoundArrows (pic .boxes) (pic .arrows) → (m s o u f k : ℕ)
     → T (leaves (pic .arrows) m s (λ t. around (pic .rows) t u) k)
     → certifies pic m s o u f k ≡ certified pic m o u (arrowAt (pic .arrows) k) f
-unfolding certified certifies
+unfolding certified
 certified-is pic sound m s o u f k lv =
-    ap₂ _&&_ head-only
-    (every-same (λ j. not (hits pic m o u f j) || overrides pic p (arrowAt (pic .arrows) j)) (λ j. not (bad j)) (arrowCount (pic .arrows))
-    (λ j l. either (hits pic m o u f j) (overrides pic p (arrowAt (pic .arrows) j)))
-    ∙ not-any bad (arrowCount (pic .arrows))
-    ∙ ap not (sym (blocked-is pic m o u p sound f)))
+    certifies-unless pic m u f s o k
+    ∙ ap₂ _&&_ head-only (ap not (sym (blocked-is pic m o u (arrowAt (pic .arrows) k) sound f)))
   where
-    p : Arrow
-    p = arrowAt (pic .arrows) k
-
-    head-only : hits pic m s u f k ≡ around (pic .rows) (p .head) f
+    head-only : hits pic m s u f k ≡ around (pic .rows) (arrowAt (pic .arrows) k .head) f
     head-only = hits-is pic m s u f k ∙ rw (T-true (leaves (pic .arrows) m s (λ t. around (pic .rows) t u) k) lv)
-
-    bad : ℕ → Bool
-    bad j = hits pic m o u f j && not (overrides pic p (arrowAt (pic .arrows) j))
-
-    either : (a b : Bool) → (not a || b) ≡ not (a && not b)
-    either true true = refl
-    either true false = refl
-    either false b = refl
 
 -- ---- the two ways of `certified`: the files that no opposite arrow reaches are taken as they are
 

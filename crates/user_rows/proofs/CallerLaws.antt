@@ -12,17 +12,16 @@ use Rattle.base.proofs.Tests.{and-T, T-and, false-not}
 use Rattle.base.proofs.AnyLaws.{any-is}
 use Rattle.tables.specs.Rows.{Picture, arrowCount, arrowAt}
 use Rattle.tables.specs.Steps.{SoundArrows}
-use Rattle.tables.specs.Refusals.{unclearPair}
 use Rattle.containment.specs.Contains.{around}
-use Rattle.meaning.specs.Meaning.{hasMode, hits, answer, isUnclear}
+use Rattle.meaning.specs.Meaning.{hasMode, hits}
 use Rattle.meaning.specs.Pairs.{unclearFault}
-use Rattle.meaning.proofs.RowPairs.{firstPair-nothing}
+use Rattle.meaning.proofs.ClearLaws.{all-clear}
+use Rattle.meaning.proofs.SettleLaws.{unclear-hits}
 use Rattle.boxsets.specs.Sets.{has}
 use Rattle.user_rows.specs.Row.{leaves, tailsBelow, ownArrows}
 use Rattle.user_rows.specs.Steps.{Small, Numbers, ModeSets, blankRow}
 use Rattle.user_rows.proofs.HeadLaws.{tail-there, head-there, hits-is}
 use Rattle.user_rows.proofs.OwnLaws.{own-found}
-use Rattle.user_rows.proofs.EntryLaws.{unclear-hits}
 
 -- ---- what keeps every index in range
 
@@ -67,9 +66,8 @@ module _ (pic : Picture) (m : ℕ) where
       (T-and (hasMode (pic .arrows) m k) (signs && eqb mine mine) (a .0) (T-and signs (eqb mine mine) (b .0) (eqb-refl mine)))
 
   pub no-sign-clear : (s : ℕ) → s ≤ 1 → ((t : ℕ) → tailsBelow (pic .arrows) m (arrowCount (pic .arrows)) s t ≡ false) → unclearFault pic m ≡ none
-  unfolding unclearFault
   no-sign-clear s small no-tail =
-      firstPair-nothing pic (λ u f. isUnclear (answer pic m u f)) (unclearPair m)
+      all-clear pic m
       (λ u f x y h.
       let r = unclear-hits pic m u f h s small in
       false-not (tailsBelow (pic .arrows) m (arrowCount (pic .arrows)) s (arrowAt (pic .arrows) (r .0) .tail)) (no-tail (arrowAt (pic .arrows) (r .0) .tail))

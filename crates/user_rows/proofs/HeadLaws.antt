@@ -12,7 +12,8 @@ use Rattle.tables.specs.Rows.{Picture, user, file, arrowCount, arrowAt}
 use Rattle.tables.specs.Steps.{SoundArrows}
 use Rattle.tables.proofs.GroupLaws.{onSide-there}
 use Rattle.containment.specs.Contains.{around}
-use Rattle.meaning.specs.Meaning.{hasMode, reaches, hits}
+use Rattle.meaning.specs.Meaning.{hasMode, hits}
+use Rattle.meaning.proofs.ModeLaws.{hits-ends}
 use Rattle.user_rows.specs.Row.{leaves, headsBelow, headsOf, tailsBelow, inOne, reachedBy}
 
 -- ---- boxes of sound arrows are boxes of the picture
@@ -101,9 +102,10 @@ module _ (pic : Picture) (m : ℕ) where
   -- a hit is an arrow of the mode and the sign around the user, and its head is around the file
   pub hits-is : (s u f k : ℕ)
       → hits pic m s u f k ≡ (leaves (pic .arrows) m s (λ t. around (pic .rows) t u) k && around (pic .rows) (arrowAt (pic .arrows) k .head) f)
-  unfolding hits leaves reaches
+  unfolding leaves
   hits-is s u f k =
-      apart (hasMode (pic .arrows) m k) (eqb (arrowAt (pic .arrows) k .sign) s) (around (pic .rows) (arrowAt (pic .arrows) k .tail) u)
+      hits-ends pic m s u f k
+      ∙ apart (hasMode (pic .arrows) m k) (eqb (arrowAt (pic .arrows) k .sign) s) (around (pic .rows) (arrowAt (pic .arrows) k .tail) u)
       (around (pic .rows) (arrowAt (pic .arrows) k .head) f)
     where
       apart : (a b c d : Bool) → (a && (b && (c && d))) ≡ ((a && (b && c)) && d)

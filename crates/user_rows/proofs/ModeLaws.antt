@@ -21,6 +21,7 @@ use Rattle.boxsets.specs.Sets.{has, Added}
 use Rattle.boxsets.proofs.TableLaws.{zeros-has}
 use Rattle.boxsets.proofs.WordLaws.{eqb-turned, eqb-shifted}
 use Rattle.meaning.specs.Meaning.{hasMode}
+use Rattle.meaning.proofs.ModeLaws.{hasMode-is}
 use Rattle.user_rows.specs.Row.{same, leaves, headsBelow, tailsBelow, isOwn}
 use Rattle.user_rows.specs.Steps.{SetsBelow, Took}
 use Rattle.user_rows.proofs.SameLaws.{same-parts, same-is}
@@ -142,12 +143,10 @@ module _ (arrows : List ℕ) (m : ℕ) where
   -- ---- which arrows repeat a lower one
 
   mode-of : (k : ℕ) → T (hasMode arrows m k) → arrowAt arrows k .mode ≡ m
-  unfolding hasMode
-  mode-of k t = eqb→eq (arrowAt arrows k .mode) m t
+  mode-of k t = eqb→eq (arrowAt arrows k .mode) m (rw hasMode-is at t)
 
   of-mode : (k : ℕ) → arrowAt arrows k .mode ≡ m → T (hasMode arrows m k)
-  unfolding hasMode
-  of-mode k e = T-eqb e
+  of-mode k e = rw hasMode-is (T-eqb e)
 
   own-not : (k : ℕ) → hasMode arrows m k ≡ false → isOwn arrows m k ≡ false
   unfolding isOwn
@@ -244,9 +243,8 @@ module _ (arrows : List ℕ) (m : ℕ) where
 
   module _ (old : List ℕ) (k count : ℕ) (own heads : List ℕ) (a : Arrow) (is : a ≡ arrowAt arrows k) (turned : Turned old k count own heads) where
     pub turn-other : (a .mode ≡ m → ⊥) → Turned old (k + 1) count own heads
-    unfolding hasMode
     turn-other n =
-        let e = ne-eqb (arrowAt arrows k .mode) m (λ i. n (ap (λ (x : Arrow). x .mode) is ∙ i)) in
+        let e = hasMode-is arrows m k ∙ ne-eqb (arrowAt arrows k .mode) m (λ i. n (ap (λ (x : Arrow). x .mode) is ∙ i)) in
         (selected-no (isOwn arrows m) old k count own (own-not k e) (turned .0), sets-other k heads e (turned .1))
 
     module _ (last : List ℕ) (r : Bool) (mode : a .mode ≡ m) (tail-small : arrowAt arrows k .tail < 256)

@@ -15,6 +15,7 @@ use Rattle.tables.specs.Rows.{Picture, arrowCount}
 use Rattle.containment.specs.Contains.{contains, around}
 use Rattle.containment.proofs.ContainsLaws.{around-cases, around-self, contains-around, contains-trans, irreflexive}
 use Rattle.meaning.specs.Meaning.{nests}
+use Rattle.meaning.proofs.ModeLaws.{nests-is}
 use Rattle.boxsets.specs.Sets.{isIn, has}
 use Rattle.boxsets.specs.declared.Set.{Set}
 use Rattle.user_rows.specs.Row.{headsOf, tailsBelow, inOne}
@@ -26,7 +27,6 @@ use Rattle.user_rows.proofs.OutsideLaws.{in-same}
 -- where not both hold of two boxes that one is nested in the other and the other way round, nesting is "around, and not the other way"
 nested-by : (pic : Picture) (a b : ℕ) → (T (contains (pic .rows) a b) → T (around (pic .rows) b a) → ⊥)
     → (around (pic .rows) a b && not (around (pic .rows) b a)) ≡ nests pic a b
-unfolding nests
 nested-by pic a b one-way =
     T-same (around (pic .rows) a b && not (around (pic .rows) b a)) (contains (pic .rows) a b)
     (λ t.
@@ -38,6 +38,7 @@ nested-by pic a b one-way =
     (λ t.
     T-and (around (pic .rows) a b) (not (around (pic .rows) b a)) (contains-around (pic .rows) a b t)
     (not-T (around (pic .rows) b a) (one-way t)))
+    ∙ sym (nests-is pic a b)
 
 module _ (pic : Picture) (closure : List ℕ) (d : Drawn pic closure) (b : ℕ) (there : b < length (pic .boxes)) where
   no-loop : T (contains (pic .rows) b b) → ⊥

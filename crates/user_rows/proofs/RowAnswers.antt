@@ -1,5 +1,5 @@
 -- The answer of a pair by its lowest certificate and by which signs reach it. Assumes nothing.
-use mathlib.Core.Path.{_≡_, refl, sym, ap, _∙_}
+use mathlib.Core.Path.{_≡_, refl, sym, _∙_}
 use mathlib.Core.Logic.{_⊎_, ⊎-elim}
 use mathlib.Core.Bool.{Bool, true, false, cond}
 use mathlib.Core.Option.{Option, none, some}
@@ -11,36 +11,21 @@ use Rattle.base.proofs.SearchLaws.{lowest-some, lowest-none}
 use Rattle.base.proofs.SelectLaws.{lowest-is, lowest-nothing}
 use Rattle.base.proofs.AnyLaws.{any-found, any-is}
 use Rattle.tables.specs.Rows.{Picture, arrowCount, arrowAt}
-use Rattle.meaning.specs.Meaning.{positive, negative, settle, hits, certifies, answer, isGranted, isUnclear, numberOf}
-use Rattle.meaning.specs.declared.Entry.the-variants.{Granted, Denied, Default}
-use Rattle.meaning.proofs.AnswerLaws.{certifies-hits, certifies-is, hit-sign, one-sign}
+use Rattle.meaning.specs.Meaning.{positive, negative, hits, certifies, answer, isGranted, isUnclear}
+use Rattle.meaning.specs.declared.Entry.the-variants.{Granted, Denied}
+use Rattle.meaning.proofs.AnswerLaws.{certifies-is, hit-sign, unhit-default}
+use Rattle.meaning.proofs.SettleLaws.{Tells, granted-tells, denied-tells, default-tells, unclear-tells, grants-with, denies-with, unclear-with}
 use Rattle.user_rows.specs.Row.{shows, saidBy, reachedBy}
 use Rattle.user_rows.proofs.ShowLaws.{shows-parts, shows-grants, shows-denies, shows-hits, certifies-sign}
 
 -- what an arrow says
-said-number : (s k : ℕ) → numberOf (saidBy s k) ≡ k
-unfolding saidBy numberOf
-said-number s k = go (eqb s positive)
+said-tells : (s k : ℕ) → Tells (saidBy s k) (eqb s positive) false k
+unfolding saidBy
+said-tells s k = go (eqb s positive)
   where
-    go : (b : Bool) → numberOf (cond b (Granted k) (Denied k)) ≡ k
-    go true = refl
-    go false = refl
-
-said-granted : (s k : ℕ) → isGranted (saidBy s k) ≡ eqb s positive
-unfolding saidBy isGranted
-said-granted s k = go (eqb s positive)
-  where
-    go : (b : Bool) → isGranted (cond b (Granted k) (Denied k)) ≡ b
-    go true = refl
-    go false = refl
-
-said-clear : (s k : ℕ) → isUnclear (saidBy s k) ≡ false
-unfolding saidBy isUnclear
-said-clear s k = go (eqb s positive)
-  where
-    go : (b : Bool) → isUnclear (cond b (Granted k) (Denied k)) ≡ false
-    go true = refl
-    go false = refl
+    go : (b : Bool) → Tells (cond b (Granted k) (Denied k)) b false k
+    go true = granted-tells k
+    go false = denied-tells k
 
 module _ (pic : Picture) (m u f : ℕ) where
   abbrev count : ℕ
@@ -48,19 +33,22 @@ module _ (pic : Picture) (m u f : ℕ) where
 
   -- ---- by the lowest certificate
 
-  pub shown-said : (k : ℕ) → lowest (shows pic m u f) count ≡ some k → answer pic m u f ≡ saidBy (arrowAt (pic .arrows) k .sign) k
-  unfolding answer settle saidBy
+  shown-said : (k : ℕ) → lowest (shows pic m u f) count ≡ some k → answer pic m u f ≡ saidBy (arrowAt (pic .arrows) k .sign) k
+  unfolding saidBy
   shown-said k e =
       let g = lowest-some (shows pic m u f) count k e in
       ⊎-elim
-      (λ p.
-      let first = lowest-is (certifies pic m positive negative u f) count k (g .0) p (λ j l t. g .2 j l (shows-grants pic m u f j t)) in
-      rw (first, certifies-sign pic m u f positive negative k p))
-      (λ n.
-      let no-other = lowest-nothing (certifies pic m positive negative u f) count (λ j l t. one-sign pic m u f j k l (g .0) t n) in
-      let first = lowest-is (certifies pic m negative positive u f) count k (g .0) n (λ j l t. g .2 j l (shows-denies pic m u f j t)) in
-      rw (no-other, first, certifies-sign pic m u f negative positive k n))
+      (λ p. rw (certifies-sign pic m u f positive negative k p)
+      (grants-with pic m u f k
+      (lowest-is (certifies pic m positive negative u f) count k (g .0) p (λ j l t. g .2 j l (shows-grants pic m u f j t)))))
+      (λ n. rw (certifies-sign pic m u f negative positive k n)
+      (denies-with pic m u f k
+      (lowest-is (certifies pic m negative positive u f) count k (g .0) n (λ j l t. g .2 j l (shows-denies pic m u f j t)))))
       (shows-parts pic m u f k (g .1))
+
+  pub shown-row : (k : ℕ) → lowest (shows pic m u f) count ≡ some k
+      → Tells (answer pic m u f) (eqb (arrowAt (pic .arrows) k .sign) positive) false k
+  shown-row k e = rw (shown-said k e) (said-tells (arrowAt (pic .arrows) k .sign) k)
 
   -- ---- which signs reach the pair
 
@@ -102,8 +90,7 @@ module _ (pic : Picture) (m u f : ℕ) where
       go none e = let h = reached-found s t in absurd (lowest-none (hits pic m s u f) count e (h .0) (h .1) (h .2))
 
   pub reached-unclear : lowest (shows pic m u f) count ≡ none → T (reachedBy pic m positive u f) ⊎ T (reachedBy pic m negative u f)
-      → (isUnclear (answer pic m u f) ≡ true) × (isGranted (answer pic m u f) ≡ false) × (numberOf (answer pic m u f) ≡ 65535)
-  unfolding answer settle isUnclear isGranted numberOf
+      → Tells (answer pic m u f) false true 65535
   reached-unclear e r =
       let both : T (reachedBy pic m positive u f) × T (reachedBy pic m negative u f)
       = ⊎-elim
@@ -112,24 +99,17 @@ module _ (pic : Picture) (m u f : ℕ) where
       let c = none-certifies e in
       let i = hits-some positive (both .0) in
       let j = hits-some negative (both .1) in
-      rw (c .0, c .1, i .1, j .1) (refl, refl, refl)
+      rw (unclear-with pic m u f (i .0) (j .0) (c .0) (c .1) (i .1) (j .1)) (unclear-tells (i .0) (j .0))
 
   none-hits : (s : ℕ) → (T (reachedBy pic m s u f) → ⊥) → (k : ℕ) → k < count → T (hits pic m s u f k) → ⊥
   none-hits s n k l t = n (reached-hit s k l t)
 
-  pub unreached : (T (reachedBy pic m positive u f) → ⊥) → (T (reachedBy pic m negative u f) → ⊥) → answer pic m u f ≡ Default
-  unfolding answer settle
-  unreached p n =
-      rw (
-        lowest-nothing (certifies pic m positive negative u f) count (λ k l t. none-hits positive p k l (certifies-hits pic m u f positive negative k t)),
-        lowest-nothing (certifies pic m negative positive u f) count (λ k l t. none-hits negative n k l (certifies-hits pic m u f negative positive k t)),
-        lowest-nothing (hits pic m positive u f) count (none-hits positive p),
-      )
+  pub unreached : (T (reachedBy pic m positive u f) → ⊥) → (T (reachedBy pic m negative u f) → ⊥) → Tells (answer pic m u f) false false 65535
+  unreached p n = rw (unhit-default pic m u f (none-hits positive p) (none-hits negative n)) default-tells
 
   -- a pair that not both signs reach is granted exactly if the positive one does, and it is clear
   pub one-sided : (T (reachedBy pic m positive u f) → T (reachedBy pic m negative u f) → ⊥)
       → (isGranted (answer pic m u f) ≡ reachedBy pic m positive u f) × (isUnclear (answer pic m u f) ≡ false)
-  unfolding isGranted isUnclear
   one-sided not-both = go (lowest (shows pic m u f) count) refl
     where
       says : (k : ℕ) → lowest (shows pic m u f) count ≡ some k → T (hits pic m positive u f k) ⊎ T (hits pic m negative u f k)
@@ -143,21 +123,11 @@ module _ (pic : Picture) (m u f : ℕ) where
 
       go : (r : Option ℕ) → lowest (shows pic m u f) count ≡ r
           → (isGranted (answer pic m u f) ≡ reachedBy pic m positive u f) × (isUnclear (answer pic m u f) ≡ false)
-      go (some k) e = (
-        ap isGranted (shown-said k e) ∙ said-granted (arrowAt (pic .arrows) k .sign) k
-            ∙ says k e (shows-hits pic m u f k (lowest-some (shows pic m u f) count k e .1)),
-        ap isUnclear (shown-said k e) ∙ said-clear (arrowAt (pic .arrows) k .sign) k,
-      )
+      go (some k) e =
+          let s = shown-row k e in
+          (s .0 ∙ says k e (shows-hits pic m u f k (lowest-some (shows pic m u f) count k e .1)), s .1)
       go none e =
           let no-positive : T (reachedBy pic m positive u f) → ⊥ = λ t. not-both t (other-sign e positive negative (shows-grants pic m u f) t) in
           let no-negative : T (reachedBy pic m negative u f) → ⊥ = λ t. not-both (other-sign e negative positive (shows-denies pic m u f) t) t in
           let d = unreached no-positive no-negative in
-          (ap isGranted d ∙ sym (not-false (reachedBy pic m positive u f) no-positive), ap isUnclear d)
-
-  -- a pair with a certificate
-  pub shown-row : (k : ℕ) → lowest (shows pic m u f) count ≡ some k
-      → (isGranted (answer pic m u f) ≡ eqb (arrowAt (pic .arrows) k .sign) positive)
-      × (isUnclear (answer pic m u f) ≡ false) × (numberOf (answer pic m u f) ≡ k)
-  shown-row k e =
-      let s = arrowAt (pic .arrows) k .sign in
-      (ap isGranted (shown-said k e) ∙ said-granted s k, ap isUnclear (shown-said k e) ∙ said-clear s k, ap numberOf (shown-said k e) ∙ said-number s k)
+          (d .0 ∙ sym (not-false (reachedBy pic m positive u f) no-positive), d .1)

@@ -32,7 +32,7 @@ module _ (pic : Picture) (m u : ℕ) (files left granted : ℕ → Bool) (before
       go (yes x) =
           let c = reached-unclear pic m u f (own-none pic m u f (w .left-open f x .1)) r in
           let o = w .others f (λ s. x) in
-          (o .0 ∙ sym (c .1), T-true (left f) x ∙ sym (c .0), λ e. o .1 ∙ e ∙ sym (c .2))
+          (o .0 ∙ sym (c .0), T-true (left f) x ∙ sym (c .1), λ e. o .1 ∙ e ∙ sym (c .2))
       go (no n) =
           let g = w .gone-shown f t n in
           let s = shown-row pic m u f (after f) (g .0) in
@@ -83,7 +83,6 @@ module _ (pic : Picture) (m u : ℕ) (files left granted : ℕ → Bool) (before
   answer-asked : files f ≡ (N || P)
       → (granted f ≡ isGranted (answer pic m u f)) × (left f ≡ isUnclear (answer pic m u f))
       × (before f ≡ 65535 → after f ≡ numberOf (answer pic m u f))
-  unfolding numberOf
   answer-asked e = go (T? (files f))
     where
       go : Dec (T (files f)) → (granted f ≡ isGranted (answer pic m u f)) × (left f ≡ isUnclear (answer pic m u f))
@@ -93,11 +92,8 @@ module _ (pic : Picture) (m u : ℕ) (files left granted : ℕ → Bool) (before
           let o = row-out n in
           let no-positive : T P → ⊥ = λ p. n (subst T (sym e) (T-or₂ N P p)) in
           let no-negative : T N → ⊥ = λ q. n (subst T (sym e) (T-or₁ N P q)) in
-          let c = one-sided pic m u f (λ p q. no-positive p) in (
-            o .0 ∙ sym (c .0 ∙ not-false P no-positive),
-            o .1 ∙ sym (c .1),
-            λ b. o .2 ∙ b ∙ sym (ap numberOf (unreached pic m u f no-positive no-negative)),
-          )
+          let c = unreached pic m u f no-positive no-negative in
+          (o .0 ∙ sym (c .0), o .1 ∙ sym (c .1), λ b. o .2 ∙ b ∙ sym (c .2))
 
   pub answer-file : (asked : Bool) → files f ≡ ((asked && N) || (asked && P))
       → (granted f ≡ (asked && isGranted (answer pic m u f))) × (left f ≡ (asked && isUnclear (answer pic m u f)))

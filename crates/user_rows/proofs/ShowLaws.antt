@@ -1,22 +1,23 @@
 -- One test for certificates of both signs: what it is for an arrow around the user, and the lowest of them. Assumes nothing.
 use mathlib.Core.Path.{_≡_, sym, ap, subst, _∙_}
 use mathlib.Core.Logic.{_⊎_, ⊎-elim, ⊎-map}
-use mathlib.Core.Bool.{Bool, false, not, _&&_, _||_, or-false}
+use mathlib.Core.Bool.{Bool, false, _&&_, or-false}
 use mathlib.Core.List.{List}
 use mathlib.Core.Option.{none, some}
 use Prim.Native.Nat.{ℕ, _+_, _<_, _≤_}
 use native.Mathlib.Omega.{arith}
 use lib.Dec.{T, eqb}
 use lib.ListN.{length, getD}
-use Rattle.base.specs.Search.{every, lowest}
+use Rattle.base.specs.Search.{lowest}
 use Rattle.base.proofs.Tests.{or-T, T-or₁, T-or₂, and-T, T-and, T-eqb, not-false}
 use Rattle.tables.specs.Rows.{Picture, arrowCount, arrowAt}
 use Rattle.tables.specs.Steps.{SoundArrows}
 use Rattle.tables.specs.declared.Arrow.{Arrow}
 use Rattle.containment.specs.Contains.{around}
-use Rattle.meaning.specs.Meaning.{positive, negative, hasMode, reaches, overrides, hits, certifies}
+use Rattle.meaning.specs.Meaning.{positive, negative, hasMode, hits, certifies}
 use Rattle.meaning.proofs.AnswerLaws.{hit-mode, hit-sign, hit-reaches, certifies-hits}
-use Rattle.meaning.proofs.ModeLaws.{reaches-is}
+use Rattle.meaning.proofs.CertificateLaws.{certifies-repeat}
+use Rattle.meaning.proofs.ModeLaws.{hasMode-is, reaches-is}
 use Rattle.boxsets.specs.Sets.{has}
 use Rattle.user_rows.specs.Steps.{Drawn}
 use Rattle.user_rows.specs.Row.{leaves, same, ownArrows, certified, shows}
@@ -48,8 +49,7 @@ module _ (pic : Picture) (m u f : ℕ) where
       ⊎-map (certifies-hits pic m u f positive negative k) (certifies-hits pic m u f negative positive k) (shows-parts k t)
 
   shows-mode : (k : ℕ) → T (shows pic m u f k) → T (hasMode (pic .arrows) m k)
-  unfolding hasMode
-  shows-mode k t = T-eqb (⊎-elim (hit-mode pic m u f positive k) (hit-mode pic m u f negative k) (shows-hits k t))
+  shows-mode k t = rw hasMode-is (T-eqb (⊎-elim (hit-mode pic m u f positive k) (hit-mode pic m u f negative k) (shows-hits k t)))
 
   pub shows-around : (k : ℕ) → T (shows pic m u f k) → T (around (pic .rows) (arrowAt (pic .arrows) k .tail) u)
   shows-around k t = ⊎-elim (tail positive) (tail negative) (shows-hits k t)
@@ -93,9 +93,7 @@ module _ (pic : Picture) (m u f : ℕ) where
       λ i. record { tail = e .0 i; head = e .1 i; mode = e .2 i; sign = e .3 i }
 
   certifies-same : (s o k j : ℕ) → T (same (pic .arrows) k j) → certifies pic m s o u f k ≡ certifies pic m s o u f j
-  unfolding certifies hits hasMode
-  certifies-same s o k j t = ap (λ (a : Arrow). (eqb (a .mode) m && (eqb (a .sign) s && reaches pic a u f))
-      && every (λ i. not (hits pic m o u f i) || overrides pic a (arrowAt (pic .arrows) i)) (arrowCount (pic .arrows))) (same-arrow k j t)
+  certifies-same s o k j t = certifies-repeat pic m u f s o k j (same-arrow k j t)
 
   shows-same : (k j : ℕ) → T (same (pic .arrows) k j) → T (shows pic m u f k) → T (shows pic m u f j)
   unfolding shows

@@ -24,7 +24,8 @@ use Rattle.boxsets.specs.Words.{bitAt}
 use Rattle.boxsets.specs.Sets.{isIn, inWord, has}
 use Rattle.boxsets.specs.declared.Set.{Set}
 use Rattle.boxsets.proofs.JoinLaws.{word-next, word-none, words-in}
-use Rattle.meaning.specs.Meaning.{hasMode, reaches, hits}
+use Rattle.meaning.specs.Meaning.{hits}
+use Rattle.meaning.proofs.ModeLaws.{hasMode-is, hits-ends}
 use Rattle.user_rows.specs.Steps.{Drawn, NextNear, NumberedAt, Numbered}
 
 -- ---- the next arrow around a user
@@ -202,9 +203,10 @@ module _ (closure arrows : List ℕ) (mode sign u f : ℕ) where
 
   hits-by : (pic : Picture) → Drawn pic closure → arrows ≡ pic .arrows → u < length (pic .boxes) → f < length (pic .boxes)
       → (k : ℕ) → hits pic mode sign u f k ≡ hitBy closure mode sign u f (arrowAt arrows k)
-  unfolding hits hasMode reaches hitBy
+  unfolding hitBy
   hits-by pic d e lu lf k =
-      rw (e, d .closed .up (arrowAt (pic .arrows) k .tail) u lu, d .closed .up (arrowAt (pic .arrows) k .head) f lf)
+      hits-ends pic mode sign u f k
+      ∙ rw (e, hasMode-is, d .closed .up (arrowAt (pic .arrows) k .tail) u lu, d .closed .up (arrowAt (pic .arrows) k .head) f lf)
 
   pub hit-here : (k r : ℕ) (a : Arrow) → a ≡ arrowAt arrows k → r ≡ k → k < arrowCount arrows → T (hitBy closure mode sign u f a) → NoHit k
       → FirstHit closure arrows mode sign u f r

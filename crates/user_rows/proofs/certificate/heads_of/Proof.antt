@@ -1,6 +1,6 @@
 -- `user_rows::certificate::heads_of` meets its contract: what was found, and what the rest of the tails still give, are together what all
 -- of them give. Assumes nothing.
-use mathlib.Core.Path.{_≡_, ap, _∙_}
+use mathlib.Core.Path.{_≡_, sym, ap, _∙_}
 use mathlib.Core.Bool.{Bool, _&&_, _||_}
 use Prim.Native.Nat.{ℕ, _+_, _*_, _-_, _<_}
 use native.Mathlib.Omega.{arith}
@@ -8,6 +8,7 @@ use borrow.Author.Needs.{needs}
 use Rattle.base.specs.Search.{anyBelow}
 use Rattle.boxsets.specs.Sets.{isIn, has, low}
 use Rattle.boxsets.specs.declared.Set.{Set}
+use Rattle.boxsets.proofs.TableLaws.{has-in}
 use Rattle.boxsets.proofs.WalkLaws.{walk-less}
 use Rattle.user_rows.proofs.SetLaws.{not-empty, is-empty, walk-any, walk-end}
 use Rattle.user_rows.proofs.certificate.heads_of.Statement.{statement}
@@ -45,7 +46,6 @@ loop-less c =
     walk-less (at .loop .rest) (d .dropped .result) (d .dropped .ensures) (there (d .before))
 
 loop-again : tie.Need-loop-again Inv-loop μ-loop
-unfolding has
 loop-again c g =
     let s = c .before in
     let d = s .before in
@@ -53,7 +53,8 @@ loop-again c g =
     let a = at .before .before .before .args in
     let q : ℕ → Bool = λ t. has (a .heads .now) (256 * a .sign + t) g in
     let read : isIn (s .set-at .result) g ≡ q (low (at .loop .rest))
-    = ap (λ (x : Set). isIn x g) (s .set-at .ensures) ∙ ap q (d .before .lowest .ensures) in
+    = ap (λ (x : Set). isIn x g) (s .set-at .ensures) ∙ sym (has-in (a .heads .now) (256 * a .sign + d .before .lowest .result) g)
+    ∙ ap q (d .before .lowest .ensures) in
     ap (λ (b : Bool). b || anyBelow (λ t. isIn (d .dropped .result) t && q t) 256)
     (c .joined .ensures g ∙ ap (λ (b : Bool). isIn (at .loop .found) g || b) read)
     ∙ walk-any q (at .loop .rest) (d .dropped .result) (d .dropped .ensures) (there (d .before)) (isIn (at .loop .found) g)
