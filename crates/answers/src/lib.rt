@@ -1,9 +1,6 @@
 // The calls on a picture: one entry, the judge, the matrix of a mode. Each makes its early checks, then `containment::prepare`, which fills
 // the scratch and makes the closure that the answers go by.
-mod atoms;
-mod cells;
 mod early;
-mod modes;
 mod pair;
 
 ghost use mathlib.Core.Path.{_≡_};
@@ -13,7 +10,6 @@ ghost use Rattle.containment.specs.Scratch.{scratchAfter, earlyFault};
 ghost use Rattle.meaning.specs.Meaning.{answer};
 ghost use Rattle.answers.specs.Calls.{replyOf, entryEarly, entryFault, judgeFault};
 ghost use Rattle.answers.specs.Calls.{matrixEarly, matrixFault, bytesAfter, numbersAfter};
-pub use atoms::atom_set;
 use base::wide;
 use cells::fill_picture;
 use containment::early_picture;
@@ -21,8 +17,8 @@ use containment::no_closure;
 use containment::prepare;
 use early::early_entry;
 use early::early_matrix;
+use judging::judge_picture;
 pub use meaning::Entry;
-use modes::judge_picture;
 pub use pair::answer_pair;
 use pair::check_asked;
 use tables::Refusal;

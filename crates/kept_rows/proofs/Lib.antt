@@ -1,2 +1,4 @@
 -- Laws for the proofs of this crate and of the crates above it.
 pub mod KeptLaws
+pub mod TakenLaws
+pub mod AtomLaws

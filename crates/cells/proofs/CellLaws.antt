@@ -1,0 +1,118 @@
+-- The cells of the matrix: a row of them is written after another. Assumes nothing.
+use mathlib.Core.Path.{_≡_, refl, sym, ap, _∙_}
+use mathlib.Core.Logic.{_⊎_, inl, inr, ⊎-elim}
+use mathlib.Core.Bool.{Bool}
+use mathlib.Core.List.{List}
+use Prim.Native.Nat.{ℕ, _+_, _*_, _-_, _<_, _≤_}
+use native.Mathlib.Decide.{decLt}
+use native.Mathlib.Nat.{eq-or-lt-of-le, le-of-suc-le-suc, zero-mul}
+use native.Mathlib.Omega.{arith}
+use lib.Dec.{T}
+use lib.ListN.{length, getD, set, length-set}
+use lib.Seq.{getD-set-same, getD-set-other, ext-getD}
+use Rattle.base.specs.Buffers.{build, written}
+use Rattle.base.proofs.Tests.{T-true}
+use Rattle.base.proofs.BufferLaws.{written-length, written-at, written-rest, build-length, build-at}
+use Rattle.base.proofs.PartLaws.{built-none}
+use Rattle.base.proofs.Index.{next-row}
+use Rattle.tables.specs.Rows.{Picture}
+use Rattle.meaning.specs.Meaning.{answer, byteOf, numberOf}
+use Rattle.meaning.specs.Pairs.{users, files, byteAt, numberAt, matrixBytes, matrixNumbers}
+use Rattle.meaning.proofs.MatrixLaws.{byte-by, byte-place, number-place, bytes-are, numbers-are}
+use Rattle.user_rows.specs.Steps.{Sorts}
+use Rattle.user_rows.specs.declared.Row.{Row}
+use Rattle.cells.specs.Steps.{byteIn, Emitted}
+
+-- ---- one row
+
+module _ (g : ℕ → ℕ) (at : ℕ) (old : List ℕ) where
+  pub emitted-none : Emitted g at 0 old old
+  emitted-none = record { len = refl; hit = λ j l. absurd (omega arith); miss = λ p c. refl }
+
+  pub emitted-more : (j v : ℕ) (new : List ℕ) → at + j < length old → v ≡ g j → Emitted g at j old new
+      → Emitted g at (j + 1) old (set new (at + j) v)
+  emitted-more j v new room e m = record {
+    len = length-set new (at + j) v ∙ m .len;
+    hit = λ k l. go k (eq-or-lt-of-le (le-of-suc-le-suc (omega arith)));
+    miss = λ p c.
+        getD-set-other new (at + j) p v 0 (⊎-elim (λ l. λ i. omega arith) (λ l. λ i. omega arith) c)
+        ∙ m .miss p (⊎-elim (λ l. inl l) (λ l. inr (omega arith)) c);
+  }
+    where
+      go : (k : ℕ) → (k ≡ j) ⊎ (k < j) → getD (set new (at + j) v) (at + k) 0 ≡ g k
+      go k (inl i) = rw i (getD-set-same new (at + j) v 0 (omega (arith, m .len)) ∙ e)
+      go k (inr l) = getD-set-other new (at + j) (at + k) v 0 (λ i. omega arith) ∙ m .hit k l
+
+-- ---- one row after another: h says what stands at each place
+
+emitted-written : (g h : ℕ → ℕ) (at n : ℕ) (old mid new : List ℕ) → at + n ≤ length old → mid ≡ written (build h at) old
+    → Emitted g at n mid new → ((j : ℕ) → j < n → g j ≡ h (at + j)) → new ≡ written (build h (at + n)) old
+emitted-written g h at n old mid new room e m same =
+    ext-getD 0 new (written (build h (at + n)) old) (m .len ∙ mid-length ∙ sym last-length) (λ p l. go p (decLt p at) (decLt p (at + n)))
+  where
+    mid-length : length mid ≡ length old
+    mid-length = ap length e ∙ written-length (build h at) old (rw build-length (omega arith))
+
+    last-length : length (written (build h (at + n)) old) ≡ length old
+    last-length = written-length (build h (at + n)) old (rw build-length room)
+
+    built : (k p : ℕ) → p < k → getD (written (build h k) old) p 0 ≡ h p
+    built k p l = written-at (build h k) old p (rw build-length l) ∙ build-at h k p l
+
+    rest : (k p : ℕ) → k ≤ p → getD (written (build h k) old) p 0 ≡ getD old p 0
+    rest k p l = written-rest (build h k) old p (rw build-length l)
+
+    go : (p : ℕ) → Dec (p < at) → Dec (p < at + n) → getD new p 0 ≡ getD (written (build h (at + n)) old) p 0
+    go p (yes l) d = m .miss p (inl l) ∙ rw e (built at p l) ∙ sym (built (at + n) p (omega arith))
+    go p (no a) (yes l) =
+        let i : at + (p - at) ≡ p = omega arith in
+        ap (λ (z : ℕ). getD new z 0) (sym i)
+        ∙ m .hit (p - at) (omega arith)
+        ∙ same (p - at) (omega arith)
+        ∙ ap h i
+        ∙ sym (built (at + n) p l)
+    go p (no a) (no b) = m .miss p (inr (omega arith)) ∙ rw e (rest at p (omega arith)) ∙ sym (rest (at + n) p (omega arith))
+
+-- ---- what a row says of a file
+
+module _ (pic : Picture) (m : ℕ) where
+  byte-said : (u f : ℕ) (asked : ℕ → Bool) (row : Row) → Sorts pic m u asked row → T (asked f) → byteIn row f ≡ byteOf (answer pic m u f)
+  unfolding byteIn
+  byte-said u f asked row s t =
+      rw (s .granted-are f, s .unclear-are f, T-true (asked f) t) (sym (byte-by (answer pic m u f)))
+
+  -- the bytes and numbers of the places before k are written
+  abbrev pub Filled : (k : ℕ) (bytes numbers bytes′ numbers′ : List ℕ) → Type 0
+  Filled k bytes numbers bytes′ numbers′ =
+      (bytes′ ≡ written (build (byteAt pic m) k) bytes) × (numbers′ ≡ written (build (numberAt pic m) k) numbers)
+
+  pub filled-none : (fs bytes numbers : List ℕ) → Filled (0 * length fs) bytes numbers bytes numbers
+  filled-none fs bytes numbers = rw zero-mul (built-none (byteAt pic m) bytes, built-none (numberAt pic m) numbers)
+
+  -- row i is written: u is its user, fs are the files
+  module _ (i u : ℕ) (fs : List ℕ) (asked : ℕ → Bool) (row : Row) (found : List ℕ) (is : u ≡ getD (users pic) i 0) (are : fs ≡ files pic)
+      (all : (j : ℕ) → j < length fs → T (asked (getD fs j 0))) where
+    cell-byte : Sorts pic m u asked row → (j : ℕ) → j < length fs → byteIn row (getD fs j 0) ≡ byteAt pic m (i * length fs + j)
+    cell-byte sorts j l = byte-said u (getD fs j 0) asked row sorts (all j l) ∙ rw (is, are) (sym (byte-place pic m i j (rw are at l)))
+
+    cell-number : ((f : ℕ) → T (asked f) → getD found f 0 ≡ numberOf (answer pic m u f))
+        → (j : ℕ) → j < length fs → getD found (getD fs j 0) 0 ≡ numberAt pic m (i * length fs + j)
+    cell-number says j l = says (getD fs j 0) (all j l) ∙ rw (is, are) (sym (number-place pic m i j (rw are at l)))
+
+    pub filled-row : (bytes numbers b n b′ n′ : List ℕ) → i * length fs + length fs ≤ length bytes → i * length fs + length fs ≤ length numbers
+        → Sorts pic m u asked row × ((f : ℕ) → T (asked f) → getD found f 0 ≡ numberOf (answer pic m u f))
+        → Emitted (λ j. byteIn row (getD fs j 0)) (i * length fs) (length fs) b b′
+        × Emitted (λ j. getD found (getD fs j 0) 0) (i * length fs) (length fs) n n′
+        → Filled (i * length fs) bytes numbers b n → Filled ((i + 1) * length fs) bytes numbers b′ n′
+    filled-row bytes numbers b n b′ n′ room-b room-n said w e =
+        rw next-row (
+          emitted-written (λ j. byteIn row (getD fs j 0)) (byteAt pic m) (i * length fs) (length fs) bytes b b′ room-b (e .0) (w .0)
+              (cell-byte (said .0)),
+          emitted-written (λ j. getD found (getD fs j 0) 0) (numberAt pic m) (i * length fs) (length fs) numbers n n′ room-n (e .1) (w .1)
+              (cell-number (said .1)),
+        )
+
+  -- all rows are
+  pub filled-all : (us fs bytes numbers b n : List ℕ) → us ≡ users pic → fs ≡ files pic → Filled (length us * length fs) bytes numbers b n
+      → (b ≡ written (matrixBytes pic m) bytes) × (n ≡ written (matrixNumbers pic m) numbers)
+  filled-all us fs bytes numbers b n eu ef e = (e .0 ∙ rw (eu, ef, bytes-are), e .1 ∙ rw (eu, ef, numbers-are))
