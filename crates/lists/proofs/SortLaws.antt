@@ -18,8 +18,8 @@ use Rattle.meaning.specs.Pairs.{users, unclearFault}
 use Rattle.meaning.proofs.RowPairs.{rows-start}
 use Rattle.user_rows.specs.Steps.{Ready, Sorts}
 use Rattle.user_rows.specs.declared.Row.{Row}
-use Rattle.answers.proofs.AtomLaws.{listed-at}
-use Rattle.answers.proofs.RowLaws.{unclear, Clear, clear-more, clear-found, clear-end}
+use Rattle.kept_rows.proofs.AtomLaws.{listed-at}
+use Rattle.judging.proofs.RowLaws.{unclear, Clear, clear-more, clear-found, clear-end}
 use Rattle.lists.specs.Steps.{grantedTo, Check12}
 use Rattle.lists.proofs.LeftLaws.{Filled, filled-none, filled-more, filled-all}
 

@@ -10,7 +10,7 @@ ghost use Rattle.tables.specs.Refusals.{verdictOf};
 ghost use Rattle.meaning.specs.Meaning.{modeArrows};
 ghost use Rattle.meaning.specs.Pairs.{pairs};
 ghost use Rattle.user_rows.specs.Steps.{Small, Numbers, Ready};
-ghost use Rattle.answers.specs.Steps.{Boxes};
+ghost use Rattle.kept_rows.specs.Steps.{Boxes};
 ghost use Rattle.lists.specs.Greedy.{greedy, orderFault};
 ghost use Rattle.lists.specs.Calls.{listRoom, listAnswer, listAfter};
 ghost use Rattle.lists.specs.Steps.{Clear, Listing};

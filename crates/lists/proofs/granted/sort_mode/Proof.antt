@@ -1,6 +1,6 @@
 -- `lists::granted::sort_mode` meets its contract: the mode's arrows, and the rows. Assumes nothing.
 use borrow.Author.Needs.{needs}
-use Rattle.answers.proofs.TakenLaws.{Taken, taken-in}
+use Rattle.kept_rows.proofs.TakenLaws.{Taken, taken-in}
 use Rattle.lists.proofs.granted.sort_mode.Statement.{statement}
 use Rattle.lists.proofs.granted.sort_mode.Tie as tie
 
