@@ -9,7 +9,7 @@ use lib.ListN.{length}
 use Rattle.base.specs.Search.{orElse}
 use Rattle.base.specs.Buffers.{written}
 use Rattle.base.proofs.Tests.{and-T}
-use Rattle.base.proofs.Options.{past, orElse-assoc}
+use Rattle.base.proofs.Options.{past, stop, orElse-assoc}
 use Rattle.base.proofs.SearchLaws.{given-none}
 use Rattle.tables.specs.Rows.{Picture, user, file}
 use Rattle.tables.specs.Atoms.{atom, pairCount}
@@ -116,8 +116,8 @@ module _ (pic : Picture) (s : List ℕ) where
     whole = sym (orElse-assoc (entryEarly pic s m) (loopFault (pic .boxes) (pic .rows)) asked)
 
     pub entry-stopped : (r : Refusal) → verdictOf entryReady ≡ Stopped r → Refused r ≡ replyOf (entryFault pic s m u f) x
-    unfolding replyOf orElse
-    entry-stopped r e = rw (whole, refused entryReady r e)
+    unfolding replyOf
+    entry-stopped r e = rw (whole, stop entryReady asked (refused entryReady r e))
 
     module _ (clear : verdictOf entryReady ≡ Passed) where
       pub entry-not-asked : (r : Refusal) → verdictOf asked ≡ Stopped r → Refused r ≡ replyOf (entryFault pic s m u f) x

@@ -3,12 +3,22 @@ use mathlib.Core.Path.{_≡_, refl, subst}
 use mathlib.Core.Logic.{_⊎_, ⊎-elim}
 use mathlib.Core.Bool.{Bool, true, false, not, _&&_, _||_}
 use mathlib.Core.Option.{none, some}
-use Prim.Native.Nat.{ℕ, zero, suc, _<_}
+use Prim.Native.Nat.{ℕ, zero, suc, _+_, _<_}
 use native.Mathlib.Omega.{arith}
+use native.Mathlib.Numerals.{add-one}
 use lib.Dec.{T, eqb, eqb→eq, eqb-refl}
 use Rattle.base.specs.Search.{lowest, every, anyBelow}
 use Rattle.base.proofs.Tests.{or-T, T-or₁, T-or₂, and-T, T-and, T-same, T-true, not-false}
 use Rattle.base.proofs.SearchLaws.{below-suc, lowest-some, lowest-none}
+
+-- a loop that counts up: before it, and one number more
+pub any-zero : (p : ℕ → Bool) → anyBelow p 0 ≡ false
+unfolding anyBelow
+any-zero p = refl
+
+pub any-more : (p : ℕ → Bool) (n : ℕ) → anyBelow p (n + 1) ≡ (anyBelow p n || p n)
+unfolding anyBelow
+any-more p n = rw add-one
 
 pub any-found : (p : ℕ → Bool) (n : ℕ) → T (anyBelow p n) → (k : ℕ) × (k < n) × T (p k)
 unfolding anyBelow

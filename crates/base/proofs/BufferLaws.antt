@@ -119,6 +119,10 @@ written-build g n old h =
 
 -- ---- `select`
 
+pub select-zero : (p : ℕ → Bool) → select p 0 ≡ []
+unfolding select
+select-zero p = refl
+
 pub select-yes : (p : ℕ → Bool) (n : ℕ) → p n ≡ true → select p (n + 1) ≡ select p n ++ (n ∷ [])
 unfolding select
 select-yes p n e = rw (add-one, e)

@@ -1,9 +1,12 @@
 -- Where the byte of a pair stands in a table of m rows of n places. Assumes nothing.
 use mathlib.Core.Path.{_≡_, sym, ap, _∙_}
-use Prim.Native.Nat.{ℕ, _+_, _*_, _/_, _%_, _<_, _≤_}
-use native.Mathlib.Nat.{suc-mul, mul-le-mul-right, mul-add-div-right, mul-add-mod-self-right, div-eq-of-lt, mod-eq-of-lt, add-zero, div-add-mod, mul-comm}
+use Prim.Native.Nat.{ℕ, _+_, _*_, _/_, _%_, _-_, _<_, _≤_}
+use native.Mathlib.Nat.{suc-mul, mul-le-mul-left, mul-le-mul-right, le-trans, mul-add-div-right, mul-add-mod-self-right, div-eq-of-lt, mod-eq-of-lt, add-zero, div-add-mod, mul-comm}
 use native.Mathlib.Numerals.{add-one}
 use native.Mathlib.Omega.{arith}
+use lib.Dec.{T, leb, leb→le}
+use Rattle.base.specs.Search.{every}
+use Rattle.base.proofs.SearchLaws.{every-at}
 
 -- a row of n places ends before a later one begins
 pub row-step : (n a c : ℕ) → a < c → a * n + n ≤ c * n
@@ -30,3 +33,13 @@ place n p = rw (mul-comm (p / n) n) (div-add-mod p n)
 
 pub next-row : (n i : ℕ) → (i + 1) * n ≡ i * n + n
 next-row n i = rw (add-one, suc-mul)
+
+-- 256 rows and columns make at most 128 × 128 places
+pub few-places : (m n : ℕ) → m + n ≤ 256 → m * n ≤ 16384
+unfolding every
+few-places m n h =
+    le-trans (mul-le-mul-left m (omega arith))
+    (leb→le (m * (256 - m)) 16384 (every-at (λ k. leb (k * (256 - k)) 16384) 257 computed m (omega arith)))
+  where
+    computed : T (every (λ k. leb (k * (256 - k)) 16384) 257)
+    computed = tt

@@ -131,6 +131,11 @@ pub lowest-none : (p : ℕ → Bool) (n : ℕ) → lowest p n ≡ none → (k : 
 unfolding lowest
 lowest-none p n e k l = given-none (p k) k (first-none (λ j. given (p j) j) n e k l)
 
+-- two tests that agree at each number below n
+pub lowest-same : (p q : ℕ → Bool) (n : ℕ) → ((k : ℕ) → k < n → p k ≡ q k) → lowest p n ≡ lowest q n
+unfolding lowest
+lowest-same p q n e = first-same (λ k. given (p k) k) (λ k. given (q k) k) n (λ k l. ap (λ (b : Bool). given b k) (e k l))
+
 pub every-at : (p : ℕ → Bool) (n : ℕ) → T (every p n) → (k : ℕ) → k < n → T (p k)
 unfolding every
 every-at p zero t k h = absurd (omega arith)

@@ -5,7 +5,7 @@ use mathlib.Core.Logic.{⊎-elim}
 use mathlib.Core.Bool.{Bool, true, false, cond}
 use mathlib.Core.List.{List, [], _∷_, _++_}
 use mathlib.Core.Option.{none, some}
-use Prim.Native.Nat.{ℕ, zero, suc, _<_, _≤_}
+use Prim.Native.Nat.{ℕ, zero, suc, _+_, _<_, _≤_}
 use native.Mathlib.Omega.{arith}
 use native.Mathlib.Numerals.{add-one}
 use lib.Dec.{T}
@@ -134,6 +134,19 @@ module _ (p q : ℕ → Bool) where
       go true e false i g = absurd (false-not (q n) i (h n (omega arith) (true-T (p n) e)))
       go false e true i g = omega (arith, length-append (select q n) (n ∷ []))
       go false e false i g = g
+
+  -- tests that never hold together select no more numbers than there are
+  pub select-apart : ((k : ℕ) → T (p k) → T (q k) → ⊥) → (n : ℕ) → length (select p n) + length (select q n) ≤ n
+  unfolding select
+  select-apart h zero = omega arith
+  select-apart h (suc n) = go (p n) refl (q n) refl (select-apart h n)
+    where
+      go : (b : Bool) → p n ≡ b → (c : Bool) → q n ≡ c → length (select p n) + length (select q n) ≤ n
+          → length (cond b (select p n ++ (n ∷ [])) (select p n)) + length (cond c (select q n ++ (n ∷ [])) (select q n)) ≤ suc n
+      go true e true i g = absurd (h n (true-T (p n) e) (true-T (q n) i))
+      go true e false i g = omega (arith, length-append (select p n) (n ∷ []))
+      go false e true i g = omega (arith, length-append (select q n) (n ∷ []))
+      go false e false i g = omega arith
 
 -- ---- the lowest number at which a test holds
 

@@ -1,13 +1,12 @@
 -- The numbers of a list. Assumes nothing.
-use mathlib.Core.Path.{_≡_, ap, ap₂, _∙_}
-use mathlib.Core.Bool.{_||_}
+use mathlib.Core.Path.{_≡_, sym, ap, ap₂, _∙_}
+use mathlib.Core.Bool.{false, _||_}
 use mathlib.Core.List.{List}
 use Prim.Native.Nat.{ℕ, _+_, _<_}
-use native.Mathlib.Numerals.{add-one}
 use lib.Dec.{T, eqb, eqb→eq, eqb-refl}
 use lib.ListN.{length, getD}
 use Rattle.base.specs.Search.{anyBelow}
-use Rattle.base.proofs.AnyLaws.{any-is, any-found}
+use Rattle.base.proofs.AnyLaws.{any-zero, any-more, any-is, any-found}
 use Rattle.boxsets.specs.Sets.{isIn, among}
 use Rattle.boxsets.specs.declared.Set.{Set}
 use Rattle.boxsets.proofs.WordLaws.{eqb-turned}
@@ -28,11 +27,13 @@ among-found xs k t =
 abbrev pub Taken : List ℕ → ℕ → Set → Type 0
 Taken xs i x = (k : ℕ) → isIn x k ≡ anyBelow (λ j. eqb (getD xs j 0) k) i
 
+pub taken-none : (xs : List ℕ) (x : Set) → ((k : ℕ) → isIn x k ≡ false) → Taken xs 0 x
+taken-none xs x e k = e k ∙ sym (any-zero _)
+
 pub taken-more : (xs : List ℕ) (i v : ℕ) (x y z : Set) → v ≡ getD xs i 0 → ((k : ℕ) → isIn y k ≡ eqb k v)
     → ((k : ℕ) → isIn z k ≡ (isIn x k || isIn y k)) → Taken xs i x → Taken xs (i + 1) z
-unfolding anyBelow
 taken-more xs i v x y z e h g t k =
-    rw add-one (g k ∙ ap₂ _||_ (t k) (h k ∙ eqb-turned k v ∙ ap (λ (u : ℕ). eqb u k) e))
+    rw any-more (g k ∙ ap₂ _||_ (t k) (h k ∙ eqb-turned k v ∙ ap (λ (u : ℕ). eqb u k) e))
 
 pub taken-all : (xs : List ℕ) (x : Set) → Taken xs (length xs) x → (k : ℕ) → isIn x k ≡ among xs k
 unfolding among

@@ -11,7 +11,7 @@ use lib.ListN.{length, length-append}
 use Rattle.base.specs.Search.{select}
 use Rattle.lists.specs.Order.{anyOf, allOf, distinct}
 use Rattle.base.proofs.Tests.{or-T, and-T, T-and, T-or₁, T-or₂, T-eqb}
-use Rattle.base.proofs.BufferLaws.{select-yes, select-no}
+use Rattle.base.proofs.BufferLaws.{select-zero, select-yes, select-no}
 use Rattle.base.proofs.SelectLaws.{select-fewer}
 
 -- ---- one more number
@@ -83,8 +83,7 @@ room t n (k ∷ l) w a d =
 
 module _ (t : ℕ → Bool) where
   pub select-none : 0 ≡ length (select t 0)
-  unfolding select
-  select-none = refl
+  select-none = rw select-zero
 
   pub select-one : (n count : ℕ) → t n ≡ true → count ≡ length (select t n) → count + 1 ≡ length (select t (n + 1))
   select-one n count e c = rw (select-yes t n e, length-append, c)

@@ -5,7 +5,6 @@ use mathlib.Core.List.{List, []}
 use mathlib.Core.Option.{none}
 use Prim.Native.Nat.{ℕ, _+_, _<_, _≤_}
 use native.Mathlib.Decide.{ℕ-discrete}
-use native.Mathlib.Numerals.{add-one}
 use native.Mathlib.Omega.{arith}
 use borrow.Author.Count.{below-more}
 use borrow.Author.Tests.{eq-eqb, ne-eqb}
@@ -14,7 +13,7 @@ use lib.ListN.{length, getD}
 use Rattle.base.specs.Search.{anyBelow}
 use Rattle.base.specs.Buffers.{zeros}
 use Rattle.base.proofs.Tests.{and-T, T-and, T-eqb, T-same, T-true, false-not}
-use Rattle.base.proofs.AnyLaws.{any-found, any-is}
+use Rattle.base.proofs.AnyLaws.{any-zero, any-more, any-found, any-is}
 use Rattle.base.proofs.BufferLaws.{zeros-length}
 use Rattle.tables.specs.Rows.{Picture, user, file}
 use Rattle.tables.specs.Atoms.{atom, atoms}
@@ -48,12 +47,10 @@ pub record Filled (us : List ℕ) (row : ℕ → ℕ → Bool) (i : ℕ) (t : Li
 
 module _ (us : List ℕ) (row : ℕ → ℕ → Bool) where
   pub filled-none : (t : List ℕ) → t ≡ zeros 1024 → Filled us row 0 t
-  unfolding anyBelow
-  filled-none t e = record { len = ap length e ∙ zeros-length 1024; each = λ u f. rw e (zeros-has 1024 u f) }
+  filled-none t e = record { len = ap length e ∙ zeros-length 1024; each = λ u f. rw (e, any-zero) (zeros-has 1024 u f) }
 
   one-more : (i u : ℕ) → oneOf us (i + 1) u ≡ (oneOf us i u || eqb (getD us i 0) u)
-  unfolding anyBelow
-  one-more i u = rw add-one
+  one-more i u = any-more (λ j. eqb (getD us j 0) u) i
 
   pub filled-more : (i v : ℕ) (x : Set) (t t′ : List ℕ) → v ≡ getD us i 0 → ((f : ℕ) → isIn x f ≡ row v f) → Put t v x t′
       → Filled us row i t → Filled us row (i + 1) t′

@@ -4,9 +4,9 @@ use mathlib.Core.Path.{_≡_, refl, ap}
 use mathlib.Core.Bool.{Bool, true, false, _&&_}
 use Prim.Native.Nat.{ℕ, _<_}
 use lib.Dec.{T, eqb}
-use Rattle.base.specs.Search.{given, implies, lowest}
+use Rattle.base.specs.Search.{implies}
 use Rattle.base.proofs.Tests.{and-T, T-eqb, false-not}
-use Rattle.base.proofs.SearchLaws.{first-same, every-same}
+use Rattle.base.proofs.SearchLaws.{lowest-same, every-same}
 use Rattle.tables.specs.Rows.{Picture, arrowCount, arrowAt}
 use Rattle.containment.specs.Contains.{around}
 use Rattle.meaning.specs.Meaning.{positive, negative, hasMode, reaches, overrides, hits, certifies, answer, numberOf, isGranted, isUnclear}
@@ -41,13 +41,13 @@ module _ (pic : Picture) (m : ℕ) where
         (λ j b. ap (λ (h : Bool). implies h (overrides pic (arrowAt (pic .arrows) k) (arrowAt (pic .arrows) j))) (same-hits o f j b))))
 
     pub same-user : (f : ℕ) → answer pic m u f ≡ answer pic m v f
-    unfolding answer lowest
+    unfolding answer
     same-user f =
         rw (
-          first-same _ _ (arrowCount (pic .arrows)) (λ k l. ap (λ (b : Bool). given b k) (same-certifies positive negative f k l)),
-          first-same _ _ (arrowCount (pic .arrows)) (λ k l. ap (λ (b : Bool). given b k) (same-certifies negative positive f k l)),
-          first-same _ _ (arrowCount (pic .arrows)) (λ k l. ap (λ (b : Bool). given b k) (same-hits positive f k l)),
-          first-same _ _ (arrowCount (pic .arrows)) (λ k l. ap (λ (b : Bool). given b k) (same-hits negative f k l)),
+          lowest-same _ _ (arrowCount (pic .arrows)) (same-certifies positive negative f),
+          lowest-same _ _ (arrowCount (pic .arrows)) (same-certifies negative positive f),
+          lowest-same _ _ (arrowCount (pic .arrows)) (same-hits positive f),
+          lowest-same _ _ (arrowCount (pic .arrows)) (same-hits negative f),
         )
 
   -- a user around whom there is no arrow of the mode

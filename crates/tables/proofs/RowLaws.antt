@@ -11,7 +11,7 @@ use lib.Dec.{eqb}
 use lib.ListN.{length, getD, set, drop, length-set}
 use lib.Seq.{drop-cons, drop-length, getD-set-same, getD-set-other}
 use Rattle.base.specs.Search.{bit, select}
-use Rattle.base.proofs.Bits.{bit-none}
+use Rattle.base.proofs.Bits.{bit-is, bit-none}
 use Rattle.base.proofs.SelectLaws.{select-alike}
 use Rattle.tables.specs.Rows.{rowCount, rowAt}
 use Rattle.tables.specs.Atoms.{outer, atom, atoms}
@@ -52,11 +52,10 @@ module _ (rows : List ℕ) (k : ℕ) (pos : 0 < k) (h : k ≤ rowCount rows) whe
   -- the outer box of row k - 1 is marked
   pub marked : (marks : List ℕ) (o : ℕ) → o ≡ rowAt rows (k - 1) .outer → o < length marks
       → Marks (outer (drop (2 * k) rows)) marks → Marks (outer (drop (2 * (k - 1)) rows)) (set marks o 1)
-  unfolding bit
   marked marks o e l m b lb = rw (outer-from b, ← e) (go (ℕ-discrete o b))
     where
       go : Dec (o ≡ b) → getD (set marks o 1) b 0 ≡ bit (eqb o b || outer (drop (2 * k) rows) b)
-      go (yes i) = rw (← i, eq-eqb o o refl) (getD-set-same marks o 1 0 l)
+      go (yes i) = rw (← i, eq-eqb o o refl, bit-is) (getD-set-same marks o 1 0 l)
       go (no i) = rw (ne-eqb o b i) (getD-set-other marks o b 1 0 (λ j. i (sym j)) ∙ m b (rw length-set at lb))
 
 -- where the marks are those of the outer boxes, the unmarked boxes are the atomic ones

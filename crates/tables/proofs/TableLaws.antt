@@ -1,5 +1,5 @@
 -- What holds of tables that pass checks 1 to 7. Assumes nothing.
-use mathlib.Core.Path.{_≡_, refl, _∙_}
+use mathlib.Core.Path.{_≡_, refl, sym, _∙_}
 use mathlib.Core.Bool.{Bool, true, false, not, _&&_, _||_}
 use mathlib.Core.List.{List}
 use mathlib.Core.Option.{Option, none, some}
@@ -17,13 +17,12 @@ use Rattle.tables.specs.declared.Refusal.{Refusal}
 use Rattle.tables.specs.declared.Containment.{Containment}
 use Rattle.base.proofs.Tests.{and-T, T-or₁, T-or₂, not-false, false-not}
 use Rattle.base.proofs.SearchLaws.{first-none, given-none, given-false, some-none}
-use Rattle.base.proofs.Options.{past}
+use Rattle.base.proofs.Options.{past, stop}
 
 -- neither of two checks found a fault
 pub both-none : {A : Type 0} (a b : Option A) → orElse a b ≡ none → (a ≡ none) × (b ≡ none)
-unfolding orElse
-both-none none b e = (refl, e)
-both-none (some x) b e = absurd (some-none e)
+both-none none b e = (refl, sym (past none b refl) ∙ e)
+both-none (some x) b e = absurd (some-none (sym (stop (some x) b refl) ∙ e))
 
 pub not-not : (b : Bool) → (T (not b) → ⊥) → T b
 not-not true h = tt

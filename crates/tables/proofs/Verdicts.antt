@@ -10,9 +10,8 @@ use Rattle.tables.specs.declared.Refusal.{Refusal}
 use Rattle.tables.specs.declared.Verdict.the-variants.{Passed, Refused}
 
 pub either-verdict : (a b : Option Refusal) → either (verdictOf a) (verdictOf b) ≡ verdictOf (orElse a b)
-unfolding orElse
-either-verdict none b = refl
-either-verdict (some r) b = refl
+either-verdict none b = sym (ap verdictOf (past none b refl))
+either-verdict (some r) b = sym (ap verdictOf (stop (some r) b refl))
 
 -- what a verdict says of the fault
 pub passed : (a : Option Refusal) → verdictOf a ≡ Passed → a ≡ none

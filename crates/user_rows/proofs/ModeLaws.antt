@@ -5,7 +5,6 @@ use mathlib.Core.Logic.{⊎-elim}
 use mathlib.Core.Bool.{Bool, true, false, not, _&&_, _||_}
 use mathlib.Core.List.{List}
 use Prim.Native.Nat.{ℕ, _+_, _*_, _<_, _≤_}
-use native.Mathlib.Numerals.{add-one}
 use native.Mathlib.Omega.{arith}
 use borrow.Author.Tests.{ne-eqb}
 use lib.Dec.{T, eqb, eqb→eq}
@@ -13,7 +12,7 @@ use lib.ListN.{length, set}
 use Rattle.base.specs.Search.{anyBelow}
 use Rattle.base.specs.Buffers.{written, zeros}
 use Rattle.base.proofs.Tests.{T?, or-T, T-or₁, and-T, T-and, T-eqb, T-same, T-true, true-T, not-false, false-not}
-use Rattle.base.proofs.AnyLaws.{any-found, any-is}
+use Rattle.base.proofs.AnyLaws.{any-zero, any-more, any-found, any-is}
 use Rattle.base.proofs.BufferLaws.{zeros-length, Selected, selected-yes, selected-no}
 use Rattle.tables.specs.Rows.{arrowAt}
 use Rattle.tables.specs.declared.Arrow.{Arrow}
@@ -102,12 +101,12 @@ module _ (arrows : List ℕ) (m : ℕ) where
 
   heads-more : (k s : ℕ) (tails : ℕ → Bool) (g : ℕ) → headsBelow arrows m (k + 1) s tails g
       ≡ (headsBelow arrows m k s tails g || leaves arrows m s tails k && eqb (arrowAt arrows k .head) g)
-  unfolding headsBelow anyBelow
-  heads-more k s tails g = rw (add-one k)
+  unfolding headsBelow
+  heads-more k s tails g = any-more (λ j. leaves arrows m s tails j && eqb (arrowAt arrows j .head) g) k
 
   tails-more : (k s t : ℕ) → tailsBelow arrows m (k + 1) s t ≡ (tailsBelow arrows m k s t || leaves arrows m s (λ x. eqb x t) k)
-  unfolding tailsBelow anyBelow
-  tails-more k s t = rw (add-one k)
+  unfolding tailsBelow
+  tails-more k s t = any-more (leaves arrows m s (λ x. eqb x t)) k
 
   -- an arrow below k with this sign, tail and head
   heads-found : (k s t g : ℕ) → T (headsBelow arrows m k s (λ x. eqb x t) g)
@@ -173,11 +172,11 @@ module _ (arrows : List ℕ) (m : ℕ) where
   -- ---- the turns of the loop
 
   pub sets-none : SetsBelow arrows m 0 (zeros 2056)
-  unfolding headsBelow tailsBelow anyBelow
+  unfolding headsBelow tailsBelow
   sets-none = record {
     len = zeros-length 2056;
-    heads-are = λ s t g ls lt. zeros-has 2056 (256 * s + t) g;
-    tails-are = λ s t ls. zeros-has 2056 (512 + s) t;
+    heads-are = λ s t g ls lt. zeros-has 2056 (256 * s + t) g ∙ sym (any-zero _);
+    tails-are = λ s t ls. zeros-has 2056 (512 + s) t ∙ sym (any-zero _);
   }
 
   or-no : (x y : Bool) → y ≡ false → x ≡ (x || y)

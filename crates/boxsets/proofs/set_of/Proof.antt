@@ -4,8 +4,7 @@ use Prim.Native.Nat.{_-_, _≤_}
 use native.Mathlib.Omega.{arith}
 use borrow.Author.Needs.{needs}
 use lib.ListN.{length}
-use Rattle.base.specs.Search.{anyBelow}
-use Rattle.boxsets.proofs.AmongLaws.{Taken, taken-more, taken-all}
+use Rattle.boxsets.proofs.AmongLaws.{Taken, taken-none, taken-more, taken-all}
 use Rattle.boxsets.proofs.set_of.Statement.{statement}
 use Rattle.boxsets.proofs.set_of.Tie as tie
 
@@ -16,8 +15,7 @@ abbrev μ-loop : tie.MeasureT-loop
 μ-loop numbers r₀ i₀ i-end r i = length numbers - i
 
 loop-holds : tie.Need-loop-holds Inv-loop μ-loop
-unfolding anyBelow
-loop-holds c = (search needs, c .nothing .ensures)
+loop-holds c = (search needs, taken-none (c .before .before .args .numbers .now) (c .nothing .result) (c .nothing .ensures))
 
 single-requires : tie.Need-single-requires Inv-loop μ-loop
 single-requires c κs =

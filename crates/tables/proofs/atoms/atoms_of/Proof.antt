@@ -3,7 +3,7 @@ use mathlib.Core.Path.{_≡_, ap, _∙_}
 use native.Mathlib.Omega.{arith}
 use borrow.Author.Needs.{needs}
 use lib.ListN.{length}
-use Rattle.base.specs.Search.{bit}
+use Rattle.base.proofs.Bits.{bit-is}
 use Rattle.tables.specs.Atoms.{outer}
 use Rattle.base.proofs.BufferLaws.{zeros-length, zeros-at}
 use Rattle.tables.proofs.RowLaws.{unmarked-atoms}
@@ -11,12 +11,12 @@ use Rattle.tables.proofs.atoms.atoms_of.Statement.{statement}
 use Rattle.tables.proofs.atoms.atoms_of.Tie as tie
 
 mark-outer-requires : tie.Need-mark-outer-requires
-unfolding outer bit
+unfolding outer
 mark-outer-requires c κs = let start = c .before .before .before .before .before in
     let made = c .before .zero-bytes .ensures in
     let len : length (c .before .zero-bytes .result) ≡ 256 = ap length made ∙ zeros-length 256 in
     let few = start .pre .0 .few-boxes in
-    (start .pre .0 .whole, (λ k h. omega (arith, start .pre .0 .outer-there k h), λ b h. rw made (zeros-at 256 b (omega arith))))
+    (start .pre .0 .whole, (λ k h. omega (arith, start .pre .0 .outer-there k h), λ b h. rw (made, bit-is) (zeros-at 256 b (omega arith))))
 
 gather-requires : tie.Need-gather-requires
 gather-requires c κs = let marks = c .before .before .before in

@@ -1,10 +1,10 @@
--- `test_cases::prepare`: where the early checks pass, the tables are sound and the scratch suffices. Assumes nothing.
+-- `test_cases::pictures::prepare`: where the early checks pass, the tables are sound and the scratch suffices. Assumes nothing.
 use mathlib.Core.Path.{_≡_, sym, _∙_}
 use borrow.Author.Needs.{needs}
 use Rattle.tables.proofs.Verdicts.{passed}
 use Rattle.containment.proofs.PictureLaws.{early-prepared}
-use Rattle.test_cases.proofs.prepare.Statement.{statement}
-use Rattle.test_cases.proofs.prepare.Tie as tie
+use Rattle.test_cases.proofs.pictures.prepare.Statement.{statement}
+use Rattle.test_cases.proofs.pictures.prepare.Tie as tie
 
 prepare-requires : tie.Need-prepare-requires
 prepare-requires c κs =

@@ -1,0 +1,146 @@
+// The cases of a picture's calls, and those of its headings.
+use super::buffers::bytes;
+use super::buffers::bytes_lent;
+use super::buffers::numbers;
+use super::buffers::numbers_lent;
+use super::reading::byte_table;
+use super::reading::low;
+use super::reading::number;
+use super::reading::number_table;
+use super::writing::show_bytes;
+use super::writing::show_headings;
+use super::writing::show_listed;
+use super::writing::show_numbers;
+use super::writing::show_reply;
+use super::writing::show_verdict;
+use libc::STDOUT_FILENO;
+use tables::Verdict;
+
+struct Question {
+    scratch: usize,
+    mode: u16,
+    user: u16,
+    file: u16,
+    bytes: usize,
+    numbers: usize,
+}
+
+fn ask() -> Question {
+    let scratch = number();
+    let mode = number();
+    let user = number();
+    let file = number();
+    let bytes = number();
+    let numbers = number();
+    Question {
+        scratch: scratch.value,
+        mode: low(mode.value),
+        user: low(user.value),
+        file: low(file.value),
+        bytes: bytes.value,
+        numbers: numbers.value,
+    }
+}
+
+// Checks 1 to 7, 9 for the scratch and 10.
+fn prepare(boxes: &[u8], rows: &[u16], arrows: &[u16], scratch: &mut [u8]) -> Verdict {
+    let mut closure = containment::no_closure();
+    let early = containment::early_picture(boxes, rows, arrows, scratch);
+    containment::prepare(early, boxes, rows, scratch, &mut closure)
+}
+
+// The call that a letter stands for, with the places that are lent.
+fn call(
+    letter: u8,
+    boxes: &[u8],
+    rows: &[u16],
+    arrows: &[u16],
+    q: Question,
+    scratch: &mut [u8],
+    bytes: &mut [u8],
+    numbers: &mut [u16],
+) {
+    let s = bytes_lent(scratch, q.scratch);
+    let b = bytes_lent(bytes, q.bytes);
+    let n = numbers_lent(numbers, q.numbers);
+    let scratch = &mut scratch[..s];
+    let bytes = &mut bytes[..b];
+    let numbers = &mut numbers[..n];
+    match letter {
+        b'p' => {
+            show_verdict(prepare(boxes, rows, arrows, scratch));
+        }
+        b'j' => {
+            show_verdict(answers::judge(boxes, rows, arrows, scratch));
+        }
+        b'e' => {
+            show_reply(answers::one_entry(boxes, rows, arrows, scratch, q.user, q.file, q.mode));
+        }
+        b'm' => {
+            show_verdict(answers::matrix(boxes, rows, arrows, scratch, q.mode, bytes, numbers));
+        }
+        _ => {
+            show_listed(lists::list(boxes, rows, arrows, scratch, q.mode, numbers, bytes));
+        }
+    }
+}
+
+// The line of a call, on fresh buffers.
+fn run(letter: u8, boxes: &[u8], rows: &[u16], arrows: &[u16], q: Question) {
+    let mut scratch = bytes();
+    let mut bytes = bytes();
+    let mut numbers = numbers();
+    call(
+        letter,
+        boxes,
+        rows,
+        arrows,
+        q,
+        &mut scratch,
+        &mut bytes,
+        &mut numbers,
+    );
+    show_bytes(&scratch);
+    show_bytes(&bytes);
+    show_numbers(&numbers);
+    io::write_all(STDOUT_FILENO, b"\n");
+}
+
+fn run_all(letter: u8, boxes: &[u8], rows: &[u16], arrows: &[u16], q: Question) {
+    run(letter, boxes, rows, arrows, q);
+    if letter == b'p' {
+        run(b'j', boxes, rows, arrows, q);
+        run(b'e', boxes, rows, arrows, q);
+        run(b'm', boxes, rows, arrows, q);
+    }
+}
+
+pub fn picture_case(letter: u8) {
+    let mut boxes = bytes();
+    let mut rows = numbers();
+    let mut arrows = numbers();
+    let b = byte_table(&mut boxes);
+    let r = number_table(&mut rows);
+    let a = number_table(&mut arrows);
+    run_all(letter, &boxes[..b], &rows[..r], &arrows[..a], ask());
+}
+
+// Writes the headings into as many places of both buffers as the input says.
+fn show_atoms(boxes: &[u8], rows: &[u16], users: &mut [u16], files: &mut [u16]) {
+    let u = numbers_lent(users, number().value);
+    let f = numbers_lent(files, number().value);
+    show_headings(headings::atomic_boxes(boxes, rows, &mut users[..u], &mut files[..f]));
+    show_numbers(users);
+    show_numbers(files);
+    io::write_all(STDOUT_FILENO, b"\n");
+}
+
+pub fn heading_case() {
+    let mut boxes = bytes();
+    let mut rows = numbers();
+    let mut users = numbers();
+    let mut files = numbers();
+    let b = byte_table(&mut boxes);
+    let r = number_table(&mut rows);
+    show_atoms(&boxes[..b], &rows[..r], &mut users, &mut files);
+}
