@@ -6,13 +6,11 @@ use mathlib.Core.Option.{none}
 use Prim.Native.Nat.{ℕ, _+_, _<_, _≤_}
 use native.Mathlib.Omega.{arith}
 use native.Mathlib.Decide.{ℕ-discrete}
-use native.Mathlib.Numerals.{add-one}
 use lib.Dec.{T, eqb}
 use borrow.Author.Tests.{eq-eqb, ne-eqb}
-use Rattle.base.specs.Search.{anyBelow}
 use Rattle.base.specs.Buffers.{zeros}
 use Rattle.base.proofs.Tests.{T-and, T-eqb, false-not}
-use Rattle.base.proofs.AnyLaws.{any-is}
+use Rattle.base.proofs.AnyLaws.{any-is, any-zero, any-more}
 use Rattle.tables.specs.Rows.{Picture, arrowCount, arrowAt}
 use Rattle.boxsets.specs.Sets.{isIn, has, setAt, Added}
 use Rattle.boxsets.specs.declared.Set.{Set}
@@ -24,14 +22,6 @@ use Rattle.meaning.proofs.AnswerLaws.{hit-mode, hit-sign}
 use Rattle.meaning.proofs.SettleLaws.{unclear-hits}
 use Rattle.meaning.proofs.ClearLaws.{all-clear}
 use Rattle.judging.specs.Steps.{signBelow, signUsed}
-
-any-zero : (p : ℕ → Bool) → anyBelow p 0 ≡ false
-unfolding anyBelow
-any-zero p = refl
-
-any-more : (p : ℕ → Bool) (n : ℕ) → anyBelow p (n + 1) ≡ (anyBelow p n || p n)
-unfolding anyBelow
-any-more p n = rw (add-one n)
 
 -- ---- the table of two sets
 

@@ -9,7 +9,6 @@ ghost use Rattle.tables.specs.Rows.{Picture};
 ghost use Rattle.user_rows.specs.Row.{ownArrows};
 ghost use Rattle.user_rows.specs.Steps.{Small, Sized, Moded, Ready};
 ghost use Rattle.kept_rows.specs.Steps.{Boxes};
-ghost use Rattle.lists.specs.Calls.{blanks};
 ghost use Rattle.lists.specs.Greedy.{greedy, orderFault};
 ghost use Rattle.lists.specs.Steps.{Table, unreached, grantedTo, Check12};
 use super::Asked;
@@ -21,10 +20,10 @@ use boxsets::lowest;
 use boxsets::put_set;
 use boxsets::set_at;
 use boxsets::shared;
-use tables::Arrow;
+use kept_rows::next_row;
+use kept_rows::no_arrows;
 use tables::Verdict;
 use user_rows::no_heads;
-use user_rows::sort_row;
 use user_rows::take_mode;
 
 // A set for each box.
@@ -50,10 +49,11 @@ fn sort_rows(
         → Moded pic (asked .mode) (now (heads .entry)) (now (arrows .entry)) (now (own .entry))
         → Check12 pic (asked .mode) r (now (granted .exit))) ⌝ }
 {
-    let files = asked.files;
+    let mut last = no_arrows(asked.files);
     for i in 0..users.len() {
         let u = wide(users[i]);
-        let row = sort_row(closure, heads, arrows, own, u, files);
+        last = next_row(closure, heads, arrows, own, u, last);
+        let row = last.row;
         let unclear = row.unclear;
         if !is_empty(unclear) {
             return Verdict::refused(12, wide(asked.mode), u, lowest(unclear));
@@ -124,14 +124,4 @@ pub fn check_left(users: &[u16], left: &[u64], granted: &[u64], mode: u16) -> Ve
         }
     }
     Verdict::Passed
-}
-
-// Sets the first `count` list places to 65,535.
-pub fn blank(out: &mut [u16], count: usize)
-    requires { ⌜ count ≤ length (now out) ⌝ }
-    ensures { λ _. ⌜ now (out .exit) ≡ written (blanks count) (now (out .entry)) ⌝ }
-{
-    for p in 0..count {
-        out[p] = Arrow::NONE;
-    }
 }

@@ -16,12 +16,12 @@ ghost use Rattle.lists.specs.Calls.{listRoom, listAnswer, listAfter};
 ghost use Rattle.lists.specs.Steps.{Clear, Listing};
 use super::Asked;
 use super::Listed;
-use super::granted::blank;
 use super::granted::check_left;
 use super::granted::fill_left;
 use super::granted::no_sets;
 use super::granted::sort_mode;
 use super::order::order;
+use base::fill;
 use tables::Arrow;
 use tables::Verdict;
 use user_rows::no_numbers;
@@ -49,7 +49,7 @@ fn finish(left: Verdict, count: usize, need: usize, out: &mut [u16]) -> Listed
         → (r ≡ listAnswer pic m none) × (now (out .exit) ≡ listAfter pic m none old)) ⌝ }
 {
     if let Verdict::Refused(r) = left {
-        blank(out, need);
+        fill(out, need, Arrow::NONE);
         return Listed::Refused(r);
     }
     Listed::Written(count)

@@ -2,17 +2,19 @@
 use mathlib.Core.Path.{sym, _∙_}
 use borrow.Author.Needs.{needs}
 use Rattle.tables.proofs.Verdicts.{passed, refused}
+use Rattle.lists.specs.Calls.{blanks}
 use Rattle.lists.specs.Greedy.{orderFault}
 use Rattle.lists.proofs.CallLaws.{finish-written, finish-refused}
 use Rattle.lists.proofs.stages.finish.Statement.{statement}
 use Rattle.lists.proofs.stages.finish.Tie as tie
 
 returns : tie.Need-returns
+unfolding blanks
 returns c pic m old verdict counted need room listed =
     let blanked = c .before .before in
     let told = blanked .before .before .before in
     let a = told .before .before .before .args in
-    rw (blanked .blank .ensures)
+    rw (blanked .fill .ensures)
     (finish-refused pic m (a .count) (a .out .now) old counted listed _ (refused (orderFault pic m) _ (sym verdict ∙ told .left .given .1))
     (a .need) need room)
 
