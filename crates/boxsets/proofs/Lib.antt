@@ -8,3 +8,4 @@ pub mod WalkLaws
 pub mod AmongLaws
 pub mod TableLaws
 pub mod JoinLaws
+pub mod UnionLaws

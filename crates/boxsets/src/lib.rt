@@ -16,6 +16,7 @@ pub use table::has;
 pub use table::join_each;
 pub use table::put_set;
 pub use table::set_at;
+pub use table::union_of;
 
 // A set of numbers below 256: word q has those from 64 × q on, the lowest bit first.
 pub struct Set {

@@ -1,12 +1,15 @@
 // Tables of sets: set r has the four words from place 4 × r on.
 ghost use mathlib.Core.Path.{_≡_};
-ghost use Prim.Native.Nat.{_+_, _*_, _<_, _≤_};
+ghost use mathlib.Core.Bool.{_&&_, _||_};
+ghost use Prim.Native.Nat.{ℕ, _+_, _*_, _<_, _≤_};
 ghost use lib.ListN.{length};
+ghost use Rattle.base.specs.Search.{anyBelow};
 ghost use Rattle.boxsets.specs.Sets.{isIn, inWord, setAt, has, Put, Added, Joins};
 use super::Set;
 use super::drop_bit;
 use super::joined;
 use super::low_bit;
+use super::nothing;
 
 pub fn set_at(t: &[u64], r: usize) -> Set
     requires { ⌜ 4 * r + 4 ≤ length (now t) ⌝ }
@@ -70,4 +73,30 @@ pub fn join_each(t: &mut [u64], from: usize, numbers: Set, x: Set)
     join_word(t, from, 1, numbers.b, x);
     join_word(t, from, 2, numbers.c, x);
     join_word(t, from, 3, numbers.d, x);
+}
+
+// A set, and each set `from` + k whose k is in word q of a set of numbers.
+fn union_word(t: &[u64], from: usize, q: usize, word: u64, x: Set) -> Set
+    requires { ⌜ (4 * (from + 256) ≤ length (now t)) × (q < 4) ⌝ }
+    ensures { λ r. ⌜ ((b : ℕ) → isIn r b ≡ (isIn x b || anyBelow (λ k. inWord q word k && has (now (t .entry)) (from + k) b) 256)) ⌝ }
+{
+    let mut rest = word;
+    let mut found = x;
+    while rest != 0 {
+        let r = from + (64 * q + low_bit(rest));
+        rest = drop_bit(rest);
+        found = joined(found, set_at(t, r));
+    }
+    found
+}
+
+// The union of the sets `from` + k whose k is one of the numbers.
+pub fn union_of(t: &[u64], from: usize, numbers: Set) -> Set
+    requires { ⌜ 4 * (from + 256) ≤ length (now t) ⌝ }
+    ensures { λ r. ⌜ ((b : ℕ) → isIn r b ≡ anyBelow (λ k. isIn numbers k && has (now (t .entry)) (from + k) b) 256) ⌝ }
+{
+    let one = union_word(t, from, 0, numbers.a, nothing());
+    let two = union_word(t, from, 1, numbers.b, one);
+    let three = union_word(t, from, 2, numbers.c, two);
+    union_word(t, from, 3, numbers.d, three)
 }

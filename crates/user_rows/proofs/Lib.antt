@@ -5,7 +5,6 @@ pub mod StepLaws
 mod HeadLaws
 mod BlockLaws
 mod OutsideLaws
-mod SetLaws
 mod OutsideWalk
 mod NearLaws
 mod BlockSteps

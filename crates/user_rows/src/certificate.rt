@@ -12,14 +12,13 @@ ghost use Rattle.user_rows.specs.Steps.{Drawn, ModeSets, NearBy};
 use super::Near;
 use base::wide;
 use boxsets::Set;
-use boxsets::dropped;
 use boxsets::is_empty;
 use boxsets::joined;
 use boxsets::lowest;
 use boxsets::minus;
-use boxsets::nothing;
 use boxsets::set_at;
 use boxsets::shared;
+use boxsets::union_of;
 use tables::Arrow;
 
 // The boxes that are nested in b. What overrides what goes by this and by `nesting` alone.
@@ -43,14 +42,7 @@ fn heads_of(heads: &[u64], sign: usize, tails: Set) -> Set
     requires { ⌜ (length (now heads) ≡ 2056) × (sign ≤ 1) ⌝ }
     ensures { λ r. ⌜ ((g : ℕ) → isIn r g ≡ anyBelow (λ t. isIn tails t && has (now (heads .entry)) (256 * sign + t) g) 256) ⌝ }
 {
-    let mut found = nothing();
-    let mut rest = tails;
-    while !is_empty(rest) {
-        let t = lowest(rest);
-        rest = dropped(rest);
-        found = joined(found, set_at(heads, 256 * sign + t));
-    }
-    found
+    union_of(heads, 256 * sign, tails)
 }
 
 // The files of a set that are in none of the boxes. What a box has is done with it, boxes and files. Each turn takes at least the lowest

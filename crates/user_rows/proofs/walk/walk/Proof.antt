@@ -1,11 +1,12 @@
 -- `user_rows::walk::walk` meets its contract: at place i the walk stands as `Walking` says. Assumes nothing.
-use mathlib.Core.Path.{_≡_, ap, _∙_}
+use mathlib.Core.Path.{_≡_, sym, ap, _∙_}
 use Prim.Native.Nat.{_-_, _<_}
 use native.Mathlib.Omega.{arith}
 use borrow.Author.Needs.{needs}
+use borrow.Author.Tests.{not-false}
 use lib.ListN.{length}
 use Rattle.tables.specs.Rows.{arrowCount, arrowAt}
-use Rattle.user_rows.proofs.SetLaws.{is-empty}
+use Rattle.boxsets.proofs.WalkLaws.{empty-none}
 use Rattle.user_rows.proofs.RowWalk.{Walking, walking-start, walking-turn, walking-empty}
 use Rattle.user_rows.proofs.walk.walk.Statement.{statement}
 use Rattle.user_rows.proofs.walk.walk.Tie as tie
@@ -111,7 +112,7 @@ returns c =
       l .inv .len,
       walking-empty (a .closure .now) (a .heads .now) (a .arrows .now) (a .own .now) (a .x) (a .files) (a .numbers .now)
           (l .numbers) (l .granted) (l .left) (l .i) (l .inv)
-          (is-empty (l .left) (c .before .is-empty .result) (c .before .is-empty .ensures) (c .if1 .left)) (length (a .own .now)),
+          (empty-none (l .left) (sym (c .before .is-empty .ensures) ∙ not-false (c .before .is-empty .result) (c .if1 .left))) (length (a .own .now)),
     )
 
 same-length-2 : tie.Need-same-length-2 Inv-loop μ-loop
