@@ -11,7 +11,6 @@ use lib.Dec.{eqb}
 use lib.ListN.{drop}
 use Rattle.base.specs.Buffers.{zeros}
 use Rattle.base.proofs.BufferLaws.{zeros-length}
-use Rattle.tables.specs.Rows.{rowCount, rowAt}
 use Rattle.tables.proofs.RowLaws.{rows-from}
 use Rattle.boxsets.specs.Sets.{isIn, setAt, has, Added, Joins}
 use Rattle.boxsets.specs.declared.Set.{Set}
@@ -20,6 +19,7 @@ use Rattle.boxsets.proofs.MemberLaws.{in-beyond}
 use Rattle.boxsets.proofs.TableLaws.{has-in, zeros-has}
 use Rattle.containment.specs.Contains.{direct}
 use Rattle.containment.specs.Steps.{Both, Turns, through, rounds}
+use Rattle.containment.proofs.RowBoxes.{RowBoxes}
 
 pub both-same : (n : ℕ) (f g : ℕ → ℕ → Bool) (t : List ℕ) → ((a b : ℕ) → f a b ≡ g a b) → Both n f t → Both n g t
 both-same n f g t e s = record { len = s .len; down = λ a b l. s .down a b l ∙ e a b; up = λ a b l. s .up a b l ∙ e a b }
@@ -71,16 +71,15 @@ or-turned false true = refl
 or-turned false false = refl
 
 -- row k - 1
-pub mark-row : (k : ℕ) (rows t u v : List ℕ) (o i : ℕ) → 0 < k → k ≤ rowCount rows → o ≡ rowAt rows (k - 1) .outer → i ≡ rowAt rows (k - 1) .inner
-    → o < 256 → i < 256 → Added t o i u → Added u (256 + i) o v → Both 256 (direct (drop (2 * k) rows)) t
-    → Both 256 (direct (drop (2 * (k - 1)) rows)) v
+pub mark-row : {k : ℕ} {rows t u v : List ℕ} {o i : ℕ} → RowBoxes 256 rows k o i → Added t o i u → Added u (256 + i) o v
+    → Both 256 (direct (drop (2 * k) rows)) t → Both 256 (direct (drop (2 * (k - 1)) rows)) v
 unfolding direct
-mark-row k rows t u v o i pos most eo ei ho hi h g s =
+mark-row {k} {rows} {t} {u} {v} {o} {i} r h g s =
     let f = direct (drop (2 * k) rows) in
-    rw (rows-from rows k pos most, ← eo, ← ei)
+    rw (rows-from rows k (r .above) (r .most), ← r .o-is, ← r .i-is)
     (both-same 256 (λ a b. f a b || eqb a o && eqb b i) (λ a b. eqb o a && eqb i b || f a b) v
     (λ a b. rw (eqb-turned a o, eqb-turned b i) (or-turned (f a b) (eqb o a && eqb i b)))
-    (pair-added f o i t u v ho hi h g s))
+    (pair-added f o i t u v (r .o-below) (r .i-below) h g s))
 
 -- ---- round
 

@@ -5,6 +5,7 @@ pub mod ScratchLaws
 pub mod PictureLaws
 pub mod ClosureLaws
 mod Rounds
+mod RowBoxes
 mod ClosingLaws
 mod SelvesLaws
 mod OnesLaws

@@ -18,6 +18,7 @@ use Rattle.boxsets.specs.Sets.{has}
 use Rattle.containment.specs.Contains.{Row, here, later, Chain, one, more, direct, contains}
 use Rattle.containment.specs.Scratch.{filled}
 use Rattle.containment.specs.Steps.{RowsBelow, Both, Bytes, Cells, over, SameFrom, Square}
+use Rattle.containment.proofs.RowBoxes.{RowBoxes}
 use Rattle.containment.proofs.ContainsLaws.{contains-chain}
 use Rattle.containment.proofs.DrawnLaws.{rows-drawn}
 use Rattle.containment.proofs.ScratchLaws.{is-filled}
@@ -43,14 +44,15 @@ abbrev pub Marked : ℕ → ℕ → List ℕ → ℕ → List ℕ → List ℕ �
 Marked n v rows k s t = ((g : ℕ → ℕ → ℕ) → Bytes n g s → Bytes n (over (drop (2 * k) rows) v g) t) × SameFrom (n * n) s t
 
 -- row k - 1
-pub mark-turn : (n v k : ℕ) (rows s t : List ℕ) → 0 < k → k ≤ rowCount rows → n * n ≤ length t → (o i : ℕ)
-    → o ≡ rowAt rows (k - 1) .outer → i ≡ rowAt rows (k - 1) .inner → o < n → i < n
+pub mark-turn : {n k o i : ℕ} (v : ℕ) {rows : List ℕ} (s t : List ℕ) → RowBoxes n rows k o i → n * n ≤ length t
     → Marked n v rows k s t → Marked n v rows (k - 1) s (set t (o * n + i) v)
-mark-turn n v k rows s t pos h room o i eo ei ho hi m = (
-  λ g z. rw (rows-from rows k pos h, ← eo, ← ei) (mark-byte n o i v t (drop (2 * k) rows) g ho hi room (m .0 g z)),
+mark-turn {n} {k} {o} {i} v {rows} s t r room m = (
+  λ g z.
+      rw (rows-from rows k (r .above) (r .most), ← r .o-is, ← r .i-is)
+      (mark-byte n o i v t (drop (2 * k) rows) g (r .o-below) (r .i-below) room (m .0 g z)),
   record {
     len = length-set t (o * n + i) v ∙ m .1 .len;
-    rest = λ p l. getD-set-other t (o * n + i) p v 0 (omega (arith, in-table n n o i ho hi)) ∙ m .1 .rest p l;
+    rest = λ p l. getD-set-other t (o * n + i) p v 0 (omega (arith, in-table n n o i (r .o-below) (r .i-below))) ∙ m .1 .rest p l;
   },
 )
 

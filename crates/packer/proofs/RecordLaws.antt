@@ -3,7 +3,7 @@ use mathlib.Core.Path.{_≡_, refl, sym, ap, _∙_}
 use mathlib.Core.List.{List}
 use Prim.Native.Nat.{ℕ, _+_, _*_, _^_, _<_, _≤_}
 use native.Mathlib.Omega.{arith}
-use native.Mathlib.Nat.{add-zero, add-assoc}
+use native.Mathlib.Nat.{add-zero, add-assoc, mul-suc, mul-le-mul-left}
 use lib.ListN.{length}
 use lib.Seq.{sets, length-sets}
 use Rattle.tables.specs.Rows.{Picture, rowCount, arrowCount}
@@ -19,53 +19,74 @@ use Rattle.packer.proofs.Lengths.{third-kind, records-fit}
 use Rattle.packer.proofs.Regular.{rows-by-kind}
 use Rattle.packer.proofs.Walking.{walk-within}
 
--- a loop that has put so many records, from a byte on
-module _ (size capacity : ℕ) (bytes : ℕ → List ℕ) (at : ℕ) (file₀ : List ℕ) (w₀ : Walk) (count : ℕ) where
-  pub record Put (j : ℕ) (file : List ℕ) (w : Walk) : Type 0 where
-    pub most : j ≤ count
-    pub the-walk : w ≡ walkAt capacity (w₀ .row + j)
-    pub same-length : length file ≡ length file₀
-    pub so-far : file ≡ sets file₀ at (joined (λ i. bytes (w₀ .row + i)) j)
+-- a loop that has put j of so many records of a table, from a byte on
+pub record Put (size capacity rows : ℕ) (bytes : ℕ → List ℕ) (at : ℕ) (file₀ : List ℕ) (w₀ : Walk) (count j : ℕ) (file : List ℕ) (w : Walk)
+    : Type 0 where
+  pub run : Run size capacity rows w₀ count at (length file₀)
+  pub most : j ≤ count
+  pub the-walk : w ≡ walkAt capacity (w₀ .row + j)
+  pub same-length : length file ≡ length file₀
+  pub so-far : file ≡ sets file₀ at (joined (λ i. bytes (w₀ .row + i)) j)
 
-  pub put-none : w₀ ≡ walkAt capacity (w₀ .row) → Put 0 file₀ w₀
-  put-none walked = record {
+module _ {size capacity rows : ℕ} {bytes : ℕ → List ℕ} {at : ℕ} {file₀ : List ℕ} {w₀ : Walk} {count : ℕ} where
+  pub put-none : Run size capacity rows w₀ count at (length file₀) → Put size capacity rows bytes at file₀ w₀ count 0 file₀ w₀
+  put-none run = record {
+    run = run;
     most = omega arith;
-    the-walk = rw add-zero walked;
+    the-walk = rw add-zero (run .walked);
     same-length = refl;
     so-far = rw (joined-none (λ i. bytes (w₀ .row + i)));
   }
 
-  module _ {rows : ℕ} (run : Run size capacity rows w₀ count at (length file₀)) (j : ℕ) (file : List ℕ) (w : Walk)
-      (put : Put j file w) (less : j < count) where
+  -- a turn of it
+  module _ {j : ℕ} {file : List ℕ} {w : Walk} (put : Put size capacity rows bytes at file₀ w₀ count j file w) (less : j < count) where
     -- where the walk stands
     stands : w ≡ record { row = w₀ .row + j; block = w₀ .block; place = j }
-    stands = put .the-walk ∙ walk-within capacity w₀ (run .walked) (run .the-place) j (let m = run .most in omega arith)
+    stands =
+        let m = put .run .most in
+        put .the-walk ∙ walk-within capacity w₀ (put .run .walked) (put .run .the-place) j (omega arith)
 
-    pub at-row : (w .row ≡ w₀ .row + j) × (w .place ≡ j)
-    at-row = (rw stands, rw stands)
+    at-row : w .row ≡ w₀ .row + j
+    at-row = rw stands
+
+    at-place : w .place ≡ j
+    at-place = rw stands
+
+    -- so the record's byte is no large number
+    pub place-low : (w .place < capacity) × (at < 2 ^ 32)
+    place-low = (omega (arith, at-place, put .run .most), put .run .the-byte)
+
+    -- what the record asks: its row, and its bytes
+    pub put-asks : (to : ℕ) → to ≡ at + size * w .place → (w .row < rows) × (to + size ≤ length file)
+    put-asks to e =
+        let next : size * j + size ≤ size * count = rw mul-suc at (mul-le-mul-left size less) in
+        let here : to ≡ at + size * j = rw (← at-place) e in
+        (omega (arith, at-row, put .run .rows-left), omega (arith, put .run .room, put .same-length))
 
     -- what a step asks
     pub next-asks : (0 < capacity) × (w .row < 2 ^ 32) × (w ≡ walkAt capacity (w .row))
-    next-asks =
-        let few = run .few in
-        let left = run .rows-left in
-        let most = run .most in
-        (omega arith, rw (at-row .0) (omega arith), put .the-walk ∙ ap (λ (r : ℕ). walkAt capacity r) (sym (at-row .0)))
+    next-asks = (
+      omega (arith, put .run .most),
+      omega (arith, at-row, put .run .few, put .run .rows-left),
+      put .the-walk ∙ ap (λ (r : ℕ). walkAt capacity r) (sym at-row),
+    )
 
     -- one record more
-    pub put-more : ((i : ℕ) → length (bytes i) ≡ size) → (to : ℕ) (file′ : List ℕ) (w′ : Walk)
-        → file′ ≡ sets file to (bytes (w .row)) → to ≡ at + size * j → w′ ≡ walkAt capacity (w .row + 1) → Put (j + 1) file′ w′
-    put-more len to file′ w′ e place s = record {
+    pub put-more : ((i : ℕ) → length (bytes i) ≡ size) → (to : ℕ) {file′ : List ℕ} {w′ : Walk} → to ≡ at + size * w .place
+        → file′ ≡ sets file to (bytes (w .row)) → w′ ≡ walkAt capacity (w .row + 1)
+        → Put size capacity rows bytes at file₀ w₀ count (j + 1) file′ w′
+    put-more len to place e s = record {
+      run = put .run;
       most = omega arith;
-      the-walk = s ∙ rw (at-row .0, add-assoc);
+      the-walk = s ∙ rw (at-row, add-assoc);
       same-length = rw e (simp length-sets (put .same-length));
-      so-far = e ∙ rw (stands, put .so-far) (put-next file₀ at _ size (λ i. len (w₀ .row + i)) j to place);
+      so-far = e ∙ rw (stands, put .so-far) (put-next file₀ at _ size (λ i. len (w₀ .row + i)) j to (rw (← at-place) place));
     }
 
   -- all of them
-  pub put-all : (j : ℕ) (file : List ℕ) (w : Walk) → Put j file w → (j < count → ⊥)
+  pub put-all : {j : ℕ} {file : List ℕ} {w : Walk} → Put size capacity rows bytes at file₀ w₀ count j file w → (j < count → ⊥)
       → (w ≡ walkAt capacity (w₀ .row + count)) × (file ≡ sets file₀ at (joined (λ i. bytes (w₀ .row + i)) count))
-  put-all j file w put end =
+  put-all {j} put end =
       let e : j ≡ count = let m = put .most in omega arith in
       (rw e at (put .the-walk), rw e at (put .so-far))
 

@@ -127,27 +127,6 @@ returns-3 c =
 
 pub pack-spec : {M : Type 1} → statement M
 pack-spec =
-    tie.close
-    (tie.spec
-    (λ c κs. search needs)
-    (search needs)
-    returns
-    (search needs)
-    blocks-for-requires
-    blocks-for-requires-2
-    add-need
-    add-need-2
-    mul-need
-    (λ c κs. search needs)
-    (search needs)
-    returns-2
-    (search needs)
-    (λ c κs. search needs)
-    put-kind-requires
-    (λ c κs. search needs)
-    put-kind-requires-2
-    add-arrows
-    (λ c κs. search needs)
-    put-kind-requires-3
-    (search needs)
-    returns-3)
+    tie.close (tie.spec (λ c κs. search needs) (search needs) returns (search needs) blocks-for-requires blocks-for-requires-2 add-need
+    add-need-2 mul-need (λ c κs. search needs) (search needs) returns-2 (search needs) (λ c κs. search needs) put-kind-requires
+    (λ c κs. search needs) put-kind-requires-2 add-arrows (λ c κs. search needs) put-kind-requires-3 (search needs) returns-3)

@@ -64,19 +64,6 @@ returns c =
 
 pub put-block-spec : {M : Type 1} → statement M
 put-block-spec =
-    tie.close
-    (tie.spec
-    (λ c κs. search needs)
-    (search needs)
-    (λ c κs. search needs)
-    narrow-requires-2
-    (λ c κs. search needs)
-    put-records-requires
-    mul-used
-    sub-put-zeros
-    (search needs)
-    add-put-zeros-2
-    put-zeros-requires
-    put-check-requires
-    (search needs)
+    tie.close (tie.spec (λ c κs. search needs) (search needs) (λ c κs. search needs) narrow-requires-2 (λ c κs. search needs)
+    put-records-requires mul-used sub-put-zeros (search needs) add-put-zeros-2 put-zeros-requires put-check-requires (search needs)
     returns)

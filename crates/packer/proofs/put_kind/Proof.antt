@@ -54,17 +54,5 @@ returns c =
 
 pub put-kind-spec : {M : Type 1} → statement M
 put-kind-spec =
-    tie.close
-    (tie.spec
-    Inv-loop
-    μ-loop
-    (λ c κs. search needs)
-    loop-holds
-    sub-least-of
-    (λ c κs. search needs)
-    put-block-requires
-    (search needs)
-    (search needs)
-    loop-again
-    same-length
-    returns)
+    tie.close (tie.spec Inv-loop μ-loop (λ c κs. search needs) loop-holds sub-least-of (λ c κs. search needs) put-block-requires
+    (search needs) (search needs) loop-again same-length returns)

@@ -49,16 +49,5 @@ returns-3 c =
 
 pub put-records-spec : {M : Type 1} → statement M
 put-records-spec =
-    tie.close
-    (tie.spec
-    (λ c κs. search needs)
-    (search needs)
-    put-boxes-requires
-    (search needs)
-    returns
-    put-containments-requires
-    (search needs)
-    returns-2
-    put-arrows-requires
-    (search needs)
-    returns-3)
+    tie.close (tie.spec (λ c κs. search needs) (search needs) put-boxes-requires (search needs) returns put-containments-requires
+    (search needs) returns-2 put-arrows-requires (search needs) returns-3)

@@ -1,15 +1,15 @@
 -- `containment::closing::mark_rows` meets its contract: the sets say which boxes the rows from k on join. Assumes nothing.
 use mathlib.Core.Path.{_≡_, sym, ap, _∙_}
-use Prim.Native.Nat.{_*_, _-_, _<_, _≤_}
+use Prim.Native.Nat.{_*_, _≤_}
 use native.Mathlib.Omega.{arith}
 use borrow.Author.Needs.{needs}
 use lib.ListN.{length, drop}
 use Rattle.base.proofs.BufferLaws.{zeros-length}
-use Rattle.tables.specs.declared.Containment.{Containment}
-use Rattle.tables.specs.Rows.{rowCount, rowAt}
+use Rattle.tables.specs.Rows.{rowCount}
 use Rattle.tables.proofs.RowLaws.{rows-end}
 use Rattle.containment.specs.Contains.{direct}
 use Rattle.containment.specs.Steps.{Both}
+use Rattle.containment.proofs.RowBoxes.{RowBoxes, row-boxes}
 use Rattle.containment.proofs.ClosingLaws.{marked-none, mark-row}
 use Rattle.containment.proofs.closing.mark_rows.Statement.{statement}
 use Rattle.containment.proofs.closing.mark_rows.Tie as tie
@@ -33,23 +33,17 @@ module _ (c : tie.After-wide2 Inv-loop μ-loop) where
   abbrev start : tie.Start Inv-loop μ-loop
   start = at .before .before .before
 
-  o-is : c .before .wide .result ≡ rowAt (start .args .rows .now) (at .loop .k - 1) .outer
-  o-is = c .before .wide .ensures ∙ ap (λ (r : Containment). r .outer) (c .before .before .at .ensures)
-
-  i-is : c .wide2 .result ≡ rowAt (start .args .rows .now) (at .loop .k - 1) .inner
-  i-is = c .wide2 .ensures ∙ ap (λ (r : Containment). r .inner) (c .before .before .at .ensures)
-
-  o-below : c .before .wide .result < 256
-  o-below = omega (arith, o-is, start .pre .0 .outer-below (at .loop .k - 1) (omega arith))
-
-  i-below : c .wide2 .result < 256
-  i-below = omega (arith, i-is, start .pre .0 .inner-below (at .loop .k - 1) (omega arith))
+  row : RowBoxes 256 (start .args .rows .now) (at .loop .k) (c .before .wide .result) (c .wide2 .result)
+  row =
+      row-boxes (start .pre .0) (omega arith) (omega arith) (c .before .before .at .ensures) (c .before .wide .ensures) (c .wide2 .ensures)
 
 add-requires : tie.Need-add-requires Inv-loop μ-loop
 add-requires c κs =
     let w = c .before in
     let len = at w .loop .inv .1 .len in
-    (omega (arith, o-below w, i-below w), omega (arith, o-below w, i-below w))
+    let o = row w .o-below in
+    let i = row w .i-below in
+    (omega arith, omega arith)
 
 add-requires-2 : tie.Need-add-requires-2 Inv-loop μ-loop
 add-requires-2 c κs =
@@ -57,7 +51,9 @@ add-requires-2 c κs =
     let w = a₁ .before .before in
     let len = at w .loop .inv .1 .len in
     let len₁ = a₁ .add .ensures .len in
-    (omega (arith, o-below w, i-below w), omega (arith, o-below w, i-below w))
+    let o = row w .o-below in
+    let i = row w .i-below in
+    (omega arith, omega arith)
 
 loop-again : tie.Need-loop-again Inv-loop μ-loop
 loop-again c =
@@ -65,9 +61,7 @@ loop-again c =
     let a₁ = a₂ .before .before .before .before in
     let w = a₁ .before .before in (
       search needs,
-      mark-row (at w .loop .k) (start w .args .rows .now) (at w .loop .closure) (a₁ .add .last .0) (a₂ .add2 .last .0)
-          (w .before .wide .result) (w .wide2 .result) (omega arith) (omega arith) (o-is w) (i-is w) (o-below w) (i-below w)
-          (a₁ .add .ensures) (a₂ .add2 .ensures) (at w .loop .inv .1),
+      mark-row (row w) (a₁ .add .ensures) (a₂ .add2 .ensures) (at w .loop .inv .1),
     )
 
 same-length : tie.Need-same-length Inv-loop μ-loop

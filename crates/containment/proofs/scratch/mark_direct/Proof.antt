@@ -1,15 +1,15 @@
 -- `containment::scratch::mark_direct` meets its contract: 2 stands at the rows from k on. Assumes nothing.
-use mathlib.Core.Path.{_≡_, refl, ap, _∙_}
-use Prim.Native.Nat.{_+_, _*_, _-_, _<_, _≤_}
+use mathlib.Core.Path.{_≡_, refl}
+use Prim.Native.Nat.{_+_, _*_, _<_, _≤_}
 use native.Mathlib.Omega.{arith}
 use borrow.Author.Needs.{needs}
 use lib.ListN.{length}
 use Rattle.base.proofs.Index.{in-table}
-use Rattle.tables.specs.declared.Containment.{Containment}
-use Rattle.tables.specs.Rows.{rowCount, rowAt}
+use Rattle.tables.specs.Rows.{rowCount}
 use Rattle.tables.proofs.RowLaws.{rows-end}
 use Rattle.containment.specs.Contains.{direct}
 use Rattle.containment.specs.Steps.{over}
+use Rattle.containment.proofs.RowBoxes.{RowBoxes, row-boxes}
 use Rattle.containment.proofs.MarkLaws.{Marked, mark-turn}
 use Rattle.containment.proofs.scratch.mark_direct.Statement.{statement}
 use Rattle.containment.proofs.scratch.mark_direct.Tie as tie
@@ -34,20 +34,12 @@ module _ (c : tie.After-wide2 Inv-loop μ-loop) where
   abbrev start : tie.Start Inv-loop μ-loop
   start = at .before .before .before
 
-  o-is : c .before .wide .result ≡ rowAt (start .args .rows .now) (at .loop .k - 1) .outer
-  o-is = c .before .wide .ensures ∙ ap (λ (r : Containment). r .outer) (c .before .before .at .ensures)
-
-  i-is : c .wide2 .result ≡ rowAt (start .args .rows .now) (at .loop .k - 1) .inner
-  i-is = c .wide2 .ensures ∙ ap (λ (r : Containment). r .inner) (c .before .before .at .ensures)
-
-  o-below : c .before .wide .result < start .args .n
-  o-below = omega (arith, o-is, start .pre .0 .outer-below (at .loop .k - 1) (omega arith))
-
-  i-below : c .wide2 .result < start .args .n
-  i-below = omega (arith, i-is, start .pre .0 .inner-below (at .loop .k - 1) (omega arith))
+  row : RowBoxes (start .args .n) (start .args .rows .now) (at .loop .k) (c .before .wide .result) (c .wide2 .result)
+  row =
+      row-boxes (start .pre .0) (omega arith) (omega arith) (c .before .before .at .ensures) (c .before .wide .ensures) (c .wide2 .ensures)
 
   byte : c .before .wide .result * start .args .n + c .wide2 .result < length (at .loop .scratch)
-  byte = omega (arith, in-table (start .args .n) (start .args .n) (c .before .wide .result) (c .wide2 .result) o-below i-below)
+  byte = omega (arith, in-table (start .args .n) (start .args .n) (c .before .wide .result) (c .wide2 .result) (row .o-below) (row .i-below))
 
 mul-scratch : tie.Need-mul-scratch Inv-loop μ-loop
 mul-scratch c = omega (arith, byte c)
@@ -62,8 +54,7 @@ loop-again : tie.Need-loop-again Inv-loop μ-loop
 loop-again c =
     let a = start c .args in (
       search needs,
-      mark-turn (a .n) 2 (at c .loop .k) (a .rows .now) (a .scratch .now) (at c .loop .scratch) (omega arith) (omega arith) (omega arith)
-          (c .before .wide .result) (c .wide2 .result) (o-is c) (i-is c) (o-below c) (i-below c) (at c .loop .inv .1),
+      mark-turn 2 (a .scratch .now) (at c .loop .scratch) (row c) (omega arith) (at c .loop .inv .1),
     )
 
 returns : tie.Need-returns Inv-loop μ-loop

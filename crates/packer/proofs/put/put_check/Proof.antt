@@ -20,14 +20,5 @@ returns c =
 
 pub put-check-spec : {M : Type 1} → statement M
 put-check-spec =
-    tie.close
-    (tie.spec
-    (search needs)
-    (λ c κs. search needs)
-    (search needs)
-    (search needs)
-    (search needs)
-    (λ c κs. search needs)
-    (λ c κs. search needs)
-    (search needs)
-    returns)
+    tie.close (tie.spec (search needs) (λ c κs. search needs) (search needs) (search needs) (search needs) (λ c κs. search needs)
+    (λ c κs. search needs) (search needs) returns)

@@ -1,68 +1,44 @@
 -- After j turns j records of the block stand in the file (`Put`). Assumes nothing.
 use Prim.Native.Nat.{_-_}
+use lib.ListN.{length}
 use Rattle.packer.specs.Packed.{boxBytes}
-use Rattle.packer.proofs.RecordLaws.{Put, put-none, at-row, next-asks, put-more, put-all, box-length}
+use Rattle.packer.proofs.RecordLaws.{Put, put-none, place-low, put-asks, next-asks, put-more, put-all, box-length}
 use native.Mathlib.Omega.{arith}
 use borrow.Author.Needs.{needs}
 use Rattle.packer.proofs.records.put_boxes.Statement.{statement}
 use Rattle.packer.proofs.records.put_boxes.Tie as tie
 
 abbrev Inv-loop : tie.InvT-loop
-Inv-loop boxes count at file₀ w₀ j₀ file w j = Put 1 500 (boxBytes boxes) at file₀ w₀ count j file w
+Inv-loop boxes count at file₀ w₀ j₀ file w j = Put 1 500 (length boxes) (boxBytes boxes) at file₀ w₀ count j file w
 
 abbrev μ-loop : tie.MeasureT-loop
 μ-loop boxes count at file₀ w₀ j₀ file w j = count - j
 
 loop-holds : tie.Need-loop-holds Inv-loop μ-loop
-loop-holds c =
-    put-none _ _ _ _ _ _ _ (c .before .before .pre .walked)
+loop-holds c = put-none (c .before .before .pre)
 
 add-put-box : tie.Need-add-put-box Inv-loop μ-loop
-add-put-box c =
-    let at-loop = c .before .before in
-    let run = at-loop .before .before .before .pre in
-    let w = at-row _ _ _ _ _ _ _ run _ _ _ (at-loop .loop .inv) (search needs) in
-    omega (arith, w .1, run .most, run .the-byte)
+add-put-box c = let low = place-low (c .before .before .loop .inv) (search needs) in omega (arith, low .0, low .1)
 
 put-box-requires : tie.Need-put-box-requires Inv-loop μ-loop
-put-box-requires c κs =
-    let at-loop = c .before .before .before in
-    let run = at-loop .before .before .before .pre in
-    let w = at-row _ _ _ _ _ _ _ run _ _ _ (at-loop .loop .inv) (search needs) in
-    (omega (arith, w .0, run .rows-left), omega (arith, w .1, run .room, at-loop .loop .inv .same-length))
+put-box-requires c κs = put-asks (c .before .before .before .loop .inv) (search needs) _ (omega arith)
 
 next-requires : tie.Need-next-requires Inv-loop μ-loop
-next-requires c κs =
-    let at-loop = c .before .before .before .before .before .before in
-    next-asks _ _ _ _ _ _ _ (at-loop .before .before .before .pre) _ _ _ (at-loop .loop .inv) (search needs)
+next-requires c κs = next-asks (c .before .before .before .before .before .before .loop .inv) (search needs)
 
 loop-again : tie.Need-loop-again Inv-loop μ-loop
 loop-again c =
-    let at-loop = c .before .before .before .before .before .before .before in
-    let run = at-loop .before .before .before .pre in
-    let w = at-row _ _ _ _ _ _ _ run _ _ _ (at-loop .loop .inv) (search needs) in
-    put-more _ _ _ _ _ _ _ run _ _ _ (at-loop .loop .inv) (search needs) (box-length _) _ _ _ (c .before .before .before .put-box .ensures) (omega (arith, w .1)) (c .next .ensures)
+    let put = c .before .before .before in
+    put-more (put .before .before .before .before .loop .inv) (search needs) (box-length _) _ (omega arith)
+    (put .put-box .ensures) (c .next .ensures)
 
 same-length : tie.Need-same-length Inv-loop μ-loop
-same-length c =
-    c .before .loop .inv .same-length
+same-length c = c .before .loop .inv .same-length
 
 returns : tie.Need-returns Inv-loop μ-loop
-returns c =
-    put-all _ _ _ _ _ _ _ _ _ _ (c .before .loop .inv) (search needs)
+returns c = put-all (c .before .loop .inv) (search needs)
 
 pub put-boxes-spec : {M : Type 1} → statement M
 put-boxes-spec =
-    tie.close
-    (tie.spec
-    Inv-loop
-    μ-loop
-    loop-holds
-    add-put-box
-    put-box-requires
-    next-requires
-    (search needs)
-    (search needs)
-    loop-again
-    same-length
-    returns)
+    tie.close (tie.spec Inv-loop μ-loop loop-holds add-put-box put-box-requires next-requires
+    (search needs) (search needs) loop-again same-length returns)
