@@ -27,6 +27,9 @@ impl Order<'_> {
         let users = self.closure.within[a.tail as usize];
         let files = self.closure.within[a.head as usize];
         let open = |u: u8| files & self.left[u as usize];
+        if !users.any(|u| !open(u).is_empty()) {
+            return Standing::Spent;
+        }
         let blocked = if a.positive {
             users.any(|u| !(open(u) - self.granted[u as usize]).is_empty())
         } else {
@@ -34,19 +37,18 @@ impl Order<'_> {
         };
         if blocked {
             Standing::Blocked
-        } else if users.any(|u| !open(u).is_empty()) {
-            Standing::Free
         } else {
-            Standing::Spent
+            Standing::Free
         }
     }
 
-    /// The first of the arrows that is free. What is spent stays so, and is not looked at again.
-    fn next_free(&self, own: &[Arrow], spent: &mut [bool]) -> Option<Arrow> {
-        for (&a, spent) in own.iter().zip(spent) {
+    /// The first place whose arrow is free. What is spent stays so: it is not looked at again, and
+    /// the places before `from` are not even read.
+    fn next_free(&self, own: &[Arrow], spent: &mut [bool], from: usize) -> Option<usize> {
+        for (i, (&a, spent)) in own.iter().zip(spent).enumerate().skip(from) {
             if !*spent {
                 match self.standing(a) {
-                    Standing::Free => return Some(a),
+                    Standing::Free => return Some(i),
                     Standing::Spent => *spent = true,
                     Standing::Blocked => {}
                 }
@@ -58,15 +60,21 @@ impl Order<'_> {
     /// Writes the list and answers its length.
     fn write(&mut self, own: &[Arrow], out: &mut [u16]) -> usize {
         let mut spent = [false; ARROWS];
+        let mut from = 0;
         let mut count = 0;
         for place in out {
-            let Some(a) = self.next_free(own, &mut spent) else {
+            let Some(i) = self.next_free(own, &mut spent, from) else {
                 break;
             };
+            let a = own[i];
             *place = a.number;
             count += 1;
             let files = self.closure.within[a.head as usize];
             self.closure.within[a.tail as usize].each(|u| self.left[u as usize] -= files);
+            spent[i] = true;
+            while from < own.len() && spent[from] {
+                from += 1;
+            }
         }
         count
     }

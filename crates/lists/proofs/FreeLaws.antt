@@ -10,7 +10,7 @@ use lib.Seq.{getD-set-same, getD-set-other}
 use Rattle.tables.specs.Rows.{arrowAt}
 use Rattle.base.specs.Buffers.{zeros}
 use Rattle.base.proofs.BufferLaws.{zeros-at}
-use Rattle.lists.specs.Steps.{standingBy, markOf, Done, NextFree}
+use Rattle.lists.specs.Steps.{standingBy, markOf, Done, SpentBefore, MarkedTo, NextFree}
 use Rattle.lists.specs.declared.Standing.{Standing}
 use Rattle.lists.specs.declared.Standing.the-variants.{Blocked, Spent, Free}
 
@@ -32,6 +32,9 @@ free-mark : (s : Standing) → s ≡ Free → markOf s ≡ 2
 unfolding markOf
 free-mark s e = rw e
 
+spent-free : (s : Standing) → s ≡ Spent → s ≡ Free → ⊥
+spent-free s e f = let z : _≡_ {A = ℕ} 0 1 = cc in omega arith
+
 -- ---- the walk over the places
 
 module _ (closure arrows own left granted : List ℕ) where
@@ -45,12 +48,22 @@ module _ (closure arrows own left granted : List ℕ) where
     pub none-free : (j : ℕ) → j < i → standsAt j ≡ Free → ⊥
     pub marked : Done closure arrows own left granted done
 
-  pub looked-none : (old : List ℕ) → Done closure arrows own left granted old → Looked old 0 old
-  looked-none old d = record { len = refl; at-most = omega arith; none-free = λ j l. absurd (omega arith); marked = d }
+  pub looked-from : (old : List ℕ) (from : ℕ) → from ≤ length own → SpentBefore closure arrows own left granted from
+      → Done closure arrows own left granted old → Looked old from old
+  looked-from old from h s d = record { len = refl; at-most = h; none-free = λ j l. spent-free (standsAt j) (s j l); marked = d }
 
   -- no place is marked at first
   pub none-marked : (n : ℕ) → length own ≤ n → Done closure arrows own left granted (zeros n)
   none-marked n h i l e = absurd (e (zeros-at n i (omega arith)))
+
+  -- a place that is marked
+  pub looked-skip : (old : List ℕ) (i : ℕ) (done : List ℕ) → i < length own → (getD done i 0 ≡ 0 → ⊥) → Looked old i done → Looked old (i + 1) done
+  looked-skip old i done there n k = record {
+    len = k .len;
+    at-most = omega arith;
+    none-free = below-more (λ j. standsAt j ≡ Free → ⊥) i (k .none-free) (spent-free (standsAt i) (k .marked i there n));
+    marked = k .marked;
+  }
 
   module _ (old : List ℕ) (i : ℕ) (done : List ℕ) (mark : ℕ) (there : i < length own) (is : mark ≡ markOf (standsAt i))
       (k : Looked old i done) where
@@ -75,3 +88,11 @@ module _ (closure arrows own left granted : List ℕ) where
 
   pub looked-end : (old done : List ℕ) → Looked old (length own) done → NextFree closure arrows own left granted (length own)
   looked-end old done k = record { at-most = omega arith; none-before = k .none-free; holds = λ l. absurd (omega arith) }
+
+-- ---- the walk over the marks
+
+pub marked-none : (done : List ℕ) (from : ℕ) → MarkedTo done from from
+marked-none done from i a b = absurd (omega arith)
+
+pub marked-more : (done : List ℕ) (from i : ℕ) → (getD done i 0 ≡ 0 → ⊥) → MarkedTo done from i → MarkedTo done from (i + 1)
+marked-more done from i n m j a l = below-more (λ k. from ≤ k → getD done k 0 ≡ 0 → ⊥) i (λ k b c. m k c b) (λ b. n) j l a

@@ -31,7 +31,7 @@ use Rattle.lists.specs.Steps.{someIn, wrongAt, standingOf, standingBy, T
 use Rattle.lists.specs.declared.Standing.the-variants.{Free}
 use Rattle.lists.proofs.CountLaws.{anyOf-snoc}
 use Rattle.lists.proofs.GreedyLaws.{adds, adds-new, addable-is}
-use Rattle.lists.proofs.StandLaws.{some-found, some-is}
+use Rattle.lists.proofs.SomeLaws.{some-found, some-is}
 
 -- ---- an arrow's sign and a clear answer
 
@@ -109,11 +109,11 @@ module _ (pic : Picture) (closure : List ℕ) (drawn : Drawn pic closure) where
       abbrev leftAnd : ℕ → ℕ → Bool
       leftAnd u f = has left u f && test u f
 
-      some-place : T (someIn tails heads leftAnd)
+      some-place : T (someIn (isIn tails) heads leftAnd)
           → (p : ℕ) × (p < pairs pic) × T (meets pic p k) × (T (anyOf (meets pic p) l) → ⊥) × T (test (userAt pic p) (fileAt pic p))
       unfolding meets
       some-place t =
-          let r = some-found heads leftAnd tails t in
+          let r = some-found heads leftAnd (isIn tails) t in
           let u = r .0 in
           let f = r .1 in
           let h = and-T (has left u f) (test u f) (r .4) in
@@ -129,7 +129,7 @@ module _ (pic : Picture) (closure : List ℕ) (drawn : Drawn pic closure) where
           )
 
       place-some : (p : ℕ) → p < pairs pic → T (meets pic p k) → (T (anyOf (meets pic p) l) → ⊥) → T (test (userAt pic p) (fileAt pic p))
-          → T (someIn tails heads leftAnd)
+          → T (someIn (isIn tails) heads leftAnd)
       unfolding meets
       place-some p b r n t =
           let u = userAt pic p in
@@ -137,7 +137,7 @@ module _ (pic : Picture) (closure : List ℕ) (drawn : Drawn pic closure) where
           let e = and-T (isIn tails u) (isIn heads f) (rw (ends-in k there u f) r) in
           let h : T (has left u f) =
           rw (at-pair (unreached pic l) left tl u f (userAt-atom pic p b, fileAt-atom pic p b)) (not-T (anyOf (meets pic p) l) n) in
-          some-is heads leftAnd tails u f (e .0) (e .1) (T-and (has left u f) (test u f) h t)
+          some-is heads leftAnd (isIn tails) u f (in-below tails u (e .0)) (e .0) (e .1) (T-and (has left u f) (test u f) h t)
 
     abbrev anyPair : ℕ → ℕ → Bool
     anyPair u f = true
@@ -159,12 +159,12 @@ module _ (pic : Picture) (closure : List ℕ) (drawn : Drawn pic closure) where
           (gives-clear (arrowAt (pic .arrows) k .sign) (answer pic m u f) (drawn .arrows-sound .sign-most k there)
           (clear-pair pic m clear u f (pair .0) (pair .1)))
 
-      wrong-test : someIn tails heads (wrongAt left granted (arrowAt (pic .arrows) k .sign)) ≡ someIn tails heads (leftAnd (wrong granted))
+      wrong-test : someIn (isIn tails) heads (wrongAt left granted (arrowAt (pic .arrows) k .sign)) ≡ someIn (isIn tails) heads (leftAnd (wrong granted))
       unfolding someIn wrongAt
       wrong-test = refl
 
-      new-test : someIn tails heads (has left) ≡ someIn tails heads (leftAnd anyPair)
-      new-test = ap (someIn tails heads) (fun-ext (λ u. fun-ext (λ f. sym (flat (has left u f)))))
+      new-test : someIn (isIn tails) heads (has left) ≡ someIn (isIn tails) heads (leftAnd anyPair)
+      new-test = ap (someIn (isIn tails) heads) (fun-ext (λ u. fun-ext (λ f. sym (flat (has left u f)))))
         where
           flat : (b : Bool) → (b && true) ≡ b
           flat true = refl
@@ -173,14 +173,14 @@ module _ (pic : Picture) (closure : List ℕ) (drawn : Drawn pic closure) where
       pub free-addable : standingBy closure left granted (arrowAt (pic .arrows) k) ≡ Free → T (addable pic m l k)
       unfolding standingBy
       free-addable e =
-          let s = free-parts (someIn tails heads (wrongAt left granted (arrowAt (pic .arrows) k .sign))) (someIn tails heads (has left)) e in
+          let s = free-parts (someIn (isIn tails) heads (wrongAt left granted (arrowAt (pic .arrows) k .sign))) (someIn (isIn tails) heads (has left)) e in
           let r = some-place anyPair (true-T _ (sym new-test ∙ s .1)) in
           addable-is pic m l k of
           (λ p b z n. right-if p b z n (T? (right pic m p k)) (false-not _ (sym wrong-test ∙ s .0)))
           (r .0) (r .1) (r .2) (r .3)
         where
           right-if : (p : ℕ) → p < pairs pic → T (meets pic p k) → (T (anyOf (meets pic p) l) → ⊥) → Dec (T (right pic m p k))
-              → (T (someIn tails heads (leftAnd (wrong granted))) → ⊥) → T (right pic m p k)
+              → (T (someIn (isIn tails) heads (leftAnd (wrong granted))) → ⊥) → T (right pic m p k)
           right-if p b z n (yes y) none′ = y
           right-if p b z n (no d) none′ =
               absurd (none′ (place-some (wrong granted) p b z n (rw (wrong-is p b) (not-T (right pic m p k) d))))
@@ -190,7 +190,7 @@ module _ (pic : Picture) (closure : List ℕ) (drawn : Drawn pic closure) where
       addable-free t =
           let a = adds pic m l k t in
           let n = adds-new pic m l k t in
-          parts-free (someIn tails heads (wrongAt left granted (arrowAt (pic .arrows) k .sign))) (someIn tails heads (has left))
+          parts-free (someIn (isIn tails) heads (wrongAt left granted (arrowAt (pic .arrows) k .sign))) (someIn (isIn tails) heads (has left))
           (wrong-test
           ∙ not-false _
           (λ z.
@@ -200,7 +200,7 @@ module _ (pic : Picture) (closure : List ℕ) (drawn : Drawn pic closure) where
 
     -- ---- taking the arrow's files goes on to the list with the arrow at its end
 
-    pub taken-shown : (left′ : List ℕ) → Takes tails heads left left′ → Table pic (unreached pic (l ++ (k ∷ []))) left′
+    pub taken-shown : (left′ : List ℕ) → Takes (isIn tails) heads left left′ → Table pic (unreached pic (l ++ (k ∷ []))) left′
     taken-shown left′ t = record {
       len = t .len ∙ tl .len;
       each = λ u f b.

@@ -8,6 +8,7 @@ pub mod CallLaws
 pub mod ConditionLaws
 pub mod FixedLaws
 pub mod SameLists
+pub mod SomeLaws
 pub mod StandLaws
 pub mod FreeLaws
 pub mod GrowLaws

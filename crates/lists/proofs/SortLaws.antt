@@ -9,7 +9,7 @@ use Rattle.base.specs.Buffers.{zeros}
 use Rattle.base.proofs.SearchLaws.{some-none}
 use Rattle.tables.specs.Rows.{Picture, user, file}
 use Rattle.tables.specs.Atoms.{atom}
-use Rattle.tables.specs.Refusals.{refusal, unclearPair, verdictOf}
+use Rattle.tables.specs.Refusals.{refusal, verdictOf}
 use Rattle.tables.specs.declared.Verdict.the-variants.{Passed, Refused}
 use Rattle.tables.proofs.Verdicts.{refused}
 use Rattle.boxsets.specs.Sets.{isIn, low, Put}

@@ -3,21 +3,23 @@ use mathlib.Core.Path.{_≡_, refl, sym, ap, _∙_}
 use mathlib.Core.List.{List, [], _∷_, _++_}
 use mathlib.Core.Option.{none}
 use Prim.Native.Nat.{ℕ, _+_, _<_, _≤_}
+use native.Mathlib.Decide.{ℕ-discrete, decLt}
 use native.Mathlib.Numerals.{add-one}
 use native.Mathlib.Omega.{arith}
 use lib.Dec.{T}
 use lib.ListN.{length, getD, set, length-append, length-set}
+use lib.Seq.{getD-set-other}
 use Rattle.base.specs.Buffers.{written, zeros}
 use Rattle.base.proofs.BufferLaws.{written-none, written-more, zeros-length}
 use Rattle.tables.specs.Rows.{Picture, arrowCount, arrowAt}
-use Rattle.boxsets.specs.Sets.{setAt}
+use Rattle.boxsets.specs.Sets.{isIn, setAt}
 use Rattle.user_rows.specs.Row.{ownArrows}
 use Rattle.lists.specs.Greedy.{addable, next, listTo}
-use Rattle.lists.specs.Steps.{standingBy, Done, Takes, NextFree, Table, unreached, Clear, Ordered}
-use Rattle.lists.specs.declared.Standing.the-variants.{Free}
+use Rattle.lists.specs.Steps.{standingBy, Done, SpentBefore, MarkedTo, Takes, NextFree, Table, unreached, Clear, Ordered}
+use Rattle.lists.specs.declared.Standing.the-variants.{Spent, Free}
 use Rattle.lists.proofs.GreedyLaws.{ofMode-there}
 use Rattle.lists.proofs.NextLaws.{to-next, greedy-is}
-use Rattle.lists.proofs.StandLaws.{spent-stays, takes-fewer}
+use Rattle.lists.proofs.StandLaws.{spent-stays, takes-fewer, taken-spent}
 use Rattle.lists.proofs.FreeLaws.{none-marked}
 use Rattle.lists.proofs.GrowLaws.{free-addable, addable-free, taken-shown}
 use Rattle.lists.proofs.OwnLaws.{own-mode, own-next, own-end, own-full, to-room}
@@ -87,7 +89,7 @@ module _ (pic : Picture) (m : ℕ) (closure arrows own granted out₀ : List ℕ
         one-longer = ap length one-more ∙ length-append (To count) (getD numbers r 0 ∷ []) ∙ ap (λ (n : ℕ). n + 1) (g .counted)
 
         pub growing-next : (left′ : List ℕ)
-            → Takes (setAt closure (arrowAt arrows (getD own r 0) .tail)) (setAt closure (arrowAt arrows (getD own r 0) .head)) left left′
+            → Takes (isIn (setAt closure (arrowAt arrows (getD own r 0) .tail))) (setAt closure (arrowAt arrows (getD own r 0) .head)) left left′
             → Growing left′ (set out count (getD own r 0)) (count + 1)
         growing-next left′ t =
             let k = getD numbers r 0 in
@@ -103,28 +105,32 @@ module _ (pic : Picture) (m : ℕ) (closure arrows own granted out₀ : List ℕ
             })
 
 -- the loop as a whole: how it stands, whatever picture the sets are of
-pub record Ordering (closure arrows own granted left₀ out₀ left out done : List ℕ) (count : ℕ) : Type 0 where
+pub record Ordering (closure arrows own granted left₀ out₀ left out done : List ℕ) (count from : ℕ) : Type 0 where
   pub count-most : count ≤ length own
   pub left-len : length left ≡ 1024
   pub out-len : length out ≡ length out₀
   pub done-len : length done ≡ 512
   pub marked : Done closure arrows own left granted done
+  pub from-most : from ≤ length own
+  pub before : SpentBefore closure arrows own left granted from
   pub grows : (pic : Picture) (m : ℕ) → Clear pic m closure arrows own granted → Table pic (unreached pic []) left₀
       → Growing pic m closure arrows own granted out₀ left out count
 
 module _ (closure arrows own granted left₀ out₀ : List ℕ) where
-  pub ordering-none : length left₀ ≡ 1024 → length own ≤ 512 → Ordering closure arrows own granted left₀ out₀ left₀ out₀ (zeros 512) 0
+  pub ordering-none : length left₀ ≡ 1024 → length own ≤ 512 → Ordering closure arrows own granted left₀ out₀ left₀ out₀ (zeros 512) 0 0
   ordering-none l h = record {
     count-most = omega arith;
     left-len = l;
     out-len = refl;
     done-len = zeros-length 512;
     marked = none-marked closure arrows own left₀ granted 512 h;
+    from-most = omega arith;
+    before = λ i l. absurd (omega arith);
     grows = λ pic m d t. growing-none pic m closure arrows own granted out₀ left₀ t;
   }
 
-  module _ (fits : length own ≤ length out₀) (left out done : List ℕ) (count : ℕ)
-      (o : Ordering closure arrows own granted left₀ out₀ left out done count) where
+  module _ (fits : length own ≤ length out₀) (left out done : List ℕ) (count from : ℕ)
+      (o : Ordering closure arrows own granted left₀ out₀ left out done count from) where
     -- what is promised
     abbrev pub Promise : Type 0
     Promise = (pic : Picture) (m : ℕ) → Clear pic m closure arrows own granted → Table pic (unreached pic []) left₀ → Ordered pic m out₀ count out left
@@ -136,15 +142,33 @@ module _ (closure arrows own granted left₀ out₀ : List ℕ) where
       pub ordering-done : length own ≤ r → Promise
       ordering-done h pic m d t = growing-done pic m closure arrows own granted out₀ d fits left out count (o .grows pic m d t) r f h
 
-      pub ordering-next : count < length own → r < length own → (done′ left′ : List ℕ) → length done′ ≡ length done
-          → Done closure arrows own left granted done′
-          → Takes (setAt closure (arrowAt arrows (getD own r 0) .tail)) (setAt closure (arrowAt arrows (getD own r 0) .head)) left left′
-          → Ordering closure arrows own granted left₀ out₀ left′ (set out count (getD own r 0)) done′ (count + 1)
-      ordering-next l h done′ left′ dl dm t = record {
-        count-most = omega arith;
-        left-len = t .len ∙ o .left-len;
-        out-len = length-set out count (getD own r 0) ∙ o .out-len;
-        done-len = dl ∙ o .done-len;
-        marked = λ i b e. spent-stays closure granted left left′ (takes-fewer _ _ left left′ t) (arrowAt arrows (getD own i 0)) (dm i b e);
-        grows = λ pic m d s. growing-next pic m closure arrows own granted out₀ d fits left out count (o .grows pic m d s) r f h left′ t;
-      }
+      -- the arrow at r is listed, and is spent then
+      module _ (h : r < length own) (done′ left′ : List ℕ) (same : length done′ ≡ length done) (m′ : Done closure arrows own left granted done′)
+          (t : Takes (isIn (setAt closure (arrowAt arrows (getD own r 0) .tail))) (setAt closure (arrowAt arrows (getD own r 0) .head)) left left′) where
+        stays : (i : ℕ) → standingBy closure left granted (arrowAt arrows (getD own i 0)) ≡ Spent
+            → standingBy closure left′ granted (arrowAt arrows (getD own i 0)) ≡ Spent
+        stays i = spent-stays closure granted left left′ (takes-fewer _ _ left left′ t) (arrowAt arrows (getD own i 0))
+
+        marks : Done closure arrows own left′ granted (set done′ r 1)
+        marks i b n = go (ℕ-discrete i r)
+          where
+            go : Dec (i ≡ r) → standingBy closure left′ granted (arrowAt arrows (getD own i 0)) ≡ Spent
+            go (yes e) = rw e (taken-spent closure granted left left′ (arrowAt arrows (getD own r 0)) t)
+            go (no d) = stays i (m′ i b (λ z. n (getD-set-other done′ r i 1 0 d ∙ z)))
+
+        pub ordering-next : count < length own → (from′ : ℕ) → from′ ≤ length own → MarkedTo (set done′ r 1) from from′
+            → Ordering closure arrows own granted left₀ out₀ left′ (set out count (getD own r 0)) (set done′ r 1) (count + 1) from′
+        ordering-next l from′ most to = record {
+          count-most = omega arith;
+          left-len = t .len ∙ o .left-len;
+          out-len = length-set out count (getD own r 0) ∙ o .out-len;
+          done-len = length-set done′ r 1 ∙ same ∙ o .done-len;
+          marked = marks;
+          from-most = most;
+          before = λ i b. go i b (decLt i from);
+          grows = λ pic m d s. growing-next pic m closure arrows own granted out₀ d fits left out count (o .grows pic m d s) r f h left′ t;
+        }
+          where
+            go : (i : ℕ) → i < from′ → Dec (i < from) → standingBy closure left′ granted (arrowAt arrows (getD own i 0)) ≡ Spent
+            go i b (yes y) = stays i (o .before i y)
+            go i b (no n) = marks i (omega arith) (to i (omega arith) b)

@@ -29,8 +29,8 @@ use Rattle.lists.specs.declared.Standing.the-variants.{Blocked, Spent, F
 -- ---- by sets alone: `left` has for each user the files that the list does not reach yet, `granted` those that are granted
 
 -- one of the users has one of the files at which the test holds
-unfoldable pub someIn : (users files : Set) (test : ℕ → ℕ → Bool) → Bool
-someIn users files test = anyBelow (λ u. isIn users u && anyBelow (λ f. isIn files f && test u f) 256) 256
+unfoldable pub someIn : (users : ℕ → Bool) (files : Set) (test : ℕ → ℕ → Bool) → Bool
+someIn users files test = anyBelow (λ u. users u && anyBelow (λ f. isIn files f && test u f) 256) 256
 
 -- the pair is left, and an arrow of the sign would give it the wrong answer
 unfoldable pub wrongAt : (left granted : List ℕ) (sign u f : ℕ) → Bool
@@ -45,8 +45,8 @@ standingOf false false = Spent
 -- how the arrow stands, by the closure
 unfoldable pub standingBy : (closure left granted : List ℕ) (a : Arrow) → Standing
 standingBy closure left granted a =
-    standingOf (someIn (setAt closure (a .tail)) (setAt closure (a .head)) (wrongAt left granted (a .sign)))
-    (someIn (setAt closure (a .tail)) (setAt closure (a .head)) (has left))
+    standingOf (someIn (isIn (setAt closure (a .tail))) (setAt closure (a .head)) (wrongAt left granted (a .sign)))
+    (someIn (isIn (setAt closure (a .tail))) (setAt closure (a .head)) (has left))
 
 -- the mark of a place of the numbers: 1 if its arrow is spent, 2 if it is free
 unfoldable pub markOf : Standing → ℕ
@@ -59,6 +59,15 @@ abbrev pub Done : (closure arrows own left granted done : List ℕ) → Type 0
 Done closure arrows own left granted done =
     (i : ℕ) → i < length own → (getD done i 0 ≡ 0 → ⊥) → standingBy closure left granted (arrowAt arrows (getD own i 0)) ≡ Spent
 
+-- the places before `from` are those of spent arrows
+abbrev pub SpentBefore : (closure arrows own left granted : List ℕ) (from : ℕ) → Type 0
+SpentBefore closure arrows own left granted from =
+    (i : ℕ) → i < from → standingBy closure left granted (arrowAt arrows (getD own i 0)) ≡ Spent
+
+-- the places from `from` on are marked up to r
+abbrev pub MarkedTo : (done : List ℕ) (from r : ℕ) → Type 0
+MarkedTo done from r = (i : ℕ) → from ≤ i → i < r → getD done i 0 ≡ 0 → ⊥
+
 -- r is the first place whose arrow is free, or the number of places
 pub record NextFree (closure arrows own left granted : List ℕ) (r : ℕ) : Type 0 where
   pub at-most : r ≤ length own
@@ -66,9 +75,9 @@ pub record NextFree (closure arrows own left granted : List ℕ) (r : ℕ) : Typ
   pub holds : r < length own → standingBy closure left granted (arrowAt arrows (getD own r 0)) ≡ Free
 
 -- the files were taken from what each of the users has left
-pub record Takes (users files : Set) (left left′ : List ℕ) : Type 0 where
+pub record Takes (users : ℕ → Bool) (files : Set) (left left′ : List ℕ) : Type 0 where
   pub len : length left′ ≡ length left
-  pub each : (u f : ℕ) → has left′ u f ≡ (has left u f && not (isIn users u && isIn files f))
+  pub each : (u f : ℕ) → has left′ u f ≡ (has left u f && not (users u && isIn files f))
 
 -- ---- what the sets say of a picture
 

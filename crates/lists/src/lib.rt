@@ -2,6 +2,7 @@
 mod granted;
 mod order;
 mod stages;
+mod stands;
 
 ghost use mathlib.Core.Path.{_≡_};
 ghost use Prim.Native.Nat.{ℕ, _≤_};

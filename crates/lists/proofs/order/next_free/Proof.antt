@@ -6,70 +6,77 @@ use borrow.Author.Needs.{needs}
 use lib.ListN.{length, getD}
 use Rattle.tables.specs.Rows.{arrowAt}
 use Rattle.lists.specs.Steps.{standingBy, markOf}
-use Rattle.lists.proofs.FreeLaws.{Looked, looked-none, looked-found, looked-more, looked-end}
+use Rattle.lists.proofs.FreeLaws.{Looked, looked-from, looked-skip, looked-found, looked-more, looked-end}
 use Rattle.lists.proofs.order.next_free.Statement.{statement}
 use Rattle.lists.proofs.order.next_free.Tie as tie
 
 abbrev Inv-loop : tie.InvT-loop
-Inv-loop closure arrows own left granted done₀ i₀ i-end done i = Looked closure arrows own left granted done₀ i done
+Inv-loop closure arrows own left granted done₀ from i₀ i-end done i = Looked closure arrows own left granted done₀ i done
 
 abbrev μ-loop : tie.MeasureT-loop
-μ-loop closure arrows own left granted done₀ i₀ i-end done i = length own - i
+μ-loop closure arrows own left granted done₀ from i₀ i-end done i = length own - i
 
 loop-holds : tie.Need-loop-holds Inv-loop μ-loop
 loop-holds c =
     let start = c .before .before .before .before .before .before in
     let a = start .args in
-    looked-none (a .closure .now) (a .arrows .now) (a .own .now) (a .left .now) (a .granted .now) (a .done .now) (start .pre .1 .1)
+    looked-from (a .closure .now) (a .arrows .now) (a .own .now) (a .left .now) (a .granted .now) (a .done .now) (a .from) (start .pre .1 .1 .1 .0)
+    (start .pre .1 .1 .1 .1) (start .pre .1 .1 .0)
 
-slice-read-look : tie.Need-slice-read-look Inv-loop μ-loop
-slice-read-look c =
-    let at-loop = c .before .before .before .before in
-    let start = at-loop .before .before .before .before .before .before .before in
-    omega (arith, at-loop .loop .inv .len, start .pre .1 .0 .2)
-
-look-requires : tie.Need-look-requires Inv-loop μ-loop
-look-requires c κs =
-    let at-loop = c .before .before .before .before in
-    let start = at-loop .before .before .before .before .before .before .before in
-    let i = at-loop .loop .i in
-    let there : i < length (start .args .own .now) = omega arith in
-    rw (c .before .wide .ensures)
-    ((start .pre .0 .0, start .pre .0 .1, start .pre .0 .2, start .pre .1 .0 .0, start .pre .1 .0 .1 i there), at-loop .loop .inv .marked i there)
-
--- the mark of place i
-mark-is : (c : tie.After-look Inv-loop μ-loop) →
-    let at-loop = c .before .before .before .before .before in
-    let a = at-loop .before .before .before .before .before .before .before .args in
-    c .look .result
-    ≡ markOf (standingBy (a .closure .now) (a .left .now) (a .granted .now) (arrowAt (a .arrows .now) (getD (a .own .now) (at-loop .loop .i) 0)))
-mark-is c = c .look .ensures ∙ rw (c .before .before .wide .ensures)
-
-same-length : tie.Need-same-length Inv-loop μ-loop
-same-length c = c .before .before .before .before .before .before .loop .inv .len
-
-returns : tie.Need-returns Inv-loop μ-loop
-returns c =
-    let at-loop = c .before .before .before .before .before .before in
-    let a = at-loop .before .before .before .before .before .before .before .args in (
-      looked-found (a .closure .now) (a .arrows .now) (a .own .now) (a .left .now) (a .granted .now) (a .done .now) (at-loop .loop .i)
-          (at-loop .loop .done) (c .before .look .result) (omega arith) (mark-is (c .before)) (at-loop .loop .inv) (c .if1 .taken),
-      (at-loop .loop .inv .len, at-loop .loop .inv .marked),
-    )
-
-slice-write-done : tie.Need-slice-write-done Inv-loop μ-loop
-slice-write-done c =
-    let at-loop = c .before .before .before .before .before .before in
+slice-read-if1 : tie.Need-slice-read-if1 Inv-loop μ-loop
+slice-read-if1 c =
+    let at-loop = c .before .before in
     let start = at-loop .before .before .before .before .before .before .before in
     omega (arith, at-loop .loop .inv .len, start .pre .1 .0 .2)
 
 loop-again : tie.Need-loop-again Inv-loop μ-loop
 loop-again c =
+    let at-loop = c .before .before .before in
+    let a = at-loop .before .before .before .before .before .before .before .args in
+    looked-skip (a .closure .now) (a .arrows .now) (a .own .now) (a .left .now) (a .granted .now) (a .done .now) (at-loop .loop .i) (at-loop .loop .done)
+    (omega arith) (c .if1 .taken) (at-loop .loop .inv)
+
+look-requires : tie.Need-look-requires Inv-loop μ-loop
+look-requires c κs =
+    let at-loop = c .before .before .before .before .before in
+    let start = at-loop .before .before .before .before .before .before .before in
+    let i = at-loop .loop .i in
+    let there : i < length (start .args .own .now) = omega arith in
+    rw (c .wide .ensures) (start .pre .0 .0, start .pre .0 .1, start .pre .0 .2, start .pre .1 .0 .0, start .pre .1 .0 .1 i there)
+
+-- the mark of place i
+mark-is : (c : tie.After-look Inv-loop μ-loop) →
     let at-loop = c .before .before .before .before .before .before in
+    let a = at-loop .before .before .before .before .before .before .before .args in
+    c .look .result
+    ≡ markOf (standingBy (a .closure .now) (a .left .now) (a .granted .now) (arrowAt (a .arrows .now) (getD (a .own .now) (at-loop .loop .i) 0)))
+mark-is c = c .look .ensures ∙ rw (c .before .wide .ensures)
+
+same-length : tie.Need-same-length Inv-loop μ-loop
+same-length c = c .before .before .before .before .before .before .before .loop .inv .len
+
+returns : tie.Need-returns Inv-loop μ-loop
+returns c =
+    let at-loop = c .before .before .before .before .before .before .before in
+    let a = at-loop .before .before .before .before .before .before .before .args in (
+      looked-found (a .closure .now) (a .arrows .now) (a .own .now) (a .left .now) (a .granted .now) (a .done .now) (at-loop .loop .i)
+          (at-loop .loop .done) (c .before .look .result) (omega arith) (mark-is (c .before)) (at-loop .loop .inv) (c .if2 .taken),
+      (at-loop .loop .inv .len, at-loop .loop .inv .marked),
+    )
+
+slice-write-done : tie.Need-slice-write-done Inv-loop μ-loop
+slice-write-done c =
+    let at-loop = c .before .before .before .before .before .before .before in
+    let start = at-loop .before .before .before .before .before .before .before in
+    omega (arith, at-loop .loop .inv .len, start .pre .1 .0 .2)
+
+loop-again-2 : tie.Need-loop-again-2 Inv-loop μ-loop
+loop-again-2 c =
+    let at-loop = c .before .before .before .before .before .before .before in
     let start = at-loop .before .before .before .before .before .before .before in
     let a = start .args in
     looked-more (a .closure .now) (a .arrows .now) (a .own .now) (a .left .now) (a .granted .now) (a .done .now) (at-loop .loop .i)
-    (at-loop .loop .done) (c .before .look .result) (omega arith) (mark-is (c .before)) (at-loop .loop .inv) (start .pre .1 .0 .2) (c .if1 .left)
+    (at-loop .loop .done) (c .before .look .result) (omega arith) (mark-is (c .before)) (at-loop .loop .inv) (start .pre .1 .0 .2) (c .if2 .left)
 
 same-length-2 : tie.Need-same-length-2 Inv-loop μ-loop
 same-length-2 c = c .before .loop .inv .len
@@ -87,5 +94,5 @@ returns-2 c =
 
 pub next-free-spec : {M : Type 1} → statement M
 next-free-spec =
-    tie.close (tie.spec Inv-loop μ-loop loop-holds (search needs) (search needs) (λ c κs. search needs) slice-read-look look-requires
-    same-length returns slice-write-done (search needs) (search needs) loop-again same-length-2 returns-2)
+    tie.close (tie.spec Inv-loop μ-loop loop-holds slice-read-if1 (search needs) (search needs) loop-again (search needs) (search needs)
+    (λ c κs. search needs) look-requires same-length returns slice-write-done (search needs) (search needs) loop-again-2 same-length-2 returns-2)

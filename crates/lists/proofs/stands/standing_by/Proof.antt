@@ -1,11 +1,11 @@
--- `lists::order::standing_by` meets its contract: the sets of the arrow's ends. Assumes nothing.
+-- `lists::stands::standing_by` meets its contract: the sets of the arrow's ends. Assumes nothing.
 use mathlib.Core.Path.{_∙_}
 use Prim.Native.Nat.{_<_}
 use native.Mathlib.Omega.{arith}
 use borrow.Author.Needs.{needs}
 use Rattle.lists.specs.Steps.{standingBy}
-use Rattle.lists.proofs.order.standing_by.Statement.{statement}
-use Rattle.lists.proofs.order.standing_by.Tie as tie
+use Rattle.lists.proofs.stands.standing_by.Statement.{statement}
+use Rattle.lists.proofs.stands.standing_by.Tie as tie
 
 set-at-requires : tie.Need-set-at-requires
 set-at-requires c κs =
