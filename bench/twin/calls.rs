@@ -6,6 +6,15 @@ use super::sets::Set;
 use super::tables::{atoms_of, check, check_mode, check_room, is_atom};
 use super::{refuse, Entry, Refusal, Tables, BOXES, NO_ARROW};
 
+/// The modes that have arrows of both signs, a bit each: another one has no unclear pair.
+fn clashing(arrows: &[u16]) -> u8 {
+    let mut signs = [0u8; 2];
+    for row in arrows.chunks_exact(4) {
+        signs[(row[3] & 1) as usize] |= 1 << (row[2] & 7);
+    }
+    signs[0] & signs[1]
+}
+
 /// Check 12 for a mode.
 fn judge_mode(
     t: Tables,
@@ -16,9 +25,6 @@ fn judge_mode(
 ) -> Result<(), Refusal> {
     let mut mode = Mode::new();
     mode.take(t.arrows, m);
-    if !mode.has_both_signs() {
-        return Ok(());
-    }
     let rows = Rows {
         closure,
         mode: &mode,
@@ -41,7 +47,10 @@ pub fn judge(t: Tables, scratch: &mut [u8]) -> Result<(), Refusal> {
     let (mut users, mut files) = ([0; BOXES], [0; BOXES]);
     let users = atoms_of(t, 0, &mut users);
     let files = atoms_of(t, 1, &mut files).iter().copied().collect();
-    (0..8).try_for_each(|m| judge_mode(t, &closure, m, users, files))
+    let both = clashing(t.arrows);
+    (0..8)
+        .filter(|m| both >> m & 1 == 1)
+        .try_for_each(|m| judge_mode(t, &closure, m, users, files))
 }
 
 /// The answer for a pair: a row with one file.

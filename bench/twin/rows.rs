@@ -59,11 +59,6 @@ impl Mode {
         &self.own[..self.count]
     }
 
-    /// A mode that has no arrows of a sign has no unclear pair.
-    pub fn has_both_signs(&self) -> bool {
-        self.tails.iter().all(|tails| !tails.is_empty())
-    }
-
     /// The heads of the arrows of a sign from the tails.
     #[inline]
     fn heads_of(&self, positive: bool, tails: Set) -> Set {

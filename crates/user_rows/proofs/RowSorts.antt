@@ -103,56 +103,63 @@ module _ (pic : Picture) (m u : ℕ) (files left granted : ℕ → Bool) (before
 
 -- ---- the same, by what the code has made
 
--- what `walk` gives
-abbrev pub Walks : (closure heads arrows own : List ℕ) (x : Around) (files : Set) (r : Row) (old new : ℕ → ℕ) → Type 0
-Walks closure heads arrows own x files r old new =
+-- what `walk` gives: the numbers of a walk, and what it tells of them
+abbrev pub Walks : (closure heads arrows own : List ℕ) (x : Around) (files : Set) (r : Row) (old : ℕ → ℕ) (Told : (ℕ → ℕ) → Type 0) → Type 0
+Walks closure heads arrows own x files r old Told =
     (pic : Picture) (m : ℕ) (asked : ℕ → Bool) → Drawn pic closure → Moded pic m heads arrows own → AroundBy pic m (x .user) asked x
     → x .user < length (pic .boxes) → ((f : ℕ) → T (isIn files f) → T (asked f))
-    → Walked pic m (x .user) (isIn files) (isIn (r .unclear)) (isIn (r .granted)) old new (length own)
+    → (new : ℕ → ℕ) × Walked pic m (x .user) (isIn files) (isIn (r .unclear)) (isIn (r .granted)) old new (length own) × Told new
 
 module _ (pic : Picture) (m u : ℕ) (closure heads arrows own : List ℕ) (d : Drawn pic closure) (md : Moded pic m heads arrows own)
     (there : u < length (pic .boxes)) (x : Around) (user-is : x .user ≡ u) (asked files : Set) (near : AroundBy pic m u (isIn asked) x)
-    (r : Row) (old new : ℕ → ℕ) (walks : Walks closure heads arrows own x files r old new) where
+    (r : Row) (old : ℕ → ℕ) (Told : (ℕ → ℕ) → Type 0) (walks : Walks closure heads arrows own x files r old Told) where
+  abbrev Done : (ℕ → ℕ) → Type 0
+  Done new = Walked pic m u (isIn files) (isIn (r .unclear)) (isIn (r .granted)) old new (length (ownArrows (pic .arrows) m))
+
   done : ((f : ℕ) → T (isIn files f) → T (isIn (x .negative .files) f) ⊎ T (isIn (x .positive .files) f))
-      → Walked pic m u (isIn files) (isIn (r .unclear)) (isIn (r .granted)) old new (length (ownArrows (pic .arrows) m))
+      → (new : ℕ → ℕ) × Done new × Told new
   done within =
-      rw (md .own-are) at
-      (subst (λ (v : ℕ). Walked pic m v (isIn files) (isIn (r .unclear)) (isIn (r .granted)) old new (length own)) user-is
-      (walks pic m (isIn asked) d md (subst (λ (v : ℕ). AroundBy pic m v (isIn asked) x) (sym user-is) near)
+      let (new, v, told) = walks pic m (isIn asked) d md (subst (λ (v : ℕ). AroundBy pic m v (isIn asked) x) (sym user-is) near)
       (subst (λ (v : ℕ). v < length (pic .boxes)) (sym user-is) there)
       (λ f t.
       ⊎-elim
       (λ n. and-T (isIn asked f) (reachedBy pic m negative u f) (subst T (near .denying .files-are f) n) .0)
       (λ p. and-T (isIn asked f) (reachedBy pic m positive u f) (subst T (near .granting .files-are f) p) .0)
-      (within f t))))
+      (within f t)) in (
+        new,
+        rw (md .own-are) at
+            (subst (λ (v : ℕ). Walked pic m v (isIn files) (isIn (r .unclear)) (isIn (r .granted)) old new (length own)) user-is v),
+        told,
+      )
 
   pub sorted : ((f : ℕ) → isIn files f ≡ (isIn (x .negative .files) f && isIn (x .positive .files) f))
       → (won : Set) → ((f : ℕ) → isIn won f ≡ ((isIn (x .positive .files) f && not (isIn files f)) || isIn (r .granted) f))
       → Sorts pic m u (isIn asked) (record { granted = won; unclear = r .unclear })
-  sorted files-are won won-is = record { granted-are = λ f. at f .0; unclear-are = λ f. at f .1 }
+  sorted files-are won won-is =
+      let (new, v, told) = done (λ f t. inl (and-T (isIn (x .negative .files) f) (isIn (x .positive .files) f) (subst T (files-are f) t) .0)) in
+      record { granted-are = λ f. at new v f .0; unclear-are = λ f. at new v f .1 }
     where
-      at : (f : ℕ) → (isIn won f ≡ (isIn asked f && isGranted (answer pic m u f)))
+      at : (new : ℕ → ℕ) → Done new → (f : ℕ) → (isIn won f ≡ (isIn asked f && isGranted (answer pic m u f)))
           × (isIn (r .unclear) f ≡ (isIn asked f && isUnclear (answer pic m u f)))
-      at f =
-          sort-file pic m u (isIn files) (isIn (r .unclear)) (isIn (r .granted)) old new
-          (done (λ f t. inl (and-T (isIn (x .negative .files) f) (isIn (x .positive .files) f) (subst T (files-are f) t) .0)))
-          f (isIn asked f) (isIn won f)
+      at new v f =
+          sort-file pic m u (isIn files) (isIn (r .unclear)) (isIn (r .granted)) old new v f (isIn asked f) (isIn won f)
           (files-are f ∙ ap₂ _&&_ (near .denying .files-are f) (near .granting .files-are f))
           (won-is f ∙ ap (λ (b : Bool). (b && not (isIn files f)) || isIn (r .granted) f) (near .granting .files-are f))
 
   pub answered : ((f : ℕ) → isIn files f ≡ (isIn (x .negative .files) f || isIn (x .positive .files) f))
-      → ((f : ℕ) → f < 256 → old f ≡ 65535)
-      → Sorts pic m u (isIn asked) r × ((f : ℕ) → T (isIn asked f) → new f ≡ numberOf (answer pic m u f))
-  answered files-are blank =
-      (record { granted-are = λ f. at f .0; unclear-are = λ f. at f .1 }, λ f t. at f .2 (blank f (in-below asked f t)) t)
+      → ((f : ℕ) → f < 256 → old f ≡ 65535) → (numbers : ℕ → ℕ) → ((new : ℕ → ℕ) → Told new → (f : ℕ) → numbers f ≡ new f)
+      → Sorts pic m u (isIn asked) r × ((f : ℕ) → T (isIn asked f) → numbers f ≡ numberOf (answer pic m u f))
+  answered files-are blank numbers are =
+      let (new, v, told) = done (λ f t. or-T (isIn (x .negative .files) f) (isIn (x .positive .files) f) (subst T (files-are f) t)) in (
+        record { granted-are = λ f. at new v f .0; unclear-are = λ f. at new v f .1 },
+        λ f t. are new told f ∙ at new v f .2 (blank f (in-below asked f t)) t,
+      )
     where
-      at : (f : ℕ) → (isIn (r .granted) f ≡ (isIn asked f && isGranted (answer pic m u f)))
+      at : (new : ℕ → ℕ) → Done new → (f : ℕ) → (isIn (r .granted) f ≡ (isIn asked f && isGranted (answer pic m u f)))
           × (isIn (r .unclear) f ≡ (isIn asked f && isUnclear (answer pic m u f)))
           × (old f ≡ 65535 → T (isIn asked f) → new f ≡ numberOf (answer pic m u f))
-      at f =
-          answer-file pic m u (isIn files) (isIn (r .unclear)) (isIn (r .granted)) old new
-          (done (λ f t. or-T (isIn (x .negative .files) f) (isIn (x .positive .files) f) (subst T (files-are f) t)))
-          f (isIn asked f)
+      at new v f =
+          answer-file pic m u (isIn files) (isIn (r .unclear)) (isIn (r .granted)) old new v f (isIn asked f)
           (files-are f ∙ ap₂ _||_ (near .denying .files-are f) (near .granting .files-are f))
 
 -- where both signs reach none of the asked files, nothing is left to the walk

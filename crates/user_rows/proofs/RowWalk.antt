@@ -135,7 +135,8 @@ pub record Walking (closure heads arrows own : List ℕ) (x : Around) (files : S
   pub is-near : i < length own → T (has closure (256 + x .user) (arrowAt arrows (getD own i 0) .tail))
   pub walked : (pic : Picture) (m : ℕ) (asked : ℕ → Bool) → Drawn pic closure → Moded pic m heads arrows own
       → AroundBy pic m (x .user) asked x → x .user < length (pic .boxes) → ((f : ℕ) → T (isIn files f) → T (asked f))
-      → Walked pic m (x .user) (isIn files) (isIn left) (isIn granted) (λ f. getD old f 0) (λ f. getD new f 0) i
+      → (after : ℕ → ℕ) × Walked pic m (x .user) (isIn files) (isIn left) (isIn granted) (λ f. getD old f 0) after i
+      × (256 ≤ length old → (f : ℕ) → getD new f 0 ≡ after f)
 
 module _ (closure heads arrows own : List ℕ) (x : Around) (files : Set) (old : List ℕ) where
   pub walking-start : (granted : Set) → ((k : ℕ) → isIn granted k ≡ false) → (r : ℕ) → NextNear closure arrows own (x .user) 0 r
@@ -144,10 +145,13 @@ module _ (closure heads arrows own : List ℕ) (x : Around) (files : Set) (old :
     len = refl;
     at-most = near .at-most;
     is-near = near .holds;
-    walked = λ pic m asked d md around there within.
-        walk-pass pic m (x .user) (isIn files) (λ f. getD old f 0) (isIn files) (isIn granted) (λ f. getD old f 0) 0
-        (walk-start pic m (x .user) (isIn files) (λ f. getD old f 0) (isIn granted) e) r
-        (near-pass pic m (x .user) closure heads arrows own d md there 0 r near);
+    walked = λ pic m asked d md around there within. (
+      λ f. getD old f 0,
+      walk-pass pic m (x .user) (isIn files) (λ f. getD old f 0) (isIn files) (isIn granted) (λ f. getD old f 0) 0
+          (walk-start pic m (x .user) (isIn files) (λ f. getD old f 0) (isIn granted) e) r
+          (near-pass pic m (x .user) closure heads arrows own d md there 0 r near),
+      λ l f. refl,
+    );
   }
 
   module _ (new : List ℕ) (granted left : Set) (i : ℕ) (w : Walking closure heads arrows own x files old new granted left i) where
@@ -163,42 +167,50 @@ module _ (closure heads arrows own : List ℕ) (x : Around) (files : Set) (old :
         → ShownBy a hit
         → ((f : ℕ) → isIn next f ≡ (isIn left f && not (isIn hit f)))
         → ((f : ℕ) → isIn won f ≡ (isIn granted f || (isIn hit f && eqb (a .sign) positive)))
-        → Numbered hit (getD own i 0) new newer
+        → length newer ≡ length new → (256 ≤ length new → Numbered hit (getD own i 0) new newer)
         → (r : ℕ) → NextNear closure arrows own (x .user) (i + 1) r
         → Walking closure heads arrows own x files old newer won next r
-    walking-turn l a a-is hit next won newer shown-ens next-is won-is numbered r near = record {
-      len = numbered .len ∙ w .len;
+    walking-turn l a a-is hit next won newer shown-ens next-is won-is long numbered r near = record {
+      len = long ∙ w .len;
       at-most = near .at-most;
       is-near = near .holds;
       walked = λ pic m asked d md around there within.
-          walk-pass pic m (x .user) (isIn files) (λ f. getD old f 0) (isIn next) (isIn won) (λ f. getD newer f 0) (i + 1)
-          (turn pic m asked d md around there within) r
-          (near-pass pic m (x .user) closure heads arrows own d md there (i + 1) r near);
+          let (after, v, told) = w .walked pic m asked d md around there within in (
+            λ f. cond (isIn hit f) k (after f),
+            walk-pass pic m (x .user) (isIn files) (λ f. getD old f 0) (isIn next) (isIn won) (λ f. cond (isIn hit f) k (after f)) (i + 1)
+                (turn pic m asked d md around there within after v) r
+                (near-pass pic m (x .user) closure heads arrows own d md there (i + 1) r near),
+            λ many f.
+                numbered (omega (arith, w .len)) .each f ∙ ap (λ (z : ℕ). cond (isIn hit f) k z) (told many f),
+          );
     }
       where
+        k : ℕ
+        k = getD own i 0
+
         turn : (pic : Picture) (m : ℕ) (asked : ℕ → Bool) → Drawn pic closure → Moded pic m heads arrows own
             → AroundBy pic m (x .user) asked x → x .user < length (pic .boxes) → ((f : ℕ) → T (isIn files f) → T (asked f))
-            → Walked pic m (x .user) (isIn files) (isIn next) (isIn won) (λ f. getD old f 0) (λ f. getD newer f 0) (i + 1)
-        turn pic m asked d md around there within =
-            let v = w .walked pic m asked d md around there within in
-            let k = getD own i 0 in
+            → (after : ℕ → ℕ) → Walked pic m (x .user) (isIn files) (isIn left) (isIn granted) (λ f. getD old f 0) after i
+            → Walked pic m (x .user) (isIn files) (isIn next) (isIn won) (λ f. getD old f 0) (λ f. cond (isIn hit f) k (after f)) (i + 1)
+        turn pic m asked d md around there within after v =
             let at : k ≡ getD (ownArrows (pic .arrows) m) i 0 = ap (λ (z : List ℕ). getD z i 0) (md .own-are) in
             let b : a ≡ arrowAt (pic .arrows) k = a-is ∙ ap (λ (z : List ℕ). arrowAt z k) (md .arrows-are) in
             let inside : i < length (ownArrows (pic .arrows) m) = subst (λ (z : List ℕ). i < length z) (md .own-are) l in
             let own-is = own-found (pic .arrows) m i inside in
-            walk-turn pic m (x .user) (isIn files) (λ f. getD old f 0) (isIn left) (isIn granted) (λ f. getD new f 0) i v
-            k at inside (isIn hit) (isIn next) (isIn won) (λ f. getD newer f 0)
+            walk-turn pic m (x .user) (isIn files) (λ f. getD old f 0) (isIn left) (isIn granted) after i v
+            k at inside (isIn hit) (isIn next) (isIn won) (λ f. cond (isIn hit f) k (after f))
             (shown-ens pic m (x .user) k asked d (md .sets) around there (rw at (own-is .0)) b (rw at (own-is .1))
             (subst (λ (z : Arrow). T (has closure (256 + x .user) (z .tail))) (sym a-is) (w .is-near l))
             (λ f t. within f (v .left-open f t .0)))
             next-is
             (λ f. won-is f ∙ ap (λ (z : Arrow). isIn granted f || (isIn hit f && eqb (z .sign) positive)) b)
-            (numbered .each)
+            (λ f. refl)
 
     pub walking-empty : ((f : ℕ) → isIn left f ≡ false) → (r : ℕ)
         → (pic : Picture) (m : ℕ) (asked : ℕ → Bool) → Drawn pic closure → Moded pic m heads arrows own
         → AroundBy pic m (x .user) asked x → x .user < length (pic .boxes) → ((f : ℕ) → T (isIn files f) → T (asked f))
-        → Walked pic m (x .user) (isIn files) (isIn left) (isIn granted) (λ f. getD old f 0) (λ f. getD new f 0) r
+        → (after : ℕ → ℕ) × Walked pic m (x .user) (isIn files) (isIn left) (isIn granted) (λ f. getD old f 0) after r
+        × (256 ≤ length old → (f : ℕ) → getD new f 0 ≡ after f)
     walking-empty e r pic m asked d md around there within =
-        walk-empty pic m (x .user) (isIn files) (λ f. getD old f 0) (isIn left) (isIn granted) (λ f. getD new f 0) i
-        (w .walked pic m asked d md around there within) e r
+        let (after, v, told) = w .walked pic m asked d md around there within in
+        (after, walk-empty pic m (x .user) (isIn files) (λ f. getD old f 0) (isIn left) (isIn granted) after i v e r, told)

@@ -30,7 +30,6 @@ use boxsets::nothing;
 use boxsets::shared;
 use meaning::Entry;
 use tables::Arrow;
-use tables::no_boxes;
 
 fn around_user(closure: &[u64], heads: &[u64], user: usize, asked: Set) -> Around
     requires { ⌜ (length (now closure) ≡ 2048) × (length (now heads) ≡ 2056) × (user < 256) ⌝ }
@@ -114,8 +113,19 @@ fn put_number(hit: Set, number: u16, numbers: &mut [u16])
     put_word(hit.d, 3, number, numbers);
 }
 
+// The same where there is a place for each box; who asks for no numbers lends none.
+fn note_number(hit: Set, number: u16, numbers: &mut [u16])
+    ensures { λ _. ⌜ length (now (numbers .exit)) ≡ length (now (numbers .entry)) ⌝ }
+    ensures { λ _. ⌜ (256 ≤ length (now (numbers .entry)) → Numbered hit number (now (numbers .entry)) (now (numbers .exit))) ⌝ }
+{
+    if 256 <= numbers.len() {
+        put_number(hit, number, numbers);
+    }
+}
+
 // Walks the mode's arrows around the user in rising order, and takes from the files those at which the arrow is a certificate: it is their
-// lowest one. Their number is written, and those of a positive one are granted; what is left at the end has none.
+// lowest one. Their number is written if there is a place for each box, and those of a positive one are granted; what is left at the end
+// has none.
 fn walk(
     closure: &[u64],
     heads: &[u64],
@@ -125,14 +135,16 @@ fn walk(
     files: Set,
     numbers: &mut [u16],
 ) -> Row
-    requires { ⌜ Sized (now closure) (now heads) (now arrows) (now own) × (x .user < 256) × (256 ≤ length (now numbers))
+    requires { ⌜ Sized (now closure) (now heads) (now arrows) (now own) × (x .user < 256)
         × (x .negative .sign ≡ 0) × (x .positive .sign ≡ 1) ⌝ }
     ensures { λ _. ⌜ length (now (numbers .exit)) ≡ length (now (numbers .entry)) ⌝ }
     ensures { λ r. ⌜ ((pic : Picture) (m : ℕ) (asked : ℕ → Bool) → Drawn pic (now (closure .entry))
         → Moded pic m (now (heads .entry)) (now (arrows .entry)) (now (own .entry)) → AroundBy pic m (x .user) asked x
         → x .user < length (pic .boxes) → ((f : ℕ) → T (isIn files f) → T (asked f))
-        → Walked pic m (x .user) (isIn files) (isIn (r .unclear)) (isIn (r .granted)) (λ f. getD (now (numbers .entry)) f 0)
-        (λ f. getD (now (numbers .exit)) f 0) (length (now (own .entry)))) ⌝ }
+        → (after : ℕ → ℕ)
+        × Walked pic m (x .user) (isIn files) (isIn (r .unclear)) (isIn (r .granted)) (λ f. getD (now (numbers .entry)) f 0) after
+        (length (now (own .entry)))
+        × (256 ≤ length (now (numbers .entry)) → (f : ℕ) → getD (now (numbers .exit)) f 0 ≡ after f)) ⌝ }
 {
     let mut granted = nothing();
     let mut left = files;
@@ -143,7 +155,7 @@ fn walk(
         let hit = shown(closure, heads, x, a, left);
         left = minus(left, hit);
         granted = with_granted(granted, hit, a.sign);
-        put_number(hit, k, numbers);
+        note_number(hit, k, numbers);
         i = next_near(closure, arrows, own, x.user, i + 1);
     }
     let unclear = left;
@@ -183,8 +195,8 @@ pub fn sort_row(
             unclear: clash,
         };
     }
-    let mut numbers = no_boxes();
-    let found = walk(closure, heads, arrows, own, x, clash, &mut numbers);
+    let mut none = [0u16; 1];
+    let found = walk(closure, heads, arrows, own, x, clash, &mut none);
     let won = found.granted;
     let unclear = found.unclear;
     Row {

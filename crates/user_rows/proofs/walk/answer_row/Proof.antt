@@ -21,7 +21,7 @@ walk-requires c κs =
     let x = around (c .before) in
     let p = start x .pre in
     let e = x .around-user .ensures .0 in
-    (p .0, omega (arith, e .0, p .1), omega (arith, ap length (p .2), blank-length), e .1, e .2)
+    (p .0, omega (arith, e .0, p .1), e .1, e .2)
 
 returns : tie.Need-returns
 returns c pic m d md there =
@@ -31,9 +31,9 @@ returns c pic m d md there =
     let a = start x .args in
     let e = x .around-user .ensures in
     answered pic m (a .user) (a .closure .now) (a .heads .now) (a .arrows .now) (a .own .now) d md there (x .around-user .result) (e .0 .0)
-    (a .asked) (j .joined .result) (e .1 pic m d (md .sets) there) (w .walk .result) (λ f. getD (a .numbers .now) f 0)
-    (λ f. getD (w .walk .last .1 .1 .1 .1 .1 .1 .0) f 0) (w .walk .ensures .1) (j .joined .ensures)
-    (λ f l. ap (λ (z : List ℕ). getD z f 0) (start x .pre .2) ∙ blank-at f l)
+    (a .asked) (j .joined .result) (e .1 pic m d (md .sets) there) (w .walk .result) (λ f. getD (a .numbers .now) f 0) _ (w .walk .ensures .1)
+    (j .joined .ensures) (λ f l. ap (λ (z : List ℕ). getD z f 0) (start x .pre .2) ∙ blank-at f l)
+    (λ f. getD (w .walk .last .1 .1 .1 .1 .1 .1 .0) f 0) (λ new told. told (omega (arith, ap length (start x .pre .2), blank-length)))
 
 pub answer-row-spec : {M : Type 1} → statement M
 answer-row-spec =

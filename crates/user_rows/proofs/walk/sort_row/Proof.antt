@@ -19,10 +19,10 @@ start c = c .before .before .before .before .before
 
 walk-requires : tie.Need-walk-requires
 walk-requires c κs =
-    let x = around (c .before .before .before .before) in
+    let x = around (c .before .before .before) in
     let p = start x .pre in
     let e = x .around-user .ensures .0 in
-    (p .0, omega (arith, e .0, p .1), omega (arith, ap length (c .before .no-boxes .ensures), zeros-length 256), e .1, e .2)
+    (p .0, omega (arith, e .0, p .1), e .1, e .2)
 
 -- both signs reach none of the files
 returns : tie.Need-returns
@@ -38,16 +38,15 @@ returns-2 : tie.Need-returns-2
 returns-2 c pic m d md there =
     let n = c .before in
     let w = n .before .before .before .before in
-    let s = w .before .before .before .before .before in
+    let s = w .before .before .before .before in
     let x = around s in
     let a = start x .args in
     let e = x .around-user .ensures in
     sorted pic m (a .user) (a .closure .now) (a .heads .now) (a .arrows .now) (a .own .now) d md there (x .around-user .result) (e .0 .0)
-    (a .asked) (s .shared .result) (e .1 pic m d (md .sets) there) (w .walk .result) (λ f. getD (w .before .before .no-boxes .result) f 0)
-    (λ f. getD (w .walk .last .1 .1 .1 .1 .1 .1 .0) f 0) (w .walk .ensures .1) (s .shared .ensures) (c .joined .result)
+    (a .asked) (s .shared .result) (e .1 pic m d (md .sets) there) (w .walk .result) _ _ (w .walk .ensures .1) (s .shared .ensures) (c .joined .result)
     (λ f. c .joined .ensures f ∙ ap (λ (b : Bool). b || isIn (w .walk .result .granted) f) (n .minus .ensures f))
 
 pub sort-row-spec : {M : Type 1} → statement M
 sort-row-spec =
-    tie.close (tie.spec (λ c κs. search needs) (λ c κs. search needs) (λ c κs. search needs) returns (λ c κs. search needs) (search needs) walk-requires (λ c κs. search needs)
+    tie.close (tie.spec (λ c κs. search needs) (λ c κs. search needs) (λ c κs. search needs) returns (search needs) walk-requires (λ c κs. search needs)
     (λ c κs. search needs) returns-2)

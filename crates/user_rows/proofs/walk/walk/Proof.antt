@@ -25,7 +25,7 @@ start c = c .before .before .before .before .before .before .before .before
 abbrev turn : tie.After-wide Inv-loop μ-loop → tie.In-loop Inv-loop μ-loop
 turn c = c .before .before .before .before
 
-abbrev read : tie.After-put-number-arg Inv-loop μ-loop → tie.After-at Inv-loop μ-loop
+abbrev read : tie.After-note-number-arg Inv-loop μ-loop → tie.After-at Inv-loop μ-loop
 read c = c .before .before .before .before
 
 next-near-requires : tie.Need-next-near-requires Inv-loop μ-loop
@@ -58,12 +58,9 @@ shown-requires c κs =
       p .0 .heads-len,
       rw (c .at .ensures) (p .0 .small .tail-small (w .wide .result) (number-there w)),
       rw (c .at .ensures) (p .0 .small .head-small (w .wide .result) (number-there w)),
+      p .2,
       p .3,
-      p .4,
     )
-
-put-number-requires : tie.Need-put-number-requires Inv-loop μ-loop
-put-number-requires c κs = let l = turn (read c .before) .before in omega (arith, l .loop .inv .len, start l .pre .2)
 
 -- the length of a slice fits
 add-next-near : tie.Need-add-next-near Inv-loop μ-loop
@@ -98,8 +95,8 @@ loop-again c =
     walking-turn (a .closure .now) (a .heads .now) (a .arrows .now) (a .own .now) (a .x) (a .files) (a .numbers .now)
     (l .numbers) (l .granted) (l .left) (l .i) (l .inv) (t .loop-test .taken)
     (r .at .result) (r .at .ensures ∙ ap (arrowAt (a .arrows .now)) (r .before .wide .ensures))
-    (h .shown .result) (m .minus .result) (g .with-granted .result) (n .put-number .last .1 .1 .0)
-    (h .shown .ensures) (m .minus .ensures) (g .with-granted .ensures) (n .put-number .ensures) (c .next-near2 .result) (c .next-near2 .ensures)
+    (h .shown .result) (m .minus .result) (g .with-granted .result) (n .note-number .last .1 .1 .0)
+    (h .shown .ensures) (m .minus .ensures) (g .with-granted .ensures) (n .note-number .ensures .0) (n .note-number .ensures .1) (c .next-near2 .result) (c .next-near2 .ensures)
 
 same-length : tie.Need-same-length Inv-loop μ-loop
 same-length c = c .before .before .before .loop .inv .len
@@ -127,5 +124,5 @@ returns-2 c =
 pub walk-spec : {M : Type 1} → statement M
 walk-spec =
     tie.close (tie.spec Inv-loop μ-loop (λ c κs. search needs) next-near-requires loop-holds (λ c κs. search needs) (search needs) (search needs)
-    (λ c κs. search needs) at-requires shown-requires (λ c κs. search needs) (λ c κs. search needs) put-number-requires add-next-near
+    (λ c κs. search needs) at-requires shown-requires (λ c κs. search needs) (λ c κs. search needs) (λ c κs. search needs) add-next-near
     next-near-requires-2 loop-less loop-again same-length returns same-length-2 returns-2)
