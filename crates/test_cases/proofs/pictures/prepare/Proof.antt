@@ -1,5 +1,5 @@
 -- `test_cases::pictures::prepare`: where the early checks pass, the tables are sound and the scratch suffices. Assumes nothing.
-use mathlib.Core.Path.{_≡_, sym, _∙_}
+use mathlib.Core.Path.{sym, _∙_}
 use borrow.Author.Needs.{needs}
 use Rattle.tables.proofs.Verdicts.{passed}
 use Rattle.containment.proofs.PictureLaws.{early-prepared}
