@@ -23,7 +23,7 @@ use blocks::Seen;
 use headings::Headings;
 use libc::STDIN_FILENO;
 use libc::STDOUT_FILENO;
-use lists::Listed;
+use list_meaning::Listed;
 use meaning::Entry;
 use packer::Packing;
 use tables::Refusal;
