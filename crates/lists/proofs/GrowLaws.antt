@@ -3,10 +3,8 @@ use mathlib.Core.Path.{_≡_, refl, sym, ap, ap₂, fun-ext, _∙_}
 use mathlib.Core.Bool.{Bool, true, false, not, cond, _&&_, _||_}
 use mathlib.Core.List.{List, [], _∷_, _++_}
 use mathlib.Core.Option.{none}
-use Prim.Native.Nat.{ℕ, _<_, _≤_}
-use native.Mathlib.Decide.{ℕ-discrete}
+use Prim.Native.Nat.{ℕ, _<_}
 use native.Mathlib.Omega.{arith}
-use borrow.Author.Tests.{ne-eqb}
 use lib.Dec.{T, T-not, not-T, eqb}
 use lib.ListN.{length}
 use Rattle.tables.specs.Rows.{Picture, user, file, arrowCount, arrowAt}
@@ -18,40 +16,24 @@ use Rattle.containment.proofs.ClosureLaws.{within-in}
 use Rattle.boxsets.specs.Sets.{isIn, setAt, has}
 use Rattle.boxsets.specs.declared.Set.{Set}
 use Rattle.boxsets.proofs.WalkLaws.{in-below}
-use Rattle.meaning.specs.Meaning.{positive, negative, reaches, answer, isGranted, isUnclear}
+use Rattle.meaning.specs.Meaning.{positive, reaches, answer}
 use Rattle.meaning.specs.Pairs.{pairs, userAt, fileAt, unclearFault}
-use Rattle.meaning.specs.declared.Entry.{Entry}
 use Rattle.meaning.proofs.ModeLaws.{reaches-is, answer-at}
 use Rattle.meaning.proofs.PairLaws.{pair-place, userAt-atom, fileAt-atom}
 use Rattle.meaning.proofs.MatrixLaws.{clear-pair}
 use Rattle.user_rows.specs.Steps.{Drawn}
-use Rattle.lists.specs.Order.{anyOf, gives, ofMode, meets, right}
-use Rattle.lists.specs.Greedy.{addable}
+use Rattle.list_meaning.specs.Order.{anyOf, ofMode, meets, right}
+use Rattle.list_meaning.specs.Greedy.{addable}
 use Rattle.lists.specs.Steps.{someIn, wrongAt, standingOf, standingBy, Takes, Table, unreached, grantedTo}
 use Rattle.lists.specs.declared.Standing.the-variants.{Free}
-use Rattle.lists.proofs.CountLaws.{anyOf-snoc}
-use Rattle.lists.proofs.GreedyLaws.{adds, adds-new, addable-is}
+use Rattle.list_meaning.proofs.CallerLaws.{gives-clear, meets-is, any-meets, right-is}
+use Rattle.list_meaning.proofs.CountLaws.{anyOf-snoc}
+use Rattle.list_meaning.proofs.GreedyLaws.{adds, adds-new, addable-is}
 use Rattle.lists.proofs.SomeLaws.{some-found, some-is}
-
--- ---- an arrow's sign and a clear answer
 
 -- the answer is wrong, by whether the pair is granted
 abbrev wrongFor : (sign : ℕ) (granted : Bool) → Bool
 wrongFor sign granted = cond (eqb sign positive) (not granted) granted
-
-gives-clear : (sign : ℕ) (e : Entry) → sign ≤ 1 → isUnclear e ≡ false → wrongFor sign (isGranted e) ≡ not (gives sign e)
-unfolding gives
-gives-clear sign e l u = rw u (go (isGranted e) (ℕ-discrete sign 1))
-  where
-    flat : (b : Bool) → (b && true) ≡ b
-    flat true = refl
-    flat false = refl
-
-    go : (g : Bool) → Dec (sign ≡ 1) → wrongFor sign g ≡ not (cond g (eqb sign positive) (eqb sign negative && true))
-    go true (yes i) = rw i
-    go true (no n) = rw (ne-eqb sign 1 n)
-    go false (yes i) = rw i
-    go false (no n) = let z : sign ≡ 0 = omega arith in rw z
 
 -- ---- the three tests of an arrow
 
@@ -111,7 +93,6 @@ module _ (pic : Picture) (closure : List ℕ) (drawn : Drawn pic closure) where
 
       some-place : T (someIn (isIn tails) heads leftAnd)
           → (p : ℕ) × (p < pairs pic) × T (meets pic p k) × (T (anyOf (meets pic p) l) → ⊥) × T (test (userAt pic p) (fileAt pic p))
-      unfolding meets
       some-place t =
           let r = some-found heads leftAnd (isIn tails) t in
           let u = r .0 in
@@ -123,20 +104,19 @@ module _ (pic : Picture) (closure : List ℕ) (drawn : Drawn pic closure) where
           let gone : T (unreached pic l (userAt pic (q .0)) (fileAt pic (q .0))) = rw (q .2, q .3) (s .1) in (
             q .0,
             q .1,
-            rw (q .2, q .3) reach,
-            T-not (anyOf (meets pic (q .0)) l) gone,
+            rw (meets-is pic (q .0) k, q .2, q .3) reach,
+            T-not (anyOf (meets pic (q .0)) l) (rw (any-meets pic l (q .0)) gone),
             rw (q .2, q .3) (h .1),
           )
 
       place-some : (p : ℕ) → p < pairs pic → T (meets pic p k) → (T (anyOf (meets pic p) l) → ⊥) → T (test (userAt pic p) (fileAt pic p))
           → T (someIn (isIn tails) heads leftAnd)
-      unfolding meets
       place-some p b r n t =
           let u = userAt pic p in
           let f = fileAt pic p in
-          let e = and-T (isIn tails u) (isIn heads f) (rw (ends-in k there u f) r) in
+          let e = and-T (isIn tails u) (isIn heads f) (rw (ends-in k there u f) (rw (meets-is pic p k) at r)) in
           let h : T (has left u f) =
-          rw (at-pair (unreached pic l) left tl u f (userAt-atom pic p b, fileAt-atom pic p b)) (not-T (anyOf (meets pic p) l) n) in
+          rw (at-pair (unreached pic l) left tl u f (userAt-atom pic p b, fileAt-atom pic p b), ← any-meets pic l p) (not-T (anyOf (meets pic p) l) n) in
           some-is heads leftAnd (isIn tails) u f (in-below tails u (e .0)) (e .0) (e .1) (T-and (has left u f) (test u f) h t)
 
     abbrev anyPair : ℕ → ℕ → Bool
@@ -150,12 +130,11 @@ module _ (pic : Picture) (closure : List ℕ) (drawn : Drawn pic closure) where
     module _ (m : ℕ) (of : T (ofMode (pic .arrows) m k)) (clear : unclearFault pic m ≡ none) (granted : List ℕ)
         (tg : Table pic (grantedTo pic m) granted) where
       wrong-is : (p : ℕ) → p < pairs pic → wrong granted (userAt pic p) (fileAt pic p) ≡ not (right pic m p k)
-      unfolding right
       wrong-is p b =
           let u = userAt pic p in
           let f = fileAt pic p in
           let pair : IsPair u f = (userAt-atom pic p b, fileAt-atom pic p b) in
-          rw (at-pair (grantedTo pic m) granted tg u f pair, answer-at pic m p)
+          rw (at-pair (grantedTo pic m) granted tg u f pair, right-is pic m p k, answer-at pic m p)
           (gives-clear (arrowAt (pic .arrows) k .sign) (answer pic m u f) (drawn .arrows-sound .sign-most k there)
           (clear-pair pic m clear u f (pair .0) (pair .1)))
 

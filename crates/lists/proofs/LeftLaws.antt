@@ -24,13 +24,11 @@ use Rattle.boxsets.specs.declared.Set.{Set}
 use Rattle.boxsets.proofs.TableLaws.{put-hit, put-miss, zeros-has}
 use Rattle.boxsets.proofs.LowLaws.{low-least}
 use Rattle.boxsets.proofs.WalkLaws.{empty-none, some-low}
-use Rattle.meaning.specs.Pairs.{users, firstPair}
-use Rattle.meaning.proofs.ModeLaws.{answer-at}
-use Rattle.meaning.proofs.MatrixLaws.{firstPair-places}
+use Rattle.meaning.specs.Pairs.{users}
 use Rattle.meaning.proofs.RowPairs.{RowsClear, rows-found, rows-end}
 use Rattle.user_rows.specs.Steps.{Ready}
-use Rattle.lists.specs.Order.{anyOf, meets, reached, granted}
-use Rattle.lists.specs.Greedy.{greedy, leftBy, orderFault}
+use Rattle.list_meaning.specs.Greedy.{greedy, orderFault}
+use Rattle.list_meaning.proofs.CallerLaws.{anyOf-none, order-rows}
 use Rattle.lists.specs.Steps.{Table, unreached, grantedTo}
 
 -- ---- a table that is filled user by user
@@ -98,10 +96,9 @@ filled-all pic us test t e s = record {
 -- every file: the pairs that the empty list does not reach
 pub filled-files : (pic : Picture) (closure arrows us : List ℕ) (files : Set) (t : List ℕ) → Ready pic closure arrows us files
     → Filled us (λ u f. isIn files f) (length us) t → Table pic (unreached pic []) t
-unfolding anyOf
 filled-files pic closure arrows us files t r s =
     filled-all pic us (unreached pic []) t (r .users-are)
-    (record { len = s .len; each = λ u f. s .each u f ∙ rw (r .files-are f) (ap (λ (b : Bool). oneOf us (length us) u && b) (flat (atom (pic .boxes) (pic .rows) file f))) })
+    (record { len = s .len; each = λ u f. s .each u f ∙ rw (r .files-are f, anyOf-none) (ap (λ (b : Bool). oneOf us (length us) u && b) (flat (atom (pic .boxes) (pic .rows) file f))) })
   where
     flat : (b : Bool) → b ≡ (b && true)
     flat true = refl
@@ -125,10 +122,6 @@ module _ (pic : Picture) (m : ℕ) (closure arrows us : List ℕ) (files : Set) 
   abbrev missed : ℕ → ℕ → Bool
   missed u f = grantedTo pic m u f && unreached pic (greedy pic m) u f
 
-  order-rows : orderFault pic m ≡ firstPair pic missed (noOrder m)
-  unfolding orderFault leftBy granted reached meets
-  order-rows = simp (firstPair-places, answer-at)
-
   missed-is : (i : ℕ) → i < length us → (f : ℕ)
       → (has left (getD us i 0) f && has granted (getD us i 0) f) ≡ (atom (pic .boxes) (pic .rows) file f && missed (getD (users pic) i 0) f)
   missed-is i l f =
@@ -151,7 +144,7 @@ module _ (pic : Picture) (m : ℕ) (closure arrows us : List ℕ) (files : Set) 
 
   pub missed-none : NoneMissed us left granted (length us) → Passed ≡ verdictOf (orderFault pic m)
   missed-none none′ =
-      rw order-rows
+      rw (order-rows pic m)
       (sym (ap verdictOf (rows-end pic missed (noOrder m) (rw (ready .users-are) at (rows-clear (length us) (omega arith) none′)))))
 
   pub missed-found : (i : ℕ) → i < length us → (x : Set)
@@ -161,7 +154,7 @@ module _ (pic : Picture) (m : ℕ) (closure arrows us : List ℕ) (files : Set) 
       let in-row : (f : ℕ) → isIn x f ≡ (atom (pic .boxes) (pic .rows) file f && missed (getD (users pic) i 0) f)
       = λ f. same f ∙ missed-is i l f in
       let both = and-T (atom (pic .boxes) (pic .rows) file (low x)) (missed (getD (users pic) i 0) (low x)) (rw (in-row (low x)) at (some-low x e .1)) in
-      rw (order-rows, ready .users-are)
+      rw (order-rows pic m, ready .users-are)
       (sym (ap verdictOf
       (rows-found pic missed (noOrder m) i (rw (ready .users-are) at l) (rows-clear i (omega arith) none′) (low x) (both .0) (both .1)
       (λ g b a t. low-least x g b (rw (in-row g) (T-and (atom (pic .boxes) (pic .rows) file g) (missed (getD (users pic) i 0) g) a t))))))

@@ -1,6 +1,6 @@
 -- The mode's arrows that repeat no lower one are all that the list needs: the lowest arrow that can be added is one of them, so the
 -- list has no more places than there are. Assumes nothing.
-use mathlib.Core.Path.{_≡_, refl, ap, _∙_}
+use mathlib.Core.Path.{_≡_, refl, sym, ap, _∙_}
 use mathlib.Core.Bool.{Bool, _&&_}
 use mathlib.Core.List.{List, [], _∷_}
 use mathlib.Core.Option.{Option, none, some}
@@ -19,11 +19,12 @@ use Rattle.user_rows.specs.Steps.{Small, Numbers}
 use Rattle.user_rows.proofs.SameLaws.{same-parts}
 use Rattle.user_rows.proofs.OwnLaws.{own-select, own-found, own-most, own-mode-most, lowest-own, own-first, own-nothing}
 use Rattle.user_rows.proofs.CallerLaws.{own-numbers}
-use Rattle.lists.specs.Order.{allOf, ofMode}
-use Rattle.lists.specs.Greedy.{addable, next, listTo}
-use Rattle.lists.proofs.CountLaws.{allOf-snoc, room}
-use Rattle.lists.proofs.GreedyLaws.{ofMode-there, ofMode-has, addable-own, addable-same}
-use Rattle.lists.proofs.NextLaws.{next-some, to-next, to-holds, to-grown}
+use Rattle.list_meaning.specs.Order.{allOf, ofMode}
+use Rattle.list_meaning.specs.Greedy.{addable, next, listTo}
+use Rattle.list_meaning.proofs.CallerLaws.{allOf-none, ofMode-is, next-is-lowest}
+use Rattle.list_meaning.proofs.CountLaws.{allOf-snoc, room}
+use Rattle.list_meaning.proofs.GreedyLaws.{ofMode-there, ofMode-has, addable-own, addable-same}
+use Rattle.list_meaning.proofs.NextLaws.{next-some, to-next, to-holds, to-grown}
 
 -- ---- the part of the numbers that is lent on
 
@@ -53,41 +54,34 @@ own-part arrows m old count own w small places =
 module _ (pic : Picture) (m : ℕ) where
   -- of the mode, by their places among the numbers
   pub own-mode : (i : ℕ) → i < length (ownArrows (pic .arrows) m) → T (ofMode (pic .arrows) m (getD (ownArrows (pic .arrows) m) i 0))
-  unfolding ofMode
   own-mode i h =
       let f = own-found (pic .arrows) m i h in
-      let k = getD (ownArrows (pic .arrows) m) i 0 in
-      T-and (ltb k (arrowCount (pic .arrows))) (hasMode (pic .arrows) m k) (lt→ltb k (arrowCount (pic .arrows)) (f .0)) (f .1)
+      ofMode-is (pic .arrows) m (getD (ownArrows (pic .arrows) m) i 0) (f .0) (f .1)
 
   module _ (l : List ℕ) where
     mode-of : (k : ℕ) → T (addable pic m l k) → T (hasMode (pic .arrows) m k)
     mode-of k t = ofMode-has (pic .arrows) m k (addable-own pic m l k t)
 
     repeat-of : (k j : ℕ) → j < k → k < arrowCount (pic .arrows) → T (same (pic .arrows) k j) → T (addable pic m l k) → T (addable pic m l j)
-    unfolding ofMode
     repeat-of k j h b s t =
         let e = same-parts (pic .arrows) k j s in
         let there : j < arrowCount (pic .arrows) = omega arith in
         let is : arrowAt (pic .arrows) j ≡ arrowAt (pic .arrows) k = rw (e .0, e .1, e .2, e .3) in
         let mine : T (hasMode (pic .arrows) m j) = rw (hasMode-is, ← e .2) (rw hasMode-is at (mode-of k t)) in
-        addable-same pic m l j k is
-        (T-and (ltb j (arrowCount (pic .arrows))) (hasMode (pic .arrows) m j) (lt→ltb j (arrowCount (pic .arrows)) there) mine) t
+        addable-same pic m l j k is (ofMode-is (pic .arrows) m j there mine) t
 
     -- the first place whose arrow can be added has the next one, and where there is none the list has ended
     pub own-next : (r : ℕ) → r < length (ownArrows (pic .arrows) m) → T (addable pic m l (getD (ownArrows (pic .arrows) m) r 0))
         → ((i : ℕ) → i < r → T (addable pic m l (getD (ownArrows (pic .arrows) m) i 0)) → ⊥)
         → next pic m l ≡ some (getD (ownArrows (pic .arrows) m) r 0)
-    unfolding next
-    own-next = own-first (pic .arrows) m (addable pic m l) mode-of repeat-of
+    own-next r h t b = next-is-lowest pic m l ∙ own-first (pic .arrows) m (addable pic m l) mode-of repeat-of r h t b
 
     pub own-end : ((i : ℕ) → i < length (ownArrows (pic .arrows) m) → T (addable pic m l (getD (ownArrows (pic .arrows) m) i 0)) → ⊥)
         → next pic m l ≡ none
-    unfolding next
-    own-end = own-nothing (pic .arrows) m (addable pic m l) mode-of repeat-of
+    own-end b = next-is-lowest pic m l ∙ own-nothing (pic .arrows) m (addable pic m l) mode-of repeat-of b
 
     next-own : (k : ℕ) → next pic m l ≡ some k → T (isOwn (pic .arrows) m k)
-    unfolding next
-    next-own = lowest-own (pic .arrows) m (addable pic m l) mode-of repeat-of
+    next-own k e = lowest-own (pic .arrows) m (addable pic m l) mode-of repeat-of k (sym (next-is-lowest pic m l) ∙ e)
 
   -- ---- the list has no more places than there are such arrows
 
@@ -95,9 +89,8 @@ module _ (pic : Picture) (m : ℕ) where
   own k = ltb k (arrowCount (pic .arrows)) && isOwn (pic .arrows) m k
 
   to-own : (n : ℕ) → T (allOf own (listTo pic m n))
-  unfolding allOf
   to-own =
-      to-holds pic m (λ l. T (allOf own l)) tt
+      to-holds pic m (λ l. T (allOf own l)) (allOf-none own)
       (λ l k a e.
       allOf-snoc own l k a
       (T-and (ltb k (arrowCount (pic .arrows))) (isOwn (pic .arrows) m k)

@@ -14,11 +14,12 @@ use Rattle.base.proofs.BufferLaws.{written-none, written-more, zeros-length}
 use Rattle.tables.specs.Rows.{Picture, arrowCount, arrowAt}
 use Rattle.boxsets.specs.Sets.{isIn, setAt}
 use Rattle.user_rows.specs.Row.{ownArrows}
-use Rattle.lists.specs.Greedy.{addable, next, listTo}
+use Rattle.list_meaning.specs.Greedy.{addable, next, listTo}
 use Rattle.lists.specs.Steps.{standingBy, Done, SpentBefore, MarkedTo, Takes, NextFree, Table, unreached, Clear, Ordered}
 use Rattle.lists.specs.declared.Standing.the-variants.{Spent, Free}
-use Rattle.lists.proofs.GreedyLaws.{ofMode-there}
-use Rattle.lists.proofs.NextLaws.{to-next, greedy-is}
+use Rattle.list_meaning.proofs.GreedyLaws.{ofMode-there}
+use Rattle.list_meaning.proofs.NextLaws.{to-next, greedy-is}
+use Rattle.list_meaning.proofs.CallerLaws.{to-none}
 use Rattle.lists.proofs.StandLaws.{spent-stays, takes-fewer, taken-spent}
 use Rattle.lists.proofs.FreeLaws.{none-marked}
 use Rattle.lists.proofs.GrowLaws.{free-addable, addable-free, taken-shown}
@@ -35,8 +36,11 @@ module _ (pic : Picture) (m : ℕ) (closure arrows own granted out₀ : List ℕ
     pub shown : Table pic (unreached pic (To count)) left
 
   pub growing-none : (left : List ℕ) → Table pic (unreached pic []) left → Growing left out₀ 0
-  unfolding listTo
-  growing-none left t = record { counted = refl; listed = sym (written-none out₀); shown = t }
+  growing-none left t = record {
+    counted = ap length (to-none pic m);
+    listed = rw (to-none pic m) (sym (written-none out₀));
+    shown = rw (to-none pic m) t;
+  }
 
   module _ (d : Clear pic m closure arrows own granted) (fits : length own ≤ length out₀) (left out : List ℕ) (count : ℕ) (g : Growing left out count) where
     ended : next pic m (To count) ≡ none → Ordered pic m out₀ count out left

@@ -19,10 +19,8 @@ use Rattle.boxsets.specs.declared.Set.{Set}
 use Rattle.meaning.specs.Pairs.{unclearFault}
 use Rattle.user_rows.specs.Row.{ownArrows}
 use Rattle.user_rows.specs.Steps.{Drawn}
-use Rattle.lists.specs.Order.{anyOf}
-use Rattle.lists.specs.Greedy.{greedy}
-use Rattle.lists.specs.Calls.{listAnswer, listAfter, workAfter}
-use Rattle.lists.specs.declared.Listed.{Listed}
+use Rattle.list_meaning.specs.Order.{anyOf}
+use Rattle.list_meaning.specs.Greedy.{greedy}
 use Rattle.lists.specs.declared.Standing.{Standing}
 use Rattle.lists.specs.declared.Standing.the-variants.{Blocked, Spent, Free}
 
@@ -113,9 +111,3 @@ pub record Ordered (pic : Picture) (mode : ℕ) (old : List ℕ) (count : ℕ) (
   pub counted : count ≡ length (greedy pic mode)
   pub listed : out ≡ written (greedy pic mode) old
   pub shown : Table pic (unreached pic (greedy pic mode)) left
-
--- what is answered, and what the list places and the work bytes hold, once checks 1 to 10 have passed
-pub record Listing (pic : Picture) (mode : ℕ) (out work : List ℕ) (r : Listed) (out′ work′ : List ℕ) : Type 0 where
-  pub answered : r ≡ listAnswer pic mode (unclearFault pic mode)
-  pub list-after : out′ ≡ listAfter pic mode (unclearFault pic mode) out
-  pub work-after : work′ ≡ workAfter pic mode (unclearFault pic mode) work

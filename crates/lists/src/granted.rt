@@ -9,7 +9,7 @@ ghost use Rattle.tables.specs.Rows.{Picture};
 ghost use Rattle.user_rows.specs.Row.{ownArrows};
 ghost use Rattle.user_rows.specs.Steps.{Small, Sized, Moded, Ready};
 ghost use Rattle.kept_rows.specs.Steps.{Boxes};
-ghost use Rattle.lists.specs.Greedy.{greedy, orderFault};
+ghost use Rattle.list_meaning.specs.Greedy.{greedy, orderFault};
 ghost use Rattle.lists.specs.Steps.{Table, unreached, grantedTo, Check12};
 use super::Asked;
 use super::Sorted;

@@ -15,30 +15,22 @@ ghost use Rattle.boxsets.specs.Sets.{isIn};
 ghost use Rattle.containment.specs.Scratch.{scratchAfter};
 ghost use Rattle.meaning.specs.Meaning.{modeArrows};
 ghost use Rattle.user_rows.specs.Steps.{Drawn};
-ghost use Rattle.lists.specs.Calls.{listEarly, listBefore, listAnswer, listAfter, workAfter};
-ghost use Rattle.lists.specs.Steps.{Listing};
+ghost use Rattle.list_meaning.specs.Calls.{listEarly, listBefore, listAnswer, listAfter, workAfter, Listing};
 use boxsets::Set;
 use boxsets::set_of;
 use containment::check_scratch;
 use containment::no_closure;
 use containment::prepare;
+use list_meaning::Listed;
 use stages::list_mode;
 use stages::mode_count;
 use tables::BoxRow;
-use tables::Refusal;
 use tables::Verdict;
 use tables::atoms_of;
 use tables::check_mode;
 use tables::check_room;
 use tables::no_boxes;
 use tables::pair_count;
-
-// What the call for a list answers.
-pub enum Listed {
-    // So many places of the list are written.
-    Written(usize),
-    Refused(Refusal),
-}
 
 // How an arrow stands to a list: it would give a pair the wrong answer, it reaches nothing new, or it may follow.
 pub enum Standing {

@@ -6,8 +6,8 @@ use Rattle.tables.specs.declared.Verdict.the-variants.{Passed, Refused}
 use Rattle.meaning.specs.declared.Entry.{Entry}
 use Rattle.meaning.specs.declared.Entry.the-variants.{Granted, Denied, Default, Unclear}
 use Rattle.answers.specs.declared.Reply.the-variants.{Answered, Refused as EntryRefused}
-use Rattle.lists.specs.declared.Listed.{Listed}
-use Rattle.lists.specs.declared.Listed.the-variants.{Written, Refused as ListRefused}
+use Rattle.list_meaning.specs.declared.Listed.{Listed}
+use Rattle.list_meaning.specs.declared.Listed.the-variants.{Written, Refused as ListRefused}
 use Rattle.headings.specs.declared.Headings.{Headings}
 use Rattle.headings.specs.declared.Headings.the-variants.{Written as HeadingsWritten, Refused as HeadingsRefused}
 use Rattle.blocks.specs.declared.Reading.{Reading}

@@ -7,7 +7,7 @@ ghost use Rattle.tables.specs.Refusals.{verdictOf};
 ghost use Rattle.containment.specs.Scratch.{scratchAfter, earlyFault};
 ghost use Rattle.meaning.specs.Meaning.{answer};
 ghost use Rattle.answers.specs.Calls.{replyOf, entryEarly, entryFault, judgeFault, matrixEarly, matrixFault, bytesAfter, numbersAfter};
-ghost use Rattle.lists.specs.Calls.{listEarly, listBefore, listAnswer, listAfter, workAfter};
+ghost use Rattle.list_meaning.specs.Calls.{listEarly, listBefore, listAnswer, listAfter, workAfter};
 ghost use Rattle.headings.specs.Calls.{headingsOf, headingFault, usersAfter, filesAfter};
 ghost use Rattle.blocks.specs.Reads.{ReadDone};
 ghost use Rattle.packer.specs.Packs.{packAnswer, fileAfter};
@@ -16,7 +16,7 @@ ghost use Rattle.rights_c.specs.Replies.{listReply, headingReply, readRe
 ghost use Rattle.blocks.specs.declared.Reading.{Reading};
 use blocks::Reading;
 use headings::Headings;
-use lists::Listed;
+use list_meaning::Listed;
 use meaning::Entry;
 use packer::Packing;
 use tables::Refusal;

@@ -6,7 +6,7 @@ use blocks::Reading;
 use blocks::Seen;
 use headings::Headings;
 use libc::STDOUT_FILENO;
-use lists::Listed;
+use list_meaning::Listed;
 use meaning::Entry;
 use packer::Packing;
 use tables::Refusal;

@@ -3,16 +3,17 @@ use mathlib.Core.Path.{sym, _∙_}
 use borrow.Author.Needs.{needs}
 use Rattle.tables.specs.Steps.{SoundRows}
 use Rattle.tables.proofs.TableLaws.{sound-rows}
-use Rattle.tables.proofs.Verdicts.{passed, refuses, passes}
+use Rattle.tables.proofs.Verdicts.{passed}
 use Rattle.tables.specs.Rows.{picture}
-use Rattle.lists.specs.Calls.{listEarly}
-use Rattle.lists.proofs.CallLaws.{asked-is}
+use Rattle.list_meaning.proofs.CallLaws.{early-refused, early-passed}
 use Rattle.lists.proofs.early_list.Statement.{statement}
 use Rattle.lists.proofs.early_list.Tie as tie
 
 returns : tie.Need-returns
-unfolding listEarly
-returns c = refuses _ _ _ (sym (c .before .before .before .check .ensures) ∙ c .before .tables .given .1)
+returns c =
+    let a = c .before .before .before .before .before .before .before .before .before .before .args in
+    early-refused (picture (a .boxes .now) (a .rows .now) (a .arrows .now)) (a .mode) (a .scratch .now) (a .out .now) (a .work .now) _
+    (sym (c .before .before .before .check .ensures) ∙ c .before .tables .given .1)
 
 sound : (c : tie.After-enum-told) →
     let a = c .before .before .before .before .before .before .before .before .before .args in
@@ -28,7 +29,6 @@ pair-count-requires : tie.Need-pair-count-requires
 pair-count-requires c κs = sound (c .before .before .before .before .before .before)
 
 returns-2 : tie.Need-returns-2
-unfolding listEarly
 returns-2 c =
     let at-count = c .before .before in
     let at-room = at-count .before .before in
@@ -45,8 +45,8 @@ returns-2 c =
       at-room .before .before .or-else .ensures,
       at-scratch .check-scratch .ensures,
       at-scratch .before .check-mode .ensures,
-    ) (asked-is (picture (a .boxes .now) (a .rows .now) (a .arrows .now)) (a .mode) (a .scratch .now) (a .out .now) (a .work .now))
-    ∙ passes _ _ (sym (told .before .before .check .ensures) ∙ told .enum-told .given .1)
+    ) (early-passed (picture (a .boxes .now) (a .rows .now) (a .arrows .now)) (a .mode) (a .scratch .now) (a .out .now) (a .work .now)
+    (sym (told .before .before .check .ensures) ∙ told .enum-told .given .1))
 
 pub early-list-spec : {M : Type 1} → statement M
 early-list-spec =

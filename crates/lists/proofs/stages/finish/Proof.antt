@@ -2,14 +2,12 @@
 use mathlib.Core.Path.{sym, _∙_}
 use borrow.Author.Needs.{needs}
 use Rattle.tables.proofs.Verdicts.{passed, refused}
-use Rattle.lists.specs.Calls.{blanks}
-use Rattle.lists.specs.Greedy.{orderFault}
-use Rattle.lists.proofs.CallLaws.{finish-written, finish-refused}
+use Rattle.list_meaning.specs.Greedy.{orderFault}
+use Rattle.list_meaning.proofs.CallLaws.{finish-written, finish-refused}
 use Rattle.lists.proofs.stages.finish.Statement.{statement}
 use Rattle.lists.proofs.stages.finish.Tie as tie
 
 returns : tie.Need-returns
-unfolding blanks
 returns c pic m old verdict counted need room listed =
     let blanked = c .before .before in
     let told = blanked .before .before .before in

@@ -12,15 +12,15 @@ use Rattle.tables.specs.Rows.{Picture}
 use Rattle.tables.specs.Refusals.{noOrder}
 use Rattle.tables.specs.declared.Refusal.{Refusal}
 use Rattle.meaning.specs.Pairs.{pairs, userAt, fileAt}
-use Rattle.lists.specs.Order.{distinct, ofMode, meets, reached, granted, right, honest, coversAll, qualifies, FirstMissed}
-use Rattle.lists.specs.Greedy.{greedy, leftBy, orderFault}
+use Rattle.list_meaning.specs.Order.{distinct, ofMode, meets, reached, granted, right, honest, coversAll, qualifies, FirstMissed}
+use Rattle.list_meaning.specs.Greedy.{greedy, leftBy, orderFault}
 use Rattle.tables.proofs.TableLaws.{not-not}
 use Rattle.base.proofs.Tests.{and-T, T-and, T-true, not-false}
 use Rattle.base.proofs.SearchLaws.{first-none, first-some, first-is, first-nothing, every-at, every-is}
 use Rattle.base.proofs.SearchLaws.{given-none, given-some, given-true, given-false}
-use Rattle.lists.proofs.MatchLaws.{maximal}
-use Rattle.lists.proofs.GreedyLaws.{implies, implied, honest-own, honest-right}
-use Rattle.lists.proofs.NextLaws.{greedy-grown, greedy-full}
+use Rattle.list_meaning.proofs.MatchLaws.{maximal}
+use Rattle.list_meaning.proofs.GreedyLaws.{implies, implied, honest-own, honest-right}
+use Rattle.list_meaning.proofs.NextLaws.{greedy-grown, greedy-full}
 
 module _ (pic : Picture) (m : ℕ) where
   -- the pair at place p is granted, and the list does not reach it

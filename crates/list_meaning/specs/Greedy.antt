@@ -10,7 +10,7 @@ use Rattle.tables.specs.Rows.{Picture, arrowCount}
 use Rattle.tables.specs.Refusals.{noOrder}
 use Rattle.tables.specs.declared.Refusal.{Refusal}
 use Rattle.meaning.specs.Pairs.{pairs, userAt, fileAt}
-use Rattle.lists.specs.Order.{meets, reached, ofMode, granted, right}
+use Rattle.list_meaning.specs.Order.{meets, reached, ofMode, granted, right}
 
 -- the list with this arrow at its end, if there is one
 unfoldable pub followed : List ℕ → Option ℕ → List ℕ

@@ -1,4 +1,5 @@
 -- The call for the list of a mode, whole: which refusal, which answer, and what the lent places hold at the end. Assumes nothing.
+use mathlib.Core.Path.{_≡_}
 use mathlib.Core.List.{List}
 use mathlib.Core.Option.{Option, none, some}
 use Prim.Native.Nat.{ℕ}
@@ -13,9 +14,9 @@ use Rattle.containment.specs.Contains.{loopFault}
 use Rattle.meaning.specs.Meaning.{modeArrows}
 use Rattle.meaning.specs.Pairs.{pairs, unclearFault}
 use Rattle.containment.specs.Scratch.{scratchFault}
-use Rattle.lists.specs.Greedy.{greedy, orderFault}
-use Rattle.lists.specs.declared.Listed.{Listed}
-use Rattle.lists.specs.declared.Listed.the-variants.{Written, Refused}
+use Rattle.list_meaning.specs.Greedy.{greedy, orderFault}
+use Rattle.list_meaning.specs.declared.Listed.{Listed}
+use Rattle.list_meaning.specs.declared.Listed.the-variants.{Written, Refused}
 
 -- n times 65,535
 unfoldable pub blanks : ℕ → List ℕ
@@ -57,3 +58,9 @@ module _ (pic : Picture) (m : ℕ) where
 
   unfoldable pub workAfter : Option Refusal → List ℕ → List ℕ
   workAfter fault work = unlessRefused fault (written (zeros (pairs pic)) work) work
+
+  -- what is answered, and what the list places and the work bytes hold, once checks 1 to 10 have passed
+  pub record Listing (out work : List ℕ) (r : Listed) (out′ work′ : List ℕ) : Type 0 where
+    pub answered : r ≡ listAnswer (unclearFault pic m)
+    pub list-after : out′ ≡ listAfter (unclearFault pic m) out
+    pub work-after : work′ ≡ workAfter (unclearFault pic m) work

@@ -14,13 +14,13 @@ use Rattle.tables.specs.Refusals.{noOrder}
 use Rattle.tables.specs.declared.Refusal.{Refusal}
 use Rattle.meaning.specs.Meaning.{modeArrows}
 use Rattle.meaning.specs.Pairs.{pairs, userAt, fileAt}
-use Rattle.lists.specs.Order.{distinct, meets, reached, granted, right, honest, coversAll, qualifies, FirstMissed}
-use Rattle.lists.specs.Greedy.{greedy, orderFault}
-use Rattle.lists.specs.Calls.{listEarly, listBefore, listAnswer, listAfter, workAfter}
-use Rattle.lists.specs.Condition.{Pair, Reaches, Honest, IsGranted, ReachesAll, SomeReachesAll}
-use Rattle.lists.specs.Condition.{FirstUnreached, WrittenList, Condition3}
-use Rattle.lists.specs.declared.Listed.{Listed}
-use Rattle.lists.specs.declared.Listed.the-variants.{Written, Refused}
+use Rattle.list_meaning.specs.Order.{distinct, meets, reached, granted, right, honest, coversAll, qualifies, FirstMissed}
+use Rattle.list_meaning.specs.Greedy.{greedy, orderFault}
+use Rattle.list_meaning.specs.Calls.{listEarly, listBefore, listAnswer, listAfter, workAfter}
+use Rattle.list_meaning.specs.Condition.{Pair, Reaches, Honest, IsGranted, ReachesAll, SomeReachesAll}
+use Rattle.list_meaning.specs.Condition.{FirstUnreached, WrittenList, Condition3}
+use Rattle.list_meaning.specs.declared.Listed.{Listed}
+use Rattle.list_meaning.specs.declared.Listed.the-variants.{Written, Refused}
 use Rattle.tables.proofs.TableLaws.{both-none}
 use Rattle.base.proofs.Tests.{and-T}
 use Rattle.base.proofs.SearchLaws.{some-none}
@@ -28,9 +28,9 @@ use Rattle.base.proofs.BufferLaws.{written-rest}
 use Rattle.base.proofs.PartLaws.{part-is, wrote-length}
 use Rattle.meaning.proofs.PairLaws.{userAt-atom, fileAt-atom, pair-place, pair-before}
 use Rattle.meaning.proofs.ModeLaws.{answer-at}
-use Rattle.lists.proofs.GreedyLaws.{honest-own, honest-right, honest-is, mode-room}
-use Rattle.lists.proofs.OrderLaws.{covers-is, covers-at, greedy-qualifies, order-none, order-some, order-missed}
-use Rattle.lists.proofs.CallLaws.{answered-list, answered-none, rooms}
+use Rattle.list_meaning.proofs.GreedyLaws.{honest-own, honest-right, honest-is, mode-room}
+use Rattle.list_meaning.proofs.OrderLaws.{covers-is, covers-at, greedy-qualifies, order-none, order-some, order-missed}
+use Rattle.list_meaning.proofs.CallLaws.{answered-list, answered-none, rooms}
 
 module _ (pic : Picture) (m : ℕ) where
   -- ---- places and pairs

@@ -15,23 +15,23 @@ use lib.Seq.{take-suc, take-length, take-append-le, take-at, getD-append-seam}
 use Rattle.tables.specs.Rows.{Picture, arrowCount, arrowAt}
 use Rattle.tables.specs.declared.Refusal.{Refusal}
 use Rattle.meaning.specs.Pairs.{pairs, userAt, fileAt}
-use Rattle.lists.specs.Order.{anyOf, ofMode, meets, right}
-use Rattle.lists.specs.Greedy.{next, addable, listTo, greedy, orderFault}
-use Rattle.lists.specs.Condition.{Reaches}
-use Rattle.lists.specs.Calls.{listBefore, listAnswer, listAfter}
-use Rattle.lists.specs.Fixed.{CanFollow, Lowest, FixedOrder}
-use Rattle.lists.specs.declared.Listed.{Listed}
-use Rattle.lists.specs.declared.Listed.the-variants.{Written}
+use Rattle.list_meaning.specs.Order.{anyOf, ofMode, meets, right}
+use Rattle.list_meaning.specs.Greedy.{next, addable, listTo, greedy, orderFault}
+use Rattle.list_meaning.specs.Condition.{Reaches}
+use Rattle.list_meaning.specs.Calls.{listBefore, listAnswer, listAfter}
+use Rattle.list_meaning.specs.Fixed.{CanFollow, Lowest, FixedOrder}
+use Rattle.list_meaning.specs.declared.Listed.{Listed}
+use Rattle.list_meaning.specs.declared.Listed.the-variants.{Written}
 use Rattle.base.proofs.Tests.{or-T}
 use Rattle.base.proofs.SearchLaws.{below-suc}
 use Rattle.base.proofs.PartLaws.{part-is}
 use Rattle.meaning.proofs.PairLaws.{pair-place}
-use Rattle.lists.proofs.CountLaws.{anyOf-snoc}
-use Rattle.lists.proofs.MatchLaws.{honest-fits}
-use Rattle.lists.proofs.GreedyLaws.{honest-right, addable-own, adds-new, addable-is, addable-same, Grown, grown-none, grown-more}
-use Rattle.lists.proofs.NextLaws.{next-some, next-is, next-none, next-nothing, to-next, to-holds, to-grown, greedy-ends, greedy-is}
-use Rattle.lists.proofs.CallLaws.{answered-list, answered-none}
-use Rattle.lists.proofs.ConditionLaws.{pair-at, honest-pairs, not-both}
+use Rattle.list_meaning.proofs.CountLaws.{anyOf-snoc}
+use Rattle.list_meaning.proofs.MatchLaws.{honest-fits}
+use Rattle.list_meaning.proofs.GreedyLaws.{honest-right, addable-own, adds-new, addable-is, addable-same, Grown, grown-none, grown-more}
+use Rattle.list_meaning.proofs.NextLaws.{next-some, next-is, next-none, next-nothing, to-next, to-holds, to-grown, greedy-ends, greedy-is}
+use Rattle.list_meaning.proofs.CallLaws.{answered-list, answered-none}
+use Rattle.list_meaning.proofs.ConditionLaws.{pair-at, honest-pairs, not-both}
 
 module _ (pic : Picture) (m : ℕ) where
   abbrev Follows : List ℕ → ℕ → Type 0

@@ -13,15 +13,15 @@ use Rattle.tables.specs.Rows.{Picture, arrowCount, arrowAt}
 use Rattle.tables.specs.declared.Arrow.{Arrow}
 use Rattle.meaning.specs.Meaning.{hasMode, modeArrows}
 use Rattle.meaning.specs.Pairs.{pairs}
-use Rattle.lists.specs.Order.{anyOf, allOf, passes, distinct, firstOf, ofMode, meets, reached, right, honest}
-use Rattle.lists.specs.Greedy.{new, fits, addable}
+use Rattle.list_meaning.specs.Order.{anyOf, allOf, passes, distinct, firstOf, ofMode, meets, reached, right, honest}
+use Rattle.list_meaning.specs.Greedy.{new, fits, addable}
 use Rattle.base.proofs.Tests.{T?, and-T, T-and}
 use Rattle.base.proofs.SearchLaws.{lowest-some, lowest-none, every-at, every-is, some-none}
 use Rattle.base.proofs.BufferLaws.{select-most}
 use Rattle.base.proofs.SelectLaws.{select-within}
 use Rattle.meaning.proofs.ModeLaws.{mode-select}
-use Rattle.lists.proofs.CountLaws.{allOf-snoc, distinct-snoc, anyOf-has, room}
-use Rattle.lists.proofs.MatchLaws.{Honest, Fits, Full, honest-none, honest-snoc}
+use Rattle.list_meaning.proofs.CountLaws.{allOf-snoc, distinct-snoc, anyOf-has, room}
+use Rattle.list_meaning.proofs.MatchLaws.{Honest, Fits, Full, honest-none, honest-snoc}
 
 -- ---- tests
 

@@ -5,8 +5,8 @@ use mathlib.Core.List.{List}
 use Prim.Native.Nat.{ℕ, zero, suc}
 use Rattle.tables.specs.Rows.{Picture, arrowCount}
 use Rattle.meaning.proofs.SamePictures.{SameAnswers}
-use Rattle.lists.specs.Order.{meets, reached, granted, right}
-use Rattle.lists.specs.Greedy.{new, fits, addable, next, listTo, greedy, leftBy, orderFault}
+use Rattle.list_meaning.specs.Order.{meets, reached, granted, right}
+use Rattle.list_meaning.specs.Greedy.{new, fits, addable, next, listTo, greedy, leftBy, orderFault}
 
 module _ (one other : Picture) (same-arrows : one .arrows ≡ other .arrows) (same : SameAnswers one other) where
   same-meets : (p k : ℕ) → meets one p k ≡ meets other p k

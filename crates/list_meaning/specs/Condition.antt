@@ -15,10 +15,10 @@ use Rattle.tables.specs.Atoms.{atom}
 use Rattle.tables.specs.Refusals.{noOrder}
 use Rattle.meaning.specs.Meaning.{reaches, answer, isGranted}
 use Rattle.meaning.specs.Pairs.{Before, pairs}
-use Rattle.lists.specs.Order.{anyOf, allOf, firstOf, distinct, gives, ofMode}
-use Rattle.lists.specs.Calls.{blanks, listRoom}
-use Rattle.lists.specs.declared.Listed.{Listed}
-use Rattle.lists.specs.declared.Listed.the-variants.{Written, Refused}
+use Rattle.list_meaning.specs.Order.{anyOf, allOf, firstOf, distinct, gives, ofMode}
+use Rattle.list_meaning.specs.Calls.{blanks, listRoom}
+use Rattle.list_meaning.specs.declared.Listed.{Listed}
+use Rattle.list_meaning.specs.declared.Listed.the-variants.{Written, Refused}
 
 module _ (pic : Picture) where
   -- (u, f) is a pair: an atomic user and an atomic file

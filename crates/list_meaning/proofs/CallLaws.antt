@@ -4,7 +4,7 @@ use mathlib.Core.List.{List}
 use mathlib.Core.Option.{Option, none, some}
 use Prim.Native.Nat.{ℕ, _*_, _<_, _≤_}
 use native.Mathlib.Omega.{arith}
-use lib.ListN.{length, length-replicate}
+use lib.ListN.{length, replicate, length-replicate}
 use Rattle.base.specs.Search.{orElse}
 use Rattle.base.specs.Buffers.{written, zeros}
 use Rattle.base.proofs.Options.{past, stop, orElse-assoc}
@@ -13,19 +13,19 @@ use Rattle.tables.specs.Rows.{Picture}
 use Rattle.tables.specs.Refusals.{verdictOf, either}
 use Rattle.tables.specs.Faults.{tableFault, modeFault, roomFault}
 use Rattle.tables.specs.declared.Refusal.{Refusal}
-use Rattle.tables.proofs.Verdicts.{either-verdict}
+use Rattle.tables.specs.declared.Verdict.the-variants.{Passed, Refused as VerdictRefused}
+use Rattle.tables.proofs.Verdicts.{either-verdict, refuses, passes}
 use Rattle.tables.proofs.TableLaws.{both-none, mode-passed, room-passed}
 use Rattle.containment.specs.Scratch.{scratchFault, scratchAfter}
 use Rattle.containment.specs.Contains.{loopFault}
 use Rattle.containment.proofs.ScratchLaws.{scratch-room}
 use Rattle.meaning.specs.Pairs.{pairs, unclearFault}
-use Rattle.lists.specs.Greedy.{greedy, orderFault}
-use Rattle.lists.specs.Calls.{blanks, listRoom, listEarly, listBefore, listedOf, placesOf, listAnswer, listAfter, workAfter}
-use Rattle.lists.specs.Steps.{Listing}
-use Rattle.lists.specs.declared.Listed.{Listed}
-use Rattle.lists.specs.declared.Listed.the-variants.{Written, Refused}
-use Rattle.lists.proofs.GreedyLaws.{mode-room}
-use Rattle.lists.proofs.NextLaws.{greedy-grown}
+use Rattle.list_meaning.specs.Greedy.{greedy, orderFault}
+use Rattle.list_meaning.specs.Calls.{blanks, listRoom, listEarly, listBefore, listedOf, placesOf, listAnswer, listAfter, workAfter, Listing}
+use Rattle.list_meaning.specs.declared.Listed.{Listed}
+use Rattle.list_meaning.specs.declared.Listed.the-variants.{Written, Refused}
+use Rattle.list_meaning.proofs.GreedyLaws.{mode-room}
+use Rattle.list_meaning.proofs.NextLaws.{greedy-grown}
 
 module _ (pic : Picture) (m : ℕ) where
   -- what is answered and left by the list places, where checks 1 to 12 found nothing
@@ -45,12 +45,24 @@ module _ (pic : Picture) (m : ℕ) where
   -- ---- checks 1 to 9
 
   module _ (s out work : List ℕ) where
-    -- checks 8 and 9, one after the other
-    pub asked-is : either (either (either (verdictOf (modeFault m)) (verdictOf (scratchFault (length (pic .boxes)) s)))
+    -- one of 1 to 7 refuses
+    pub early-refused : (x : Refusal) → verdictOf (tableFault pic) ≡ VerdictRefused x → VerdictRefused x ≡ verdictOf (listEarly pic m s out work)
+    unfolding listEarly
+    early-refused x e = refuses _ _ _ e
+
+    -- they pass: 8 and 9, one after the other
+    pub early-passed : verdictOf (tableFault pic) ≡ Passed
+        → either (either (either (verdictOf (modeFault m)) (verdictOf (scratchFault (length (pic .boxes)) s)))
         (verdictOf (roomFault 3 (length out) (listRoom pic m)))) (verdictOf (roomFault 4 (length work) (pairs pic)))
-        ≡ verdictOf (orElse (modeFault m) (orElse (scratchFault (length (pic .boxes)) s)
-        (orElse (roomFault 3 (length out) (listRoom pic m)) (roomFault 4 (length work) (pairs pic)))))
-    asked-is = simp (either-verdict, orElse-assoc)
+        ≡ verdictOf (listEarly pic m s out work)
+    unfolding listEarly
+    early-passed e = asked ∙ passes _ _ e
+      where
+        asked : either (either (either (verdictOf (modeFault m)) (verdictOf (scratchFault (length (pic .boxes)) s)))
+            (verdictOf (roomFault 3 (length out) (listRoom pic m)))) (verdictOf (roomFault 4 (length work) (pairs pic)))
+            ≡ verdictOf (orElse (modeFault m) (orElse (scratchFault (length (pic .boxes)) s)
+            (orElse (roomFault 3 (length out) (listRoom pic m)) (roomFault 4 (length work) (pairs pic)))))
+        asked = simp (either-verdict, orElse-assoc)
 
     -- where they pass, the mode is one and there is room
     pub record Rooms : Type 0 where
@@ -84,7 +96,7 @@ module _ (pic : Picture) (m : ℕ) (count : ℕ) (out old : List ℕ) (counted :
 
   -- a pair is left: 65,535 in each needed place
   pub finish-refused : (x : Refusal) → orderFault pic m ≡ some x → (need : ℕ) → need ≡ listRoom pic m → need ≤ length old
-      → Answered pic m (Refused x) old (written (blanks need) out)
+      → Answered pic m (Refused x) old (written (replicate need 65535) out)
   unfolding blanks
   finish-refused x e need is room =
       let n : length (blanks need) ≡ need = length-replicate {A = ℕ} need 65535 in

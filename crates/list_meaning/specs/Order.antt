@@ -1,5 +1,5 @@
 -- First-match lists of a mode's arrows: the third condition of acceptance, with document 01's words on it. A list is any finite
--- sequence of arrow numbers of the mode; a pair is given by its place in the matrix (`answers`, specs/Pairs.antt).
+-- sequence of arrow numbers of the mode; a pair is given by its place in the matrix (`meaning`, specs/Pairs.antt).
 -- Assumes nothing.
 use mathlib.Core.Path.{_≡_}
 use mathlib.Core.Bool.{Bool, true, false, not, cond, _&&_, _||_}

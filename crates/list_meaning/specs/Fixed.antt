@@ -5,8 +5,8 @@ use Prim.Native.Nat.{ℕ, _<_}
 use lib.Dec.{T}
 use lib.ListN.{length, getD, take}
 use Rattle.tables.specs.Rows.{Picture}
-use Rattle.lists.specs.Order.{ofMode}
-use Rattle.lists.specs.Condition.{Pair, arrowReaches, Reaches, Honest}
+use Rattle.list_meaning.specs.Order.{ofMode}
+use Rattle.list_meaning.specs.Condition.{Pair, arrowReaches, Reaches, Honest}
 
 module _ (pic : Picture) (m : ℕ) where
   -- arrow k of the mode can follow while the list stays honest, and reaches a pair that nothing earlier reached

@@ -13,12 +13,12 @@ use lib.Dec.{T}
 use lib.ListN.{length, length-append}
 use Rattle.tables.specs.Rows.{Picture, arrowCount}
 use Rattle.meaning.specs.Pairs.{pairs}
-use Rattle.lists.specs.Order.{ofMode, meets, right}
-use Rattle.lists.specs.Greedy.{followed, addable, next, listTo, greedy}
+use Rattle.list_meaning.specs.Order.{ofMode, meets, right}
+use Rattle.list_meaning.specs.Greedy.{followed, addable, next, listTo, greedy}
 use Rattle.base.proofs.SearchLaws.{lowest-some, lowest-none, some-none}
 use Rattle.base.proofs.SelectLaws.{lowest-is, lowest-nothing}
-use Rattle.lists.proofs.MatchLaws.{Full}
-use Rattle.lists.proofs.GreedyLaws.{ofMode-there, addable-own, full, Grown, grown-none, grown-more, grown-most}
+use Rattle.list_meaning.proofs.MatchLaws.{Full}
+use Rattle.list_meaning.proofs.GreedyLaws.{ofMode-there, addable-own, full, Grown, grown-none, grown-more, grown-most}
 
 module _ (pic : Picture) (m : ℕ) where
   abbrev Can : List ℕ → ℕ → Bool

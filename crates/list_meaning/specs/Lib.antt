@@ -1,0 +1,6 @@
+pub mod Order
+pub mod Greedy
+pub mod Condition
+pub mod Fixed
+pub mod Calls
+pub mod Cases
