@@ -1,8 +1,6 @@
 // The first-match list of a mode.
 mod granted;
-mod order;
 mod stages;
-mod stands;
 
 ghost use mathlib.Core.Path.{_≡_};
 ghost use Prim.Native.Nat.{ℕ, _≤_};
@@ -31,13 +29,6 @@ use tables::check_mode;
 use tables::check_room;
 use tables::no_boxes;
 use tables::pair_count;
-
-// How an arrow stands to a list: it would give a pair the wrong answer, it reaches nothing new, or it may follow.
-pub enum Standing {
-    Blocked,
-    Spent,
-    Free,
-}
 
 // What is asked: the mode, the atomic files, and how many pairs there are.
 pub struct Asked {

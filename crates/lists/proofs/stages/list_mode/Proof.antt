@@ -10,7 +10,7 @@ use Rattle.meaning.specs.Pairs.{unclearFault}
 use Rattle.user_rows.specs.Row.{ownArrows}
 use Rattle.kept_rows.proofs.TakenLaws.{room}
 use Rattle.list_meaning.proofs.CallLaws.{listing-refused, listing-done}
-use Rattle.lists.proofs.OwnLaws.{OwnPart, own-part}
+use Rattle.lists.proofs.OwnPart.{OwnPart, own-part}
 use Rattle.lists.proofs.stages.list_mode.Statement.{statement}
 use Rattle.lists.proofs.stages.list_mode.Tie as tie
 
