@@ -24,7 +24,7 @@ use Rattle.meaning.specs.declared.Entry.{Entry}
 use Rattle.meaning.proofs.ModeLaws.{reaches-is, answer-at}
 use Rattle.meaning.proofs.PairLaws.{pair-place, userAt-atom, fileAt-atom}
 use Rattle.meaning.proofs.MatrixLaws.{clear-pair}
-use Rattle.user_rows.specs.Steps.{Drawn}
+use Rattle.certificates.specs.Steps.{Drawn}
 use Rattle.lists.specs.Order.{anyOf, gives, ofMode, meets, right}
 use Rattle.lists.specs.Greedy.{addable}
 use Rattle.lists.specs.Steps.{someIn, wrongAt, standingOf, standingBy, Takes, Table, unreached, grantedTo}

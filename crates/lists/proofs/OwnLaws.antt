@@ -14,11 +14,11 @@ use Rattle.base.proofs.SelectLaws.{select-within}
 use Rattle.tables.specs.Rows.{Picture, arrowCount, arrowAt}
 use Rattle.meaning.specs.Meaning.{hasMode, modeArrows}
 use Rattle.meaning.proofs.ModeLaws.{hasMode-is}
-use Rattle.user_rows.specs.Row.{same, isOwn, ownArrows}
-use Rattle.user_rows.specs.Steps.{Small, Numbers}
-use Rattle.user_rows.proofs.SameLaws.{same-parts}
-use Rattle.user_rows.proofs.OwnLaws.{own-select, own-found, own-most, own-mode-most, lowest-own, own-first, own-nothing}
-use Rattle.user_rows.proofs.CallerLaws.{own-numbers}
+use Rattle.mode_sets.specs.Mode.{same, isOwn, ownArrows}
+use Rattle.mode_sets.specs.Steps.{Small, Numbers}
+use Rattle.mode_sets.proofs.SameLaws.{same-parts}
+use Rattle.mode_sets.proofs.OwnLaws.{own-select, own-found, own-most, own-mode-most, lowest-own, own-first, own-nothing}
+use Rattle.mode_sets.proofs.CallerLaws.{own-numbers}
 use Rattle.lists.specs.Order.{allOf, ofMode}
 use Rattle.lists.specs.Greedy.{addable, next, listTo}
 use Rattle.lists.proofs.CountLaws.{allOf-snoc, room}

@@ -14,7 +14,7 @@ ghost use Rattle.tables.specs.Refusals.{verdictOf};
 ghost use Rattle.boxsets.specs.Sets.{isIn};
 ghost use Rattle.containment.specs.Scratch.{scratchAfter};
 ghost use Rattle.meaning.specs.Meaning.{modeArrows};
-ghost use Rattle.user_rows.specs.Steps.{Drawn};
+ghost use Rattle.certificates.specs.Steps.{Drawn};
 ghost use Rattle.lists.specs.Calls.{listEarly, listBefore, listAnswer, listAfter, workAfter};
 ghost use Rattle.lists.specs.Steps.{Listing};
 use boxsets::Set;
