@@ -29,7 +29,7 @@ use Rattle.containment.proofs.ScratchLaws.{scratch-room}
 use Rattle.containment.proofs.PictureLaws.{early-parts}
 use Rattle.meaning.specs.Pairs.{matrixBytes, matrixNumbers}
 use Rattle.meaning.specs.declared.Entry.{Entry}
-use Rattle.user_rows.specs.Steps.{Drawn}
+use Rattle.certificates.specs.Steps.{Drawn}
 use Rattle.answers.specs.Calls.{askedFault, replyOf, entryEarly, entryFault, matrixEarly, matrixFault, bytesAfter, numbersAfter}
 use Rattle.answers.specs.declared.Reply.the-variants.{Answered, Refused}
 

@@ -7,20 +7,21 @@ ghost use Rattle.tables.specs.Rows.{Picture, user, file};
 ghost use Rattle.tables.specs.Atoms.{atom};
 ghost use Rattle.tables.specs.Refusals.{verdictOf};
 ghost use Rattle.meaning.specs.Meaning.{answer};
-ghost use Rattle.user_rows.specs.Steps.{Small, Drawn};
+ghost use Rattle.mode_sets.specs.Steps.{Small};
+ghost use Rattle.certificates.specs.Steps.{Drawn};
 ghost use Rattle.answers.specs.Calls.{askedFault};
 use base::wide;
 use boxsets::single;
 use meaning::Entry;
+use mode_sets::no_heads;
+use mode_sets::no_numbers;
+use mode_sets::take_mode;
 use tables::BoxRow;
 use tables::Verdict;
 use tables::is_atom;
 use user_rows::answer_row;
 use user_rows::entry_of;
-use user_rows::no_heads;
-use user_rows::no_numbers;
 use user_rows::no_row;
-use user_rows::take_mode;
 
 // Whether u is an atomic user and f an atomic file.
 fn is_pair(boxes: &[u8], rows: &[u16], u: usize, f: usize) -> bool

@@ -6,7 +6,8 @@ ghost use Rattle.base.specs.Buffers.{written};
 ghost use Rattle.tables.specs.Rows.{Picture, picture, user, file};
 ghost use Rattle.tables.specs.Atoms.{atoms, pairCount};
 ghost use Rattle.meaning.specs.Pairs.{matrixBytes, matrixNumbers};
-ghost use Rattle.user_rows.specs.Steps.{Small, Drawn};
+ghost use Rattle.mode_sets.specs.Steps.{Small};
+ghost use Rattle.certificates.specs.Steps.{Drawn};
 ghost use Rattle.kept_rows.specs.Steps.{Boxes};
 ghost use Rattle.cells.specs.Steps.{byteIn, Emitted};
 use base::wide;
@@ -14,14 +15,14 @@ use boxsets::is_in;
 use boxsets::set_of;
 use kept_rows::next_numbers;
 use kept_rows::no_arrows;
+use mode_sets::no_heads;
+use mode_sets::no_numbers;
+use mode_sets::take_mode;
 use tables::BoxRow;
 use tables::atoms_of;
 use tables::no_boxes;
 use user_rows::Row;
-use user_rows::no_heads;
-use user_rows::no_numbers;
 use user_rows::no_row;
-use user_rows::take_mode;
 
 // A file's byte.
 fn byte_in(row: Row, f: usize) -> u8

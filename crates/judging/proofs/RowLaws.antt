@@ -20,9 +20,10 @@ use Rattle.meaning.specs.Meaning.{answer, isUnclear}
 use Rattle.meaning.specs.Pairs.{users, unclearFault}
 use Rattle.meaning.proofs.MatrixLaws.{unclear-first}
 use Rattle.meaning.proofs.RowPairs.{RowsClear, rows-more, rows-found, rows-end}
-use Rattle.user_rows.specs.Steps.{ModeSets, Sorts}
+use Rattle.mode_sets.specs.Steps.{ModeSets}
+use Rattle.mode_sets.proofs.CallerLaws.{no-tails-clear}
+use Rattle.user_rows.specs.Steps.{Sorts}
 use Rattle.user_rows.specs.declared.Row.{Row}
-use Rattle.user_rows.proofs.CallerLaws.{no-tails-clear}
 
 module _ (pic : Picture) (m : ℕ) where
   -- the pair is unclear

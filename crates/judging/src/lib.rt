@@ -12,7 +12,9 @@ ghost use Rattle.tables.specs.Refusals.{verdictOf};
 ghost use Rattle.boxsets.specs.Sets.{isIn};
 ghost use Rattle.meaning.specs.Meaning.{positive, negative};
 ghost use Rattle.meaning.specs.Pairs.{unclearFault, anyUnclear};
-ghost use Rattle.user_rows.specs.Steps.{Small, Sized, Drawn, Moded};
+ghost use Rattle.mode_sets.specs.Steps.{Small};
+ghost use Rattle.certificates.specs.Steps.{Drawn};
+ghost use Rattle.user_rows.specs.Steps.{Sized, Moded};
 ghost use Rattle.kept_rows.specs.Steps.{Boxes};
 ghost use Rattle.judging.specs.Steps.{Signed, signUsed};
 pub use atoms::atom_set;
@@ -26,14 +28,14 @@ use boxsets::set_at;
 use boxsets::shared;
 use kept_rows::next_row;
 use kept_rows::no_arrows;
+use mode_sets::no_heads;
+use mode_sets::no_numbers;
+use mode_sets::take_mode;
 use tables::Arrow;
 use tables::BoxRow;
 use tables::Verdict;
 use tables::atoms_of;
 use tables::no_boxes;
-use user_rows::no_heads;
-use user_rows::no_numbers;
-use user_rows::take_mode;
 
 // Check 12 for a mode, by its arrows: row by row, and in a row the lowest file.
 fn judge_rows(

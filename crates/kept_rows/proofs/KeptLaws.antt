@@ -19,11 +19,13 @@ use Rattle.boxsets.specs.Sets.{isIn, setAt}
 use Rattle.boxsets.specs.declared.Set.{Set}
 use Rattle.boxsets.proofs.TableLaws.{has-in}
 use Rattle.boxsets.proofs.WalkLaws.{in-below}
-use Rattle.user_rows.specs.Row.{tailsBelow}
-use Rattle.user_rows.specs.Steps.{Drawn, ModeSets, Sorts, blankRow}
+use Rattle.mode_sets.specs.Mode.{tailsBelow}
+use Rattle.mode_sets.specs.Steps.{ModeSets}
+use Rattle.mode_sets.proofs.TailLaws.{tail-taken}
+use Rattle.certificates.specs.Steps.{Drawn}
+use Rattle.user_rows.specs.Steps.{Sorts, blankRow}
 use Rattle.user_rows.specs.declared.Row.{Row}
-use Rattle.user_rows.proofs.TailLaws.{tail-taken}
-use Rattle.user_rows.proofs.CallerLaws.{blank-is, blank-at}
+use Rattle.user_rows.proofs.BlankLaws.{blank-is, blank-at}
 use Rattle.kept_rows.specs.Steps.{TailsNear, Keeps, KeepsNumbers}
 use Rattle.kept_rows.specs.declared.Kept.{Kept}
 

@@ -1,4 +1,4 @@
--- The arrows of a mode as `user_rows::take_mode` leaves them, and the part of the numbers that a caller lends on. Assumes nothing.
+-- The arrows of a mode as `mode_sets::take_mode` leaves them, and the part of the numbers that a caller lends on. Assumes nothing.
 use mathlib.Core.Path.{_≡_, ap, _∙_}
 use mathlib.Core.List.{List}
 use Prim.Native.Nat.{ℕ, _≤_}
@@ -8,10 +8,11 @@ use Rattle.base.specs.Buffers.{written, zeros}
 use Rattle.base.proofs.BufferLaws.{zeros-length}
 use Rattle.base.proofs.PartLaws.{Wrote, part-is, part-length, part-within}
 use Rattle.tables.specs.Rows.{Picture}
-use Rattle.user_rows.specs.Row.{ownArrows}
-use Rattle.user_rows.specs.Steps.{Small, Sized, ModeSets, Moded}
-use Rattle.user_rows.proofs.CallerLaws.{own-numbers}
-use Rattle.user_rows.proofs.OwnLaws.{own-most}
+use Rattle.mode_sets.specs.Mode.{ownArrows}
+use Rattle.mode_sets.specs.Steps.{Small, ModeSets}
+use Rattle.mode_sets.proofs.CallerLaws.{own-numbers}
+use Rattle.mode_sets.proofs.OwnLaws.{own-most}
+use Rattle.user_rows.specs.Steps.{Sized, Moded}
 
 -- a buffer of zeros has its places
 pub room : (n : ℕ) {l : List ℕ} → l ≡ zeros n → n ≤ length l

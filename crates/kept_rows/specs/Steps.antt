@@ -10,7 +10,7 @@ use Rattle.containment.specs.Contains.{around}
 use Rattle.meaning.specs.Meaning.{positive, negative, answer, numberOf}
 use Rattle.boxsets.specs.Sets.{isIn}
 use Rattle.boxsets.specs.declared.Set.{Set}
-use Rattle.user_rows.specs.Row.{tailsBelow}
+use Rattle.mode_sets.specs.Mode.{tailsBelow}
 use Rattle.user_rows.specs.Steps.{Sorts}
 use Rattle.kept_rows.specs.declared.Kept.{Kept}
 

@@ -21,7 +21,7 @@ use Rattle.meaning.specs.Pairs.{pairs, userAt, fileAt, unclearFault}
 use Rattle.meaning.proofs.ModeLaws.{reaches-is, answer-at}
 use Rattle.meaning.proofs.PairLaws.{pair-place, userAt-atom, fileAt-atom}
 use Rattle.meaning.proofs.MatrixLaws.{clear-pair}
-use Rattle.user_rows.specs.Steps.{Drawn}
+use Rattle.certificates.specs.Steps.{Drawn}
 use Rattle.list_meaning.specs.Order.{anyOf, ofMode, meets, right}
 use Rattle.list_meaning.specs.Greedy.{addable}
 use Rattle.list_order.specs.Steps.{someIn, wrongAt, standingOf, standingBy, Takes, Table, unreached, grantedTo}

@@ -13,9 +13,9 @@ use Rattle.base.proofs.SelectLaws.{select-within}
 use Rattle.tables.specs.Rows.{Picture, arrowCount, arrowAt}
 use Rattle.meaning.specs.Meaning.{hasMode}
 use Rattle.meaning.proofs.ModeLaws.{hasMode-is}
-use Rattle.user_rows.specs.Row.{same, isOwn, ownArrows}
-use Rattle.user_rows.proofs.SameLaws.{same-parts}
-use Rattle.user_rows.proofs.OwnLaws.{own-select, own-found, lowest-own, own-first, own-nothing}
+use Rattle.mode_sets.specs.Mode.{same, isOwn, ownArrows}
+use Rattle.mode_sets.proofs.SameLaws.{same-parts}
+use Rattle.mode_sets.proofs.OwnLaws.{own-select, own-found, lowest-own, own-first, own-nothing}
 use Rattle.list_meaning.specs.Order.{allOf, ofMode}
 use Rattle.list_meaning.specs.Greedy.{addable, next, listTo}
 use Rattle.list_meaning.proofs.CallerLaws.{allOf-none, ofMode-is, next-is-lowest}

@@ -13,7 +13,7 @@ use Rattle.base.specs.Buffers.{written, zeros}
 use Rattle.base.proofs.BufferLaws.{written-none, written-more, zeros-length}
 use Rattle.tables.specs.Rows.{Picture, arrowCount, arrowAt}
 use Rattle.boxsets.specs.Sets.{isIn, setAt}
-use Rattle.user_rows.specs.Row.{ownArrows}
+use Rattle.mode_sets.specs.Mode.{ownArrows}
 use Rattle.list_meaning.specs.Greedy.{addable, next, listTo}
 use Rattle.list_order.specs.Steps.{standingBy, Done, SpentBefore, MarkedTo, Takes, NextFree, Table, unreached, Clear, Ordered}
 use Rattle.list_order.specs.declared.Standing.the-variants.{Spent, Free}

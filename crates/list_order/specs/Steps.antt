@@ -15,8 +15,8 @@ use Rattle.meaning.specs.Meaning.{positive, reaches, answer, isGranted}
 use Rattle.boxsets.specs.Sets.{isIn, setAt, has}
 use Rattle.boxsets.specs.declared.Set.{Set}
 use Rattle.meaning.specs.Pairs.{unclearFault}
-use Rattle.user_rows.specs.Row.{ownArrows}
-use Rattle.user_rows.specs.Steps.{Drawn}
+use Rattle.mode_sets.specs.Mode.{ownArrows}
+use Rattle.certificates.specs.Steps.{Drawn}
 use Rattle.list_meaning.specs.Order.{anyOf}
 use Rattle.list_meaning.specs.Greedy.{greedy}
 use Rattle.list_order.specs.declared.Standing.{Standing}

@@ -9,7 +9,7 @@ ghost use lib.ListN.{length};
 ghost use Rattle.base.specs.Buffers.{zeros};
 ghost use Rattle.tables.specs.Rows.{Picture, arrowCount, arrowAt};
 ghost use Rattle.boxsets.specs.Sets.{isIn, inWord, setAt};
-ghost use Rattle.user_rows.specs.Steps.{Small, Numbers};
+ghost use Rattle.mode_sets.specs.Steps.{Small, Numbers};
 ghost use Rattle.list_order.specs.Steps.{Done, SpentBefore, NextFree, MarkedTo, Takes, Table, unreached, Clear, Ordered};
 use base::wide;
 use boxsets::Set;

@@ -6,7 +6,7 @@ ghost use lib.Dec.{eqb};
 ghost use lib.ListN.{length};
 ghost use Rattle.tables.specs.Rows.{arrowCount, arrowAt};
 ghost use Rattle.boxsets.specs.Sets.{isIn, inWord, has};
-ghost use Rattle.user_rows.specs.Steps.{Small};
+ghost use Rattle.mode_sets.specs.Steps.{Small};
 ghost use Rattle.list_order.specs.Steps.{someIn, wrongAt, standingOf, standingBy, markOf};
 use super::Standing;
 use base::wide;

@@ -14,11 +14,12 @@ use Rattle.meaning.specs.Meaning.{answer, isGranted, isUnclear, numberOf}
 use Rattle.boxsets.specs.Sets.{isIn, among}
 use Rattle.boxsets.specs.declared.Set.{Set}
 use Rattle.boxsets.proofs.AmongLaws.{among-is}
-use Rattle.user_rows.specs.Row.{ownArrows}
-use Rattle.user_rows.specs.Steps.{Small, Sized, ModeSets, Moded, Sorts}
+use Rattle.mode_sets.specs.Mode.{ownArrows}
+use Rattle.mode_sets.specs.Steps.{Small, ModeSets}
+use Rattle.mode_sets.proofs.CallerLaws.{own-numbers}
+use Rattle.mode_sets.proofs.OwnLaws.{own-most}
+use Rattle.user_rows.specs.Steps.{Sized, Moded, Sorts}
 use Rattle.user_rows.specs.declared.Row.{Row}
-use Rattle.user_rows.proofs.CallerLaws.{own-numbers}
-use Rattle.user_rows.proofs.OwnLaws.{own-most}
 
 module _ {arrows old own : List ℕ} {count : ℕ} (m : ℕ) (small : Small arrows) (room : old ≡ zeros 512)
     (w : Wrote (ownArrows arrows m) old count own) where

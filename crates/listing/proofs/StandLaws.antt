@@ -16,7 +16,7 @@ use Rattle.tables.specs.Atoms.{atoms}
 use Rattle.tables.proofs.AtomPlaces.{atoms-found, atom-there, atoms-most}
 use Rattle.meaning.specs.Pairs.{users, files}
 use Rattle.meaning.proofs.PairLaws.{place-in}
-use Rattle.user_rows.proofs.CallerLaws.{small-arrows}
+use Rattle.mode_sets.proofs.CallerLaws.{small-arrows}
 use Rattle.listing.specs.Numbered.{usedModes, lineRows, rowStart}
 use Rattle.listing.specs.Steps.{Sized, Fits, Ready, Stands, userUnclear}
 use Rattle.listing.specs.declared.Place.{Place}

@@ -13,7 +13,8 @@ use Rattle.tables.specs.Refusals.{unclearPair, verdictOf}
 use Rattle.tables.specs.declared.Refusal.{Refusal}
 use Rattle.meaning.specs.Meaning.{answer, isUnclear}
 use Rattle.meaning.specs.Pairs.{users, files}
-use Rattle.user_rows.specs.Steps.{Small, Drawn}
+use Rattle.mode_sets.specs.Steps.{Small}
+use Rattle.certificates.specs.Steps.{Drawn}
 use Rattle.blocks.specs.Blocks.{joined}
 use Rattle.listing.specs.Lines.{lineText}
 use Rattle.listing.specs.Files.{filePicture, readRefusal, fileRefusal}

@@ -6,7 +6,9 @@ ghost use Rattle.tables.specs.Rows.{Picture};
 ghost use Rattle.meaning.specs.Meaning.{answer, numberOf};
 ghost use Rattle.meaning.specs.Pairs.{files as filesOf};
 ghost use Rattle.boxsets.specs.Sets.{among};
-ghost use Rattle.user_rows.specs.Steps.{Small, Drawn, Sorts, blankRow};
+ghost use Rattle.mode_sets.specs.Steps.{Small};
+ghost use Rattle.certificates.specs.Steps.{Drawn};
+ghost use Rattle.user_rows.specs.Steps.{Sorts, blankRow};
 ghost use Rattle.listing.specs.Steps.{Bytes, RowPut};
 use super::Line;
 use super::Told;
@@ -31,9 +33,9 @@ fn answers_of(
         × ((i : ℕ) → i < length (now (files .entry)) → getD (now (numbers .exit)) (getD (now (files .entry)) i 0) 0
         ≡ numberOf (answer pic mode user (getD (now (files .entry)) i 0)))) ⌝ }
 {
-    let mut own = user_rows::no_numbers();
-    let mut heads = user_rows::no_heads();
-    let count = user_rows::take_mode(arrows, mode, &mut own, &mut heads);
+    let mut own = mode_sets::no_numbers();
+    let mut heads = mode_sets::no_heads();
+    let count = mode_sets::take_mode(arrows, mode, &mut own, &mut heads);
     let asked = boxsets::set_of(files);
     user_rows::answer_row(closure, &heads, arrows, &own[..count], user, asked, numbers)
 }

@@ -6,10 +6,10 @@ use native.Mathlib.Omega.{arith}
 use lib.ListN.{length, take}
 use Rattle.base.proofs.PartLaws.{Wrote, part-is, part-length, part-within}
 use Rattle.meaning.specs.Meaning.{modeArrows}
-use Rattle.user_rows.specs.Row.{ownArrows}
-use Rattle.user_rows.specs.Steps.{Small, Numbers}
-use Rattle.user_rows.proofs.OwnLaws.{own-most, own-mode-most}
-use Rattle.user_rows.proofs.CallerLaws.{own-numbers}
+use Rattle.mode_sets.specs.Mode.{ownArrows}
+use Rattle.mode_sets.specs.Steps.{Small, Numbers}
+use Rattle.mode_sets.proofs.OwnLaws.{own-most, own-mode-most}
+use Rattle.mode_sets.proofs.CallerLaws.{own-numbers}
 
 pub record OwnPart (arrows : List ℕ) (m count : ℕ) (own : List ℕ) : Type 0 where
   pub within : count ≤ length own

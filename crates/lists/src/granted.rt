@@ -6,8 +6,9 @@ ghost use lib.ListN.{length};
 ghost use Rattle.base.specs.Buffers.{written, zeros};
 ghost use Rattle.tables.specs.Refusals.{verdictOf};
 ghost use Rattle.tables.specs.Rows.{Picture};
-ghost use Rattle.user_rows.specs.Row.{ownArrows};
-ghost use Rattle.user_rows.specs.Steps.{Small, Sized, Moded, Ready};
+ghost use Rattle.mode_sets.specs.Mode.{ownArrows};
+ghost use Rattle.mode_sets.specs.Steps.{Small};
+ghost use Rattle.user_rows.specs.Steps.{Sized, Moded, Ready};
 ghost use Rattle.kept_rows.specs.Steps.{Boxes};
 ghost use Rattle.list_meaning.specs.Greedy.{greedy, orderFault};
 ghost use Rattle.list_order.specs.Steps.{Table, unreached, grantedTo};
@@ -23,9 +24,9 @@ use boxsets::set_at;
 use boxsets::shared;
 use kept_rows::next_row;
 use kept_rows::no_arrows;
+use mode_sets::no_heads;
+use mode_sets::take_mode;
 use tables::Verdict;
-use user_rows::no_heads;
-use user_rows::take_mode;
 
 // A set for each box.
 pub fn no_sets() -> [u64; 1024]

@@ -12,7 +12,7 @@ ghost use Rattle.tables.specs.Refusals.{verdictOf};
 ghost use Rattle.boxsets.specs.Sets.{isIn};
 ghost use Rattle.containment.specs.Scratch.{scratchAfter};
 ghost use Rattle.meaning.specs.Meaning.{modeArrows};
-ghost use Rattle.user_rows.specs.Steps.{Drawn};
+ghost use Rattle.certificates.specs.Steps.{Drawn};
 ghost use Rattle.list_meaning.specs.Calls.{listEarly, listBefore, listAnswer, listAfter, workAfter, Listing};
 use boxsets::Set;
 use boxsets::set_of;

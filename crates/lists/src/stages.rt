@@ -9,7 +9,8 @@ ghost use Rattle.tables.specs.Rows.{Picture};
 ghost use Rattle.tables.specs.Refusals.{verdictOf};
 ghost use Rattle.meaning.specs.Meaning.{modeArrows};
 ghost use Rattle.meaning.specs.Pairs.{pairs};
-ghost use Rattle.user_rows.specs.Steps.{Small, Numbers, Ready};
+ghost use Rattle.mode_sets.specs.Steps.{Small, Numbers};
+ghost use Rattle.user_rows.specs.Steps.{Ready};
 ghost use Rattle.kept_rows.specs.Steps.{Boxes};
 ghost use Rattle.list_meaning.specs.Greedy.{greedy, orderFault};
 ghost use Rattle.list_meaning.specs.Calls.{listRoom, listAnswer, listAfter, Listing};
@@ -24,7 +25,7 @@ use list_meaning::Listed;
 use list_order::order;
 use tables::Arrow;
 use tables::Verdict;
-use user_rows::no_numbers;
+use mode_sets::no_numbers;
 
 // How many arrows the mode has.
 pub fn mode_count(arrows: &[u16], mode: u16) -> usize

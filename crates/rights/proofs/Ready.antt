@@ -20,7 +20,7 @@ use Rattle.containment.specs.Contains.{loopFault}
 use Rattle.containment.specs.Scratch.{earlyFault, pictureFault}
 use Rattle.containment.specs.Steps.{Closure}
 use Rattle.containment.proofs.PictureLaws.{early-prepared, picture-prepared, picture-clear, picture-stages}
-use Rattle.user_rows.specs.Steps.{Drawn}
+use Rattle.certificates.specs.Steps.{Drawn}
 use Rattle.listing.specs.Files.{filePicture}
 use Rattle.listing.specs.Steps.{Ready, Good}
 

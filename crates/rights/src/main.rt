@@ -6,7 +6,7 @@ ghost use mathlib.Core.Option.{some};
 ghost use Prim.Native.Nat.{_*_, _≤_};
 ghost use lib.ListN.{length, take};
 ghost use Rattle.tables.specs.Rows.{picture, arrowCount};
-ghost use Rattle.user_rows.specs.Steps.{Drawn};
+ghost use Rattle.certificates.specs.Steps.{Drawn};
 ghost use Rattle.listing.specs.Files.{filePicture, fileRefusal};
 ghost use Rattle.listing.specs.Listing.{countsLine};
 ghost use Rattle.listing.specs.Numbered.{fileLineCount, fileLine, linesFrom};

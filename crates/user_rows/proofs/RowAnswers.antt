@@ -9,13 +9,14 @@ use Rattle.base.specs.Search.{lowest}
 use Rattle.base.proofs.Tests.{T?, T-true, not-false}
 use Rattle.base.proofs.SearchLaws.{lowest-some, lowest-none}
 use Rattle.base.proofs.SelectLaws.{lowest-is, lowest-nothing}
-use Rattle.base.proofs.AnyLaws.{any-found, any-is}
 use Rattle.tables.specs.Rows.{Picture, arrowCount, arrowAt}
 use Rattle.meaning.specs.Meaning.{positive, negative, hits, certifies, answer, isGranted, isUnclear}
 use Rattle.meaning.specs.declared.Entry.the-variants.{Granted, Denied}
 use Rattle.meaning.proofs.AnswerLaws.{certifies-is, hit-sign, unhit-default}
 use Rattle.meaning.proofs.SettleLaws.{Tells, granted-tells, denied-tells, default-tells, unclear-tells, grants-with, denies-with, unclear-with}
-use Rattle.user_rows.specs.Row.{shows, saidBy, reachedBy}
+use Rattle.certificates.specs.Blocks.{reachedBy}
+use Rattle.user_rows.specs.Row.{shows, saidBy}
+use Rattle.certificates.proofs.ReachLaws.{reached-hit, reached-found}
 use Rattle.user_rows.proofs.ShowLaws.{shows-parts, shows-grants, shows-denies, shows-hits, certifies-sign}
 
 -- what an arrow says
@@ -52,14 +53,6 @@ module _ (pic : Picture) (m u f : ℕ) where
 
   -- ---- which signs reach the pair
 
-  pub reached-hit : (s k : ℕ) → k < count → T (hits pic m s u f k) → T (reachedBy pic m s u f)
-  unfolding reachedBy
-  reached-hit s k l t = any-is (hits pic m s u f) count k l t
-
-  reached-found : (s : ℕ) → T (reachedBy pic m s u f) → (k : ℕ) × (k < count) × T (hits pic m s u f k)
-  unfolding reachedBy
-  reached-found s t = any-found (hits pic m s u f) count t
-
   -- a pair that one sign only reaches has a certificate
   other-sign : lowest (shows pic m u f) count ≡ none → (s o : ℕ) → ((k : ℕ) → T (certifies pic m s o u f k) → T (shows pic m u f k))
       → T (reachedBy pic m s u f) → T (reachedBy pic m o u f)
@@ -68,10 +61,10 @@ module _ (pic : Picture) (m u f : ℕ) where
       go : Dec (T (reachedBy pic m o u f)) → T (reachedBy pic m o u f)
       go (yes t) = t
       go (no n) =
-          let h = reached-found s r in
+          let h = reached-found pic m u f s r in
           absurd
           (lowest-none (shows pic m u f) count e (h .0) (h .1)
-          (to (h .0) (certifies-is pic m u f s o (h .0) (h .2) (λ j l t. absurd (n (reached-hit o j l t))))))
+          (to (h .0) (certifies-is pic m u f s o (h .0) (h .2) (λ j l t. absurd (n (reached-hit pic m u f o j l t))))))
 
   -- ---- a pair without a certificate: no arrow reaches it, or both signs do
 
@@ -87,7 +80,7 @@ module _ (pic : Picture) (m u f : ℕ) where
     where
       go : (r : Option ℕ) → lowest (hits pic m s u f) count ≡ r → (k : ℕ) × (lowest (hits pic m s u f) count ≡ some k)
       go (some k) e = (k, e)
-      go none e = let h = reached-found s t in absurd (lowest-none (hits pic m s u f) count e (h .0) (h .1) (h .2))
+      go none e = let h = reached-found pic m u f s t in absurd (lowest-none (hits pic m s u f) count e (h .0) (h .1) (h .2))
 
   pub reached-unclear : lowest (shows pic m u f) count ≡ none → T (reachedBy pic m positive u f) ⊎ T (reachedBy pic m negative u f)
       → Tells (answer pic m u f) false true 65535
@@ -102,7 +95,7 @@ module _ (pic : Picture) (m u f : ℕ) where
       rw (unclear-with pic m u f (i .0) (j .0) (c .0) (c .1) (i .1) (j .1)) (unclear-tells (i .0) (j .0))
 
   none-hits : (s : ℕ) → (T (reachedBy pic m s u f) → ⊥) → (k : ℕ) → k < count → T (hits pic m s u f k) → ⊥
-  none-hits s n k l t = n (reached-hit s k l t)
+  none-hits s n k l t = n (reached-hit pic m u f s k l t)
 
   pub unreached : (T (reachedBy pic m positive u f) → ⊥) → (T (reachedBy pic m negative u f) → ⊥) → Tells (answer pic m u f) false false 65535
   unreached p n = rw (unhit-default pic m u f (none-hits positive p) (none-hits negative n)) default-tells
@@ -117,8 +110,8 @@ module _ (pic : Picture) (m u f : ℕ) where
       says k e h =
           let l = lowest-some (shows pic m u f) count k e .0 in
           ⊎-elim
-          (λ p. rw (hit-sign pic m u f positive k p) (sym (T-true (reachedBy pic m positive u f) (reached-hit positive k l p))))
-          (λ n. rw (hit-sign pic m u f negative k n) (sym (not-false (reachedBy pic m positive u f) (λ t. not-both t (reached-hit negative k l n)))))
+          (λ p. rw (hit-sign pic m u f positive k p) (sym (T-true (reachedBy pic m positive u f) (reached-hit pic m u f positive k l p))))
+          (λ n. rw (hit-sign pic m u f negative k n) (sym (not-false (reachedBy pic m positive u f) (λ t. not-both t (reached-hit pic m u f negative k l n)))))
           h
 
       go : (r : Option ℕ) → lowest (shows pic m u f) count ≡ r

@@ -12,8 +12,10 @@ use Rattle.meaning.specs.Meaning.{positive, negative, answer, isGranted, isUncl
 use Rattle.boxsets.specs.Sets.{isIn}
 use Rattle.boxsets.specs.declared.Set.{Set}
 use Rattle.boxsets.proofs.WalkLaws.{in-below}
-use Rattle.user_rows.specs.Row.{ownArrows, reachedBy}
-use Rattle.user_rows.specs.Steps.{Drawn, Moded, AroundBy, Walked, Sorts}
+use Rattle.mode_sets.specs.Mode.{ownArrows}
+use Rattle.certificates.specs.Blocks.{reachedBy}
+use Rattle.certificates.specs.Steps.{Drawn}
+use Rattle.user_rows.specs.Steps.{Moded, AroundBy, Walked, Sorts}
 use Rattle.user_rows.specs.declared.Around.{Around}
 use Rattle.user_rows.specs.declared.Row.{Row}
 use Rattle.user_rows.proofs.ShowLaws.{own-none}

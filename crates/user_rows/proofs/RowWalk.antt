@@ -15,10 +15,13 @@ use Rattle.tables.specs.declared.Arrow.{Arrow}
 use Rattle.meaning.specs.Meaning.{positive, hasMode}
 use Rattle.boxsets.specs.Sets.{isIn, has}
 use Rattle.boxsets.specs.declared.Set.{Set}
-use Rattle.user_rows.specs.Row.{ownArrows, shows}
-use Rattle.user_rows.specs.Steps.{Drawn, ModeSets, Moded, AroundBy, Walked, NextNear, Numbered}
+use Rattle.mode_sets.specs.Mode.{ownArrows}
+use Rattle.mode_sets.specs.Steps.{ModeSets}
+use Rattle.mode_sets.proofs.OwnLaws.{own-found}
+use Rattle.certificates.specs.Steps.{Drawn}
+use Rattle.user_rows.specs.Row.{shows}
+use Rattle.user_rows.specs.Steps.{Moded, AroundBy, Walked, NextNear, Numbered}
 use Rattle.user_rows.specs.declared.Around.{Around}
-use Rattle.user_rows.proofs.OwnLaws.{own-found}
 use Rattle.user_rows.proofs.ShowLaws.{shows-around, own-shown}
 
 module _ (pic : Picture) (m u : ℕ) (files : ℕ → Bool) (before : ℕ → ℕ) where

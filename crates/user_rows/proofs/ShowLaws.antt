@@ -1,15 +1,15 @@
 -- One test for certificates of both signs: what it is for an arrow around the user, and the lowest of them. Assumes nothing.
 use mathlib.Core.Path.{_≡_, sym, ap, subst, _∙_}
 use mathlib.Core.Logic.{_⊎_, ⊎-elim, ⊎-map}
-use mathlib.Core.Bool.{Bool, false, _&&_, or-false}
+use mathlib.Core.Bool.{Bool, false, or-false}
 use mathlib.Core.List.{List}
 use mathlib.Core.Option.{none, some}
 use Prim.Native.Nat.{ℕ, _+_, _<_, _≤_}
 use native.Mathlib.Omega.{arith}
-use lib.Dec.{T, eqb}
+use lib.Dec.{T}
 use lib.ListN.{length, getD}
 use Rattle.base.specs.Search.{lowest}
-use Rattle.base.proofs.Tests.{or-T, T-or₁, T-or₂, and-T, T-and, T-eqb, not-false}
+use Rattle.base.proofs.Tests.{or-T, T-or₁, T-or₂, and-T, T-eqb, not-false}
 use Rattle.tables.specs.Rows.{Picture, arrowCount, arrowAt}
 use Rattle.tables.specs.Steps.{SoundArrows}
 use Rattle.tables.specs.declared.Arrow.{Arrow}
@@ -19,12 +19,14 @@ use Rattle.meaning.proofs.AnswerLaws.{hit-mode, hit-sign, hit-reaches, certifie
 use Rattle.meaning.proofs.CertificateLaws.{certifies-repeat}
 use Rattle.meaning.proofs.ModeLaws.{hasMode-is, reaches-is}
 use Rattle.boxsets.specs.Sets.{has}
-use Rattle.user_rows.specs.Steps.{Drawn}
-use Rattle.user_rows.specs.Row.{leaves, same, ownArrows, certified, shows}
-use Rattle.user_rows.proofs.SameLaws.{same-parts}
-use Rattle.user_rows.proofs.OwnLaws.{own-first, own-nothing}
-use Rattle.user_rows.proofs.HeadLaws.{tail-there, head-there}
-use Rattle.user_rows.proofs.BlockLaws.{certified-is}
+use Rattle.mode_sets.specs.Mode.{same, ownArrows}
+use Rattle.mode_sets.proofs.SameLaws.{same-parts}
+use Rattle.mode_sets.proofs.OwnLaws.{own-first, own-nothing}
+use Rattle.mode_sets.proofs.HeadLaws.{tail-there, head-there, leaves-has}
+use Rattle.certificates.specs.Steps.{Drawn}
+use Rattle.certificates.specs.Blocks.{certified}
+use Rattle.certificates.proofs.BlockLaws.{certified-is}
+use Rattle.user_rows.specs.Row.{shows}
 
 module _ (pic : Picture) (m u f : ℕ) where
   pub shows-parts : (k : ℕ) → T (shows pic m u f k)
@@ -63,7 +65,7 @@ module _ (pic : Picture) (m u f : ℕ) where
   pub shows-certified : SoundArrows (pic .boxes) (pic .arrows) → (s o k : ℕ) → ((s ≡ positive) × (o ≡ negative)) ⊎ ((s ≡ negative) × (o ≡ positive))
       → arrowAt (pic .arrows) k .sign ≡ s → T (hasMode (pic .arrows) m k) → T (around (pic .rows) (arrowAt (pic .arrows) k .tail) u)
       → shows pic m u f k ≡ certified pic m o u (arrowAt (pic .arrows) k) f
-  unfolding shows leaves
+  unfolding shows
   shows-certified sound s o k signs sign-is mode-is tail-is =
       ⊎-elim
       (λ e.
@@ -82,8 +84,7 @@ module _ (pic : Picture) (m u f : ℕ) where
       own : (v w : ℕ) → arrowAt (pic .arrows) k .sign ≡ v → certifies pic m v w u f k ≡ against w
       own v w e =
           certified-is pic sound m v w u f k
-          (T-and (hasMode (pic .arrows) m k) (eqb (arrowAt (pic .arrows) k .sign) v && around (pic .rows) (arrowAt (pic .arrows) k .tail) u) mode-is
-          (T-and (eqb (arrowAt (pic .arrows) k .sign) v) (around (pic .rows) (arrowAt (pic .arrows) k .tail) u) (T-eqb e) tail-is))
+          (leaves-has (pic .arrows) m v (λ t. around (pic .rows) t u) k mode-is e tail-is)
 
   -- ---- repeats: a certificate depends on ends, mode and sign only
 

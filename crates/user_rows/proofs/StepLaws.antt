@@ -15,7 +15,7 @@ use lib.Dec.{T, eqb, eqb→eq}
 use lib.ListN.{length, getD, set, length-set}
 use lib.Seq.{getD-set-same, getD-set-other}
 use Rattle.base.specs.Search.{lowest}
-use Rattle.base.proofs.Tests.{T-and, and-T, T-eqb, T-true}
+use Rattle.base.proofs.Tests.{T-and, and-T, T-eqb}
 use Rattle.base.proofs.SearchLaws.{lowest-some}
 use Rattle.base.proofs.SelectLaws.{lowest-is}
 use Rattle.tables.specs.Rows.{Picture, arrowCount, arrowAt}
@@ -26,7 +26,8 @@ use Rattle.boxsets.specs.declared.Set.{Set}
 use Rattle.boxsets.proofs.JoinLaws.{word-next, word-none, words-in}
 use Rattle.meaning.specs.Meaning.{hits}
 use Rattle.meaning.proofs.ModeLaws.{hasMode-is, hits-ends}
-use Rattle.user_rows.specs.Steps.{Drawn, NextNear, NumberedAt, Numbered}
+use Rattle.certificates.specs.Steps.{Drawn}
+use Rattle.user_rows.specs.Steps.{NextNear, NumberedAt, Numbered}
 
 -- ---- the next arrow around a user
 

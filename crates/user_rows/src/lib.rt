@@ -1,30 +1,18 @@
-// The answers of one user for many files at once, from sets of boxes: the arrows of a mode as sets of heads by tail, the files at which an
-// arrow is a certificate, and the row of a user.
+// The answers of one user for many files at once, from sets of boxes: the arrows of a mode are walked in rising order, and each takes the
+// files at which it is a certificate.
 //
 // In what follows `closure` is the table of containment (crate `containment`): set b has the boxes that b is or contains, set 256 + b those
-// that are b or contain it. `heads` and `own` are what `take_mode` makes of the arrows of a mode.
-mod certificate;
-mod mode;
+// that are b or contain it. `heads` and `own` are what `mode_sets::take_mode` makes of the arrows of a mode.
 mod walk;
 
 use boxsets::Set;
-pub use mode::no_heads;
-pub use mode::no_numbers;
-pub use mode::take_mode;
+use certificates::Near;
 pub use walk::answer_row;
 pub use walk::entry_of;
 pub use walk::no_row;
 pub use walk::sort_row;
 
-// The mode's arrows of a sign around a user: their tails, their heads, and the asked files that they reach.
-pub struct Near {
-    pub sign: usize,
-    pub tails: Set,
-    pub heads: Set,
-    pub files: Set,
-}
-
-// Those of both signs.
+// The mode's arrows of both signs around a user.
 pub struct Around {
     pub user: usize,
     pub negative: Near,

@@ -12,10 +12,10 @@ use Rattle.tables.proofs.Verdicts.{passed}
 use Rattle.containment.specs.Scratch.{scratchAfter}
 use Rattle.meaning.specs.Meaning.{answer}
 use Rattle.meaning.specs.declared.Entry.{Entry}
-use Rattle.user_rows.specs.Steps.{Drawn}
+use Rattle.certificates.specs.Steps.{Drawn}
 use Rattle.answers.specs.Calls.{askedFault, entryEarly}
 use Rattle.answers.specs.declared.Reply.the-variants.{Answered}
-use Rattle.user_rows.proofs.CallerLaws.{small-arrows}
+use Rattle.mode_sets.proofs.CallerLaws.{small-arrows}
 use Rattle.answers.proofs.CallLaws.{entry-early, ready-asks, ready-drawn, asked-there}
 use Rattle.answers.proofs.CallLaws.{entryReady, entry-stopped, entry-not-asked, entry-answered}
 use Rattle.answers.proofs.one_entry.Statement.{statement}

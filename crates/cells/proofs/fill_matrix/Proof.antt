@@ -12,8 +12,9 @@ use Rattle.boxsets.specs.Sets.{isIn}
 use Rattle.boxsets.specs.declared.Set.{Set}
 use Rattle.boxsets.proofs.AmongLaws.{among-is}
 use Rattle.meaning.specs.Meaning.{answer, numberOf}
-use Rattle.user_rows.specs.Steps.{Drawn, Sorts}
-use Rattle.user_rows.proofs.CallerLaws.{blank-length}
+use Rattle.certificates.specs.Steps.{Drawn}
+use Rattle.user_rows.specs.Steps.{Sorts}
+use Rattle.user_rows.proofs.BlankLaws.{blank-length}
 use Rattle.kept_rows.specs.Steps.{Keeps, KeepsNumbers}
 use Rattle.kept_rows.proofs.AtomLaws.{listed-at}
 use Rattle.kept_rows.proofs.TakenLaws.{Taken, taken}

@@ -3,7 +3,7 @@ use mathlib.Core.Path.{refl}
 use borrow.Author.Needs.{needs}
 use Rattle.tables.specs.Rows.{picture, user, file}
 use Rattle.tables.proofs.AtomPlaces.{pairCount-is}
-use Rattle.user_rows.proofs.CallerLaws.{small-arrows}
+use Rattle.mode_sets.proofs.CallerLaws.{small-arrows}
 use Rattle.kept_rows.proofs.TakenLaws.{room}
 use Rattle.kept_rows.proofs.AtomLaws.{Listed, listed}
 use Rattle.cells.proofs.fill_picture.Statement.{statement}

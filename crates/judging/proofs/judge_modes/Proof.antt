@@ -13,7 +13,7 @@ use Rattle.tables.proofs.Verdicts.{passed, refused}
 use Rattle.boxsets.specs.Sets.{isIn}
 use Rattle.meaning.specs.Pairs.{unclearFault}
 use Rattle.meaning.proofs.ClearLaws.{any-unclear}
-use Rattle.user_rows.specs.Steps.{Drawn}
+use Rattle.certificates.specs.Steps.{Drawn}
 use Rattle.judging.proofs.judge_modes.Statement.{statement}
 use Rattle.judging.proofs.judge_modes.Tie as tie
 

@@ -12,7 +12,8 @@ use Rattle.boxsets.specs.Sets.{isIn}
 use Rattle.boxsets.specs.declared.Set.{Set}
 use Rattle.meaning.specs.Pairs.{users}
 use Rattle.meaning.proofs.RowPairs.{rows-start}
-use Rattle.user_rows.specs.Steps.{Drawn, Moded, Sorts}
+use Rattle.certificates.specs.Steps.{Drawn}
+use Rattle.user_rows.specs.Steps.{Moded, Sorts}
 use Rattle.kept_rows.specs.Steps.{Keeps}
 use Rattle.kept_rows.proofs.AtomLaws.{listed-at}
 use Rattle.judging.proofs.RowLaws.{unclear, Clear, clear-more, clear-found, clear-end}

@@ -4,7 +4,7 @@ use borrow.Author.Needs.{needs}
 use lib.ListN.{length}
 use Rattle.base.proofs.Tests.{true-T}
 use Rattle.user_rows.specs.Steps.{blankRow}
-use Rattle.user_rows.proofs.CallerLaws.{blank-length}
+use Rattle.user_rows.proofs.BlankLaws.{blank-length}
 use Rattle.kept_rows.specs.Steps.{TailsNear}
 use Rattle.kept_rows.proofs.KeptLaws.{keeps, keeps-numbers, blank-filled}
 use Rattle.kept_rows.proofs.next_numbers.Statement.{statement}

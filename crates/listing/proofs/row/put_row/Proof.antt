@@ -8,7 +8,8 @@ use Rattle.meaning.specs.Meaning.{answer, numberOf}
 use Rattle.meaning.specs.Pairs.{files as filesOf}
 use Rattle.boxsets.specs.Sets.{among}
 use Rattle.boxsets.proofs.AmongLaws.{among-is}
-use Rattle.user_rows.specs.Steps.{Drawn, Sorts}
+use Rattle.certificates.specs.Steps.{Drawn}
+use Rattle.user_rows.specs.Steps.{Sorts}
 use Rattle.listing.specs.Steps.{Put, rowText}
 use Rattle.listing.proofs.StandLaws.{atom-in}
 use Rattle.listing.proofs.RowLaws.{row-none, line-more, row-unclear}

@@ -7,7 +7,7 @@ use borrow.Author.Needs.{needs}
 use Rattle.base.specs.Buffers.{written, zeros}
 use Rattle.tables.proofs.Verdicts.{passed, refused}
 use Rattle.meaning.specs.Pairs.{unclearFault}
-use Rattle.user_rows.specs.Row.{ownArrows}
+use Rattle.mode_sets.specs.Mode.{ownArrows}
 use Rattle.kept_rows.proofs.TakenLaws.{room}
 use Rattle.list_meaning.proofs.CallLaws.{listing-refused, listing-done}
 use Rattle.lists.proofs.OwnPart.{OwnPart, own-part}

@@ -6,7 +6,7 @@ use native.Mathlib.Omega.{arith}
 use borrow.Author.Needs.{needs}
 use lib.ListN.{length, getD}
 use Rattle.user_rows.proofs.RowSorts.{answered}
-use Rattle.user_rows.proofs.CallerLaws.{blank-length, blank-at}
+use Rattle.user_rows.proofs.BlankLaws.{blank-length, blank-at}
 use Rattle.user_rows.proofs.walk.answer_row.Statement.{statement}
 use Rattle.user_rows.proofs.walk.answer_row.Tie as tie
 

@@ -6,7 +6,7 @@ use Prim.Native.Nat.{ℕ}
 use borrow.Author.Needs.{needs}
 use Rattle.meaning.specs.Meaning.{positive, negative}
 use Rattle.boxsets.specs.Sets.{isIn}
-use Rattle.user_rows.specs.Steps.{NearBy}
+use Rattle.certificates.specs.Steps.{NearBy}
 use Rattle.user_rows.proofs.ShowLaws.{ends-there, sign-other, shown-by}
 use Rattle.user_rows.proofs.walk.shown.Statement.{statement}
 use Rattle.user_rows.proofs.walk.shown.Tie as tie
