@@ -5,3 +5,4 @@ mod OutsideLaws
 mod OutsideWalk
 mod NearLaws
 mod BlockSteps
+mod FewLaws

@@ -15,10 +15,12 @@ ghost use Rattle.certificates.specs.Blocks.{inOne, blocks, certified};
 ghost use Rattle.certificates.specs.Steps.{Drawn, NearBy};
 use base::wide;
 use boxsets::Set;
+use boxsets::dropped;
 use boxsets::is_empty;
 use boxsets::joined;
 use boxsets::lowest;
 use boxsets::minus;
+use boxsets::nothing;
 use boxsets::set_at;
 use boxsets::shared;
 use boxsets::union_of;
@@ -56,6 +58,21 @@ fn heads_of(heads: &[u64], sign: usize, tails: Set) -> Set
     union_of(heads, 256 * sign, tails)
 }
 
+// The same, tail by tail: quicker where there are few, as around a user.
+fn few_heads(heads: &[u64], sign: usize, tails: Set) -> Set
+    requires { ⌜ (length (now heads) ≡ 2056) × (sign ≤ 1) ⌝ }
+    ensures { λ r. ⌜ ((g : ℕ) → isIn r g ≡ anyBelow (λ t. isIn tails t && has (now (heads .entry)) (256 * sign + t) g) 256) ⌝ }
+{
+    let mut found = nothing();
+    let mut rest = tails;
+    while !is_empty(rest) {
+        let t = lowest(rest);
+        rest = dropped(rest);
+        found = joined(found, set_at(heads, 256 * sign + t));
+    }
+    found
+}
+
 // The files of a set that are in none of the boxes. What a box has is done with it, boxes and files. Each turn takes at least the lowest
 // box, which has itself, so 256 turns are enough.
 fn outside_all(closure: &[u64], files: Set, boxes: Set) -> Set
@@ -84,7 +101,7 @@ pub fn arrows_near(closure: &[u64], heads: &[u64], sign: usize, user: usize, ask
         → user < length (pic .boxes) → NearBy pic m sign user (isIn asked) r) ⌝ }
 {
     let tails = shared(set_at(closure, 256 + user), set_at(heads, 512 + sign));
-    let all = heads_of(heads, sign, tails);
+    let all = few_heads(heads, sign, tails);
     let files = minus(asked, outside_all(closure, asked, all));
     Near {
         sign,

@@ -23,9 +23,9 @@ use super::granted::sort_mode;
 use base::fill;
 use list_meaning::Listed;
 use list_order::order;
+use mode_sets::no_numbers;
 use tables::Arrow;
 use tables::Verdict;
-use mode_sets::no_numbers;
 
 // How many arrows the mode has.
 pub fn mode_count(arrows: &[u16], mode: u16) -> usize

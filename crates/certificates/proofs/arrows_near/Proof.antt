@@ -1,4 +1,4 @@
--- `user_rows::certificate::arrows_near` meets its contract. Assumes nothing.
+-- `certificates::arrows_near` meets its contract. Assumes nothing.
 use mathlib.Core.Path.{_∙_}
 use borrow.Author.Needs.{needs}
 use Rattle.boxsets.proofs.TableLaws.{has-in}
@@ -17,10 +17,10 @@ returns c =
       search needs,
       λ pic m d sets there.
           near-made pic m (a .closure .now) (a .heads .now) d sets (a .sign) (a .user) (x .before .before .before .pre .2) there
-          (record { sign = a .sign; tails = t .shared .result; heads = h .heads-of .result; files = c .minus .result })
+          (record { sign = a .sign; tails = t .shared .result; heads = h .few-heads .result; files = c .minus .result })
           (a .asked) (o .outside-all .result)
           (λ k. t .shared .ensures k ∙ rw (x .set-at .ensures, y .set-at2 .ensures) (simp has-in))
-          (h .heads-of .ensures) (o .outside-all .ensures pic d) (c .minus .ensures),
+          (h .few-heads .ensures) (o .outside-all .ensures pic d) (c .minus .ensures),
     )
 
 pub arrows-near-spec : {M : Type 1} → statement M

@@ -1,4 +1,4 @@
--- `user_rows::certificate::certified` meets its contract. Assumes nothing.
+-- `certificates::certified` meets its contract. Assumes nothing.
 use mathlib.Core.Path.{_≡_, sym, ap, ap₂, _∙_}
 use mathlib.Core.Bool.{Bool, _&&_, _||_}
 use Prim.Native.Nat.{ℕ, _<_}

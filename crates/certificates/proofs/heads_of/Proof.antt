@@ -1,4 +1,4 @@
--- `user_rows::certificate::heads_of` meets its contract: the sets of a sign's tails follow each other. Assumes nothing.
+-- `certificates::heads_of` meets its contract: the sets of a sign's tails follow each other. Assumes nothing.
 use native.Mathlib.Omega.{arith}
 use borrow.Author.Needs.{needs}
 use Rattle.certificates.proofs.heads_of.Statement.{statement}

@@ -1,4 +1,4 @@
--- `user_rows::certificate::nested_in` meets its contract. Assumes nothing.
+-- `certificates::nested_in` meets its contract. Assumes nothing.
 use mathlib.Core.Path.{_∙_}
 use borrow.Author.Needs.{needs}
 use Rattle.boxsets.proofs.TableLaws.{has-in}

@@ -1,4 +1,4 @@
--- `user_rows::certificate::nesting` meets its contract. Assumes nothing.
+-- `certificates::nesting` meets its contract. Assumes nothing.
 use mathlib.Core.Path.{_∙_}
 use borrow.Author.Needs.{needs}
 use Rattle.boxsets.proofs.TableLaws.{has-in}

@@ -1,4 +1,4 @@
--- `user_rows::certificate::outside_all` meets its contract: what is left of the files, less what is in the rest of the boxes, stays the
+-- `certificates::outside_all` meets its contract: what is left of the files, less what is in the rest of the boxes, stays the
 -- same (`Kept`). Assumes nothing.
 use mathlib.Core.Path.{_≡_, refl, sym, ap, _∙_}
 use mathlib.Core.Logic.{⊎-elim}

@@ -1,4 +1,4 @@
--- `user_rows::certificate::unblocked` meets its contract, in three steps: each takes the files in one part of `blocks`. Assumes nothing.
+-- `certificates::unblocked` meets its contract, in three steps: each takes the files in one part of `blocks`. Assumes nothing.
 use mathlib.Core.Path.{_≡_, sym, _∙_}
 use mathlib.Core.Bool.{Bool, not, _&&_}
 use Prim.Native.Nat.{ℕ, _<_}

@@ -1,4 +1,4 @@
--- `user_rows::mode::no_heads` meets its contract: 2,056 zeros. Assumes nothing.
+-- `mode_sets::no_heads` meets its contract: 2,056 zeros. Assumes nothing.
 use Rattle.base.proofs.BufferLaws.{zeros-is}
 use Rattle.mode_sets.proofs.no_heads.Statement.{statement}
 use Rattle.mode_sets.proofs.no_heads.Tie as tie

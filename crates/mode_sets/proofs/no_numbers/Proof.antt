@@ -1,4 +1,4 @@
--- `user_rows::mode::no_numbers` meets its contract: 512 zeros. Assumes nothing.
+-- `mode_sets::no_numbers` meets its contract: 512 zeros. Assumes nothing.
 use Rattle.base.proofs.BufferLaws.{zeros-is}
 use Rattle.mode_sets.proofs.no_numbers.Statement.{statement}
 use Rattle.mode_sets.proofs.no_numbers.Tie as tie

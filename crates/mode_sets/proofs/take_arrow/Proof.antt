@@ -1,4 +1,4 @@
--- `user_rows::mode::take_arrow` meets its contract: the head is there and nothing is added, or head and tail are added. Assumes nothing.
+-- `mode_sets::take_arrow` meets its contract: the head is there and nothing is added, or head and tail are added. Assumes nothing.
 use mathlib.Core.Path.{sym, _∙_}
 use borrow.Author.Needs.{needs}
 use Rattle.mode_sets.proofs.ModeLaws.{took-none, took-one}

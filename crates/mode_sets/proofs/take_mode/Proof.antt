@@ -1,4 +1,4 @@
--- `user_rows::mode::take_mode` meets its contract: of the arrows before k the sets are made, and those that repeat no lower one are
+-- `mode_sets::take_mode` meets its contract: of the arrows before k the sets are made, and those that repeat no lower one are
 -- written and counted. Assumes nothing.
 use mathlib.Core.Logic.{⊎-elim}
 use mathlib.Core.Path.{_≡_, sym, ap, _∙_}
