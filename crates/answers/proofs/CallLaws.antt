@@ -31,7 +31,7 @@ use Rattle.meaning.specs.Pairs.{matrixBytes, matrixNumbers}
 use Rattle.meaning.specs.declared.Entry.{Entry}
 use Rattle.certificates.specs.Steps.{Drawn}
 use Rattle.answers.specs.Calls.{askedFault, replyOf, entryEarly, entryFault, matrixEarly, matrixFault, bytesAfter, numbersAfter}
-use Rattle.answers.specs.declared.Reply.the-variants.{Answered, Refused}
+use Rattle.answers.specs.declared.EntryReply.the-variants.{Answered, Refused}
 
 -- ---- checks in a row
 

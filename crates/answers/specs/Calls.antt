@@ -15,15 +15,15 @@ use Rattle.containment.specs.Contains.{loopFault}
 use Rattle.containment.specs.Scratch.{scratchFault, pictureFault}
 use Rattle.meaning.specs.Pairs.{matrixBytes, matrixNumbers, anyUnclear}
 use Rattle.meaning.specs.declared.Entry.{Entry}
-use Rattle.answers.specs.declared.Reply.{Reply}
-use Rattle.answers.specs.declared.Reply.the-variants.{Answered, Refused}
+use Rattle.answers.specs.declared.EntryReply.{EntryReply}
+use Rattle.answers.specs.declared.EntryReply.the-variants.{Answered, Refused}
 
 -- 11: the asked user or file isn't an atomic box of that side
 unfoldable pub askedFault : (boxes rows : List ℕ) (u f : ℕ) → Option Refusal
 askedFault boxes rows u f = given (not (atom boxes rows user u && atom boxes rows file f)) (notAtomic u f)
 
 -- the reply for one entry, by the fault that was found, if any
-unfoldable pub replyOf : Option Refusal → Entry → Reply
+unfoldable pub replyOf : Option Refusal → Entry → EntryReply
 replyOf none e = Answered e
 replyOf (some r) e = Refused r
 

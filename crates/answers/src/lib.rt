@@ -25,7 +25,7 @@ use tables::Refusal;
 use tables::Verdict;
 
 // What the call for one entry answers.
-pub enum Reply {
+pub enum EntryReply {
     Answered(Entry),
     Refused(Refusal),
 }
@@ -56,7 +56,7 @@ pub fn one_entry(
     u: u16,
     f: u16,
     mode: u16,
-) -> Reply
+) -> EntryReply
     ensures { λ r. ⌜ (let pic = picture (now (boxes .entry)) (now (rows .entry)) (now (arrows .entry)) in
         r ≡ replyOf (entryFault pic (now (scratch .entry)) mode u f) (answer pic mode u f)) ⌝ }
     ensures { λ _. ⌜ (let pic = picture (now (boxes .entry)) (now (rows .entry)) (now (arrows .entry)) in
@@ -67,13 +67,13 @@ pub fn one_entry(
     let early = early_entry(boxes, rows, arrows, scratch, mode);
     let ready = prepare(early, boxes, rows, scratch, &mut closure);
     if let Verdict::Refused(r) = ready {
-        return Reply::Refused(r);
+        return EntryReply::Refused(r);
     }
     let asked = check_asked(boxes, rows, wide(u), wide(f));
     if let Verdict::Refused(r) = asked {
-        return Reply::Refused(r);
+        return EntryReply::Refused(r);
     }
-    Reply::Answered(answer_pair(&closure, arrows, mode, wide(u), wide(f)))
+    EntryReply::Answered(answer_pair(&closure, arrows, mode, wide(u), wide(f)))
 }
 
 // The matrix of a mode: a byte (0 denied, 1 granted, 2 unclear) and a number (the arrow, or 65,535) for each pair. Checks 1 to 10.

@@ -17,6 +17,7 @@ use mode_sets::no_heads;
 use mode_sets::no_numbers;
 use mode_sets::take_mode;
 use tables::BoxRow;
+use tables::Refusal;
 use tables::Verdict;
 use tables::is_atom;
 use user_rows::answer_row;
@@ -37,7 +38,7 @@ pub fn check_asked(boxes: &[u8], rows: &[u16], u: usize, f: usize) -> Verdict
     requires { ⌜ length (now rows) % 2 ≡ 0 ⌝ }
     ensures { λ r. ⌜ r ≡ verdictOf (askedFault (now (boxes .entry)) (now (rows .entry)) u f) ⌝ }
 {
-    Verdict::refused_if(!is_pair(boxes, rows, u, f), 11, u, f, 0)
+    Verdict::refused_if(!is_pair(boxes, rows, u, f), Refusal::NOT_ATOMIC, u, f, 0)
 }
 
 // The answer for a pair of one mode: a row with one file.

@@ -19,6 +19,7 @@ use closing::add_selves;
 use closing::close;
 use closing::mark_rows;
 use scratch::fill_scratch;
+use tables::Refusal;
 use tables::Verdict;
 
 // An empty closure, for `prepare` to fill.
@@ -35,7 +36,7 @@ fn check_loops(n: usize, closure: &[u64]) -> Verdict
 {
     for b in 0..n {
         if boxsets::has(closure, b, b) {
-            return Verdict::refused(10, b, 0, 0);
+            return Verdict::refused(Refusal::IN_ITSELF, b, 0, 0);
         }
     }
     Verdict::Passed

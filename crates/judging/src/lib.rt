@@ -33,6 +33,7 @@ use mode_sets::no_numbers;
 use mode_sets::take_mode;
 use tables::Arrow;
 use tables::BoxRow;
+use tables::Refusal;
 use tables::Verdict;
 use tables::atoms_of;
 use tables::no_boxes;
@@ -60,7 +61,7 @@ fn judge_rows(
         let row = last.row;
         let unclear = row.unclear;
         if !is_empty(unclear) {
-            return Verdict::refused(12, wide(mode), u, lowest(unclear));
+            return Verdict::refused(Refusal::UNCLEAR_PAIR, wide(mode), u, lowest(unclear));
         }
     }
     Verdict::Passed

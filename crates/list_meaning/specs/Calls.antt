@@ -4,7 +4,7 @@ use mathlib.Core.List.{List}
 use mathlib.Core.Option.{Option, none, some}
 use Prim.Native.Nat.{ℕ}
 use lib.ListN.{length, replicate}
-use Rattle.tables.specs.Rows.{Picture}
+use Rattle.tables.specs.Rows.{Picture, noArrow}
 use Rattle.base.specs.Search.{orElse}
 use Rattle.base.specs.Buffers.{written, zeros}
 use Rattle.tables.specs.Refusals.{unlessRefused}
@@ -20,7 +20,7 @@ use Rattle.list_meaning.specs.declared.Listed.the-variants.{Written, Ref
 
 -- n times 65,535
 unfoldable pub blanks : ℕ → List ℕ
-blanks n = replicate n 65535
+blanks n = replicate n noArrow
 
 module _ (pic : Picture) (m : ℕ) where
   -- the needed length of the list: a place for each arrow of the mode

@@ -25,8 +25,8 @@ use Rattle.meaning.specs.Cases.{picture-A, picture-B, picture-C, picture-D, pic
 use Rattle.meaning.specs.Cases.{picture-G, picture-H, picture-I, picture-J}
 use Rattle.meaning.specs.Cases.{emptied-group, around-emptied, emptied-both, groups-left}
 use Rattle.meaning.specs.declared.Entry.the-variants.{Granted, Denied, Default, Unclear}
-use Rattle.answers.specs.declared.Reply.{Reply}
-use Rattle.answers.specs.declared.Reply.the-variants.{Answered, Refused}
+use Rattle.answers.specs.declared.EntryReply.{EntryReply}
+use Rattle.answers.specs.declared.EntryReply.the-variants.{Answered, Refused}
 use Rattle.list_meaning.specs.Order.{anyOf, allOf, firstOf, passes, distinct, gives, ofMode}
 use Rattle.list_meaning.specs.Order.{meets, reached, granted, right, honest, coversAll, qualifies}
 use Rattle.list_meaning.specs.Greedy.{followed, new, fits, addable, next, listTo, greedy, leftBy, orderFault}
@@ -40,7 +40,7 @@ pub record Case : Type 0 where
   -- the judge's refusal, if any
   pub judged : Option Refusal
   -- some pairs of a user and a file, and the replies
-  pub entries : List (ℕ × ℕ × Reply)
+  pub entries : List (ℕ × ℕ × EntryReply)
   -- the matrix
   pub bytes : List ℕ
   pub numbers : List ℕ

@@ -14,6 +14,7 @@ use super::Line;
 use super::Told;
 use super::put::put_line;
 use base::wide;
+use tables::Refusal;
 use tables::Verdict;
 use user_rows::Row;
 
@@ -71,6 +72,6 @@ pub fn put_row(
     let f = boxsets::lowest(unclear);
     Told {
         next,
-        unclear: Verdict::refused_if(f < 256, 12, wide(mode), u, f),
+        unclear: Verdict::refused_if(f < 256, Refusal::UNCLEAR_PAIR, wide(mode), u, f),
     }
 }

@@ -26,6 +26,7 @@ use kept_rows::next_row;
 use kept_rows::no_arrows;
 use mode_sets::no_heads;
 use mode_sets::take_mode;
+use tables::Refusal;
 use tables::Verdict;
 
 // A set for each box.
@@ -58,7 +59,7 @@ fn sort_rows(
         let row = last.row;
         let unclear = row.unclear;
         if !is_empty(unclear) {
-            return Verdict::refused(12, wide(asked.mode), u, lowest(unclear));
+            return Verdict::refused(Refusal::UNCLEAR_PAIR, wide(asked.mode), u, lowest(unclear));
         }
         let granting = row.granted;
         put_set(granted, u, granting);
@@ -122,7 +123,7 @@ pub fn check_left(users: &[u16], left: &[u64], granted: &[u64], mode: u16) -> Ve
         let u = wide(users[i]);
         let missed = shared(set_at(left, u), set_at(granted, u));
         if !is_empty(missed) {
-            return Verdict::refused(13, wide(mode), u, lowest(missed));
+            return Verdict::refused(Refusal::NO_ORDER, wide(mode), u, lowest(missed));
         }
     }
     Verdict::Passed

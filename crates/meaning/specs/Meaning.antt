@@ -5,7 +5,7 @@ use mathlib.Core.Option.{Option, none, some}
 use Prim.Native.Nat.{ℕ}
 use lib.Dec.{eqb}
 use Rattle.base.specs.Search.{implies, every, lowest, select}
-use Rattle.tables.specs.Rows.{Picture, arrowCount, arrowAt}
+use Rattle.tables.specs.Rows.{Picture, noArrow, arrowCount, arrowAt}
 use Rattle.tables.specs.declared.Arrow.{Arrow}
 use Rattle.containment.specs.Contains.{contains, around}
 use Rattle.meaning.specs.declared.Entry.{Entry}
@@ -86,15 +86,15 @@ byteOf (Unclear p n) = 2
 unfoldable pub numberOf : Entry → ℕ
 numberOf (Granted k) = k
 numberOf (Denied k) = k
-numberOf Default = 65535
-numberOf (Unclear p n) = 65535
+numberOf Default = noArrow
+numberOf (Unclear p n) = noArrow
 
 -- the granting arrow, or 65,535
 unfoldable pub grantingOf : Entry → ℕ
 grantingOf (Granted k) = k
-grantingOf (Denied k) = 65535
-grantingOf Default = 65535
-grantingOf (Unclear p n) = 65535
+grantingOf (Denied k) = noArrow
+grantingOf Default = noArrow
+grantingOf (Unclear p n) = noArrow
 
 unfoldable pub isGranted : Entry → Bool
 isGranted (Granted k) = true

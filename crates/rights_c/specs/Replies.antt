@@ -5,7 +5,7 @@ use Rattle.tables.specs.declared.Verdict.{Verdict}
 use Rattle.tables.specs.declared.Verdict.the-variants.{Passed, Refused}
 use Rattle.meaning.specs.declared.Entry.{Entry}
 use Rattle.meaning.specs.declared.Entry.the-variants.{Granted, Denied, Default, Unclear}
-use Rattle.answers.specs.declared.Reply.the-variants.{Answered, Refused as EntryRefused}
+use Rattle.answers.specs.declared.EntryReply.the-variants.{Answered, Refused as EntryRefused}
 use Rattle.list_meaning.specs.declared.Listed.{Listed}
 use Rattle.list_meaning.specs.declared.Listed.the-variants.{Written, Refused as ListRefused}
 use Rattle.headings.specs.declared.Headings.{Headings}
@@ -14,7 +14,7 @@ use Rattle.blocks.specs.declared.Reading.{Reading}
 use Rattle.blocks.specs.declared.Reading.the-variants.{Tables, Refused as ReadRefused}
 use Rattle.packer.specs.declared.Packing.{Packing}
 use Rattle.packer.specs.declared.Packing.the-variants.{Packed, Refused as PackRefused}
-use Rattle.answers.specs.declared.Reply.{Reply as EntryReply}
+use Rattle.answers.specs.declared.EntryReply.{EntryReply}
 use Rattle.rights_c.specs.declared.Reply.{Reply}
 
 abbrev pub reply : ℕ → ℕ → ℕ → ℕ → ℕ → Reply

@@ -88,12 +88,12 @@ fn of_entry(e: Entry) -> Reply
     }
 }
 
-fn of_asked(x: answers::Reply) -> Reply
+fn of_asked(x: answers::EntryReply) -> Reply
     ensures { λ r. ⌜ r ≡ askedReply x ⌝ }
 {
     match x {
-        answers::Reply::Answered(e) => of_entry(e),
-        answers::Reply::Refused(y) => of_refusal(y),
+        answers::EntryReply::Answered(e) => of_entry(e),
+        answers::EntryReply::Refused(y) => of_refusal(y),
     }
 }
 

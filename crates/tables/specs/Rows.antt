@@ -50,6 +50,10 @@ rowCount rows = length rows / 2
 abbrev pub rowAt : List ℕ → ℕ → Containment
 rowAt rows k = record { outer = getD rows (2 * k) 0; inner = getD rows (2 * k + 1) 0 }
 
+-- the number that stands where there is no arrow
+abbrev pub noArrow : ℕ
+noArrow = 65535
+
 -- arrows: tail, head, mode, sign
 abbrev pub arrowCount : List ℕ → ℕ
 arrowCount arrows = length arrows / 4

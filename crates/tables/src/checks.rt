@@ -11,6 +11,7 @@ ghost use Rattle.tables.specs.Faults.{rowFault, tableFault, modeFault, r
 use super::Arrow;
 use super::BoxRow;
 use super::Containment;
+use super::Refusal;
 use super::Verdict;
 use super::sides::on_side;
 use super::sides::side_of;
@@ -20,9 +21,9 @@ use base::wide;
 fn check_ragged(rows: usize, arrows: usize) -> Verdict
     ensures { λ r. ⌜ r ≡ verdictOf (raggedFault rows arrows) ⌝ }
 {
-    Verdict::refused_if(rows % 2 != 0, 1, 1, rows, 0).or_else(Verdict::refused_if(
+    Verdict::refused_if(rows % 2 != 0, Refusal::RAGGED, 1, rows, 0).or_else(Verdict::refused_if(
         arrows % 4 != 0,
-        1,
+        Refusal::RAGGED,
         2,
         arrows,
         0,
@@ -33,9 +34,9 @@ fn check_ragged(rows: usize, arrows: usize) -> Verdict
 pub fn check_counts(boxes: usize, rows: usize, arrows: usize) -> Verdict
     ensures { λ r. ⌜ r ≡ verdictOf (countFault boxes rows arrows) ⌝ }
 {
-    Verdict::refused_if(BoxRow::LIMIT < boxes, 2, 0, boxes, 0)
-        .or_else(Verdict::refused_if(Containment::LIMIT < rows, 2, 1, rows, 0))
-        .or_else(Verdict::refused_if(Arrow::LIMIT < arrows, 2, 2, arrows, 0))
+    Verdict::refused_if(BoxRow::LIMIT < boxes, Refusal::TOO_MANY, 0, boxes, 0)
+        .or_else(Verdict::refused_if(Containment::LIMIT < rows, Refusal::TOO_MANY, 1, rows, 0))
+        .or_else(Verdict::refused_if(Arrow::LIMIT < arrows, Refusal::TOO_MANY, 2, arrows, 0))
 }
 
 // Check 3.
@@ -44,7 +45,7 @@ fn check_bytes(boxes: &[u8]) -> Verdict
 {
     for b in 0..boxes.len() {
         if BoxRow::FOLDER < boxes[b] {
-            return Verdict::refused(3, b, 0, 0);
+            return Verdict::refused(Refusal::BAD_BYTE, b, 0, 0);
         }
     }
     Verdict::Passed
@@ -140,12 +141,12 @@ pub fn check(boxes: &[u8], rows: &[u16], arrows: &[u16]) -> Verdict
 pub fn check_mode(mode: u16) -> Verdict
     ensures { λ r. ⌜ r ≡ verdictOf (modeFault mode) ⌝ }
 {
-    Verdict::refused_if(7 < mode, 8, wide(mode), 0, 0)
+    Verdict::refused_if(7 < mode, Refusal::NO_MODE, wide(mode), 0, 0)
 }
 
 // Check 9 for one buffer.
 pub fn check_room(buffer: usize, have: usize, need: usize) -> Verdict
     ensures { λ r. ⌜ r ≡ verdictOf (roomFault buffer have need) ⌝ }
 {
-    Verdict::refused_if(have < need, 9, buffer, need, 0)
+    Verdict::refused_if(have < need, Refusal::TOO_SHORT, buffer, need, 0)
 }

@@ -98,6 +98,35 @@ pub struct Refusal {
     pub third: usize,
 }
 
+impl Refusal {
+    // The numbers of documents 01 and 02; 4 to 7 are those of the checks of rows.
+    pub const RAGGED: u8 = 1;
+
+    pub const TOO_MANY: u8 = 2;
+
+    pub const BAD_BYTE: u8 = 3;
+
+    pub const NO_MODE: u8 = 8;
+
+    pub const TOO_SHORT: u8 = 9;
+
+    pub const IN_ITSELF: u8 = 10;
+
+    pub const NOT_ATOMIC: u8 = 11;
+
+    pub const UNCLEAR_PAIR: u8 = 12;
+
+    pub const NO_ORDER: u8 = 13;
+
+    pub const BAD_LENGTH: u8 = 14;
+
+    pub const BAD_CHECK: u8 = 15;
+
+    pub const BAD_HEAD: u8 = 16;
+
+    pub const BAD_FILLER: u8 = 17;
+}
+
 pub enum Verdict {
     Passed,
     Refused(Refusal),

@@ -1,7 +1,7 @@
 // How answers and buffers are written to standard output.
 ghost use Prim.Native.Nat.{_≤_};
 use super::buffers::PLACES;
-use answers::Reply;
+use answers::EntryReply;
 use blocks::Reading;
 use blocks::Seen;
 use headings::Headings;
@@ -108,12 +108,12 @@ fn show_entry(e: Entry) {
     }
 }
 
-pub fn show_reply(r: Reply) {
+pub fn show_reply(r: EntryReply) {
     match r {
-        Reply::Answered(e) => {
+        EntryReply::Answered(e) => {
             show_entry(e);
         }
-        Reply::Refused(refusal) => {
+        EntryReply::Refused(refusal) => {
             show_refusal(refusal);
         }
     }

@@ -7,7 +7,7 @@ use Prim.Native.Nat.{ℕ, _+_, _<_, _≤_}
 use lib.Dec.{T, eqb}
 use lib.ListN.{length, getD, replicate}
 use Rattle.base.specs.Search.{lowest}
-use Rattle.tables.specs.Rows.{Picture, user, file, arrowCount, arrowAt}
+use Rattle.tables.specs.Rows.{Picture, user, file, arrowCount, arrowAt, noArrow}
 use Rattle.tables.specs.Atoms.{atom, atoms}
 use Rattle.meaning.specs.Meaning.{positive, negative, answer, isGranted, isUnclear}
 use Rattle.boxsets.specs.Sets.{isIn, has}
@@ -83,4 +83,4 @@ Numbered hit number old new = NumberedAt (isIn hit) number old new
 
 -- 256 times 65,535
 unfoldable pub blankRow : List ℕ
-blankRow = replicate 256 65535
+blankRow = replicate 256 noArrow

@@ -14,7 +14,7 @@ use Rattle.meaning.specs.Meaning.{answer}
 use Rattle.meaning.specs.declared.Entry.{Entry}
 use Rattle.certificates.specs.Steps.{Drawn}
 use Rattle.answers.specs.Calls.{askedFault, entryEarly}
-use Rattle.answers.specs.declared.Reply.the-variants.{Answered}
+use Rattle.answers.specs.declared.EntryReply.the-variants.{Answered}
 use Rattle.mode_sets.proofs.CallerLaws.{small-arrows}
 use Rattle.answers.proofs.CallLaws.{entry-early, ready-asks, ready-drawn, asked-there}
 use Rattle.answers.proofs.CallLaws.{entryReady, entry-stopped, entry-not-asked, entry-answered}
