@@ -1,10 +1,9 @@
 -- The file made of its kinds, and the stages of the call: a refusal by checks 1 to 7, one by check 9, and none. Assumes nothing.
 use mathlib.Core.Path.{_≡_, refl, sym, ap, _∙_}
 use mathlib.Core.List.{List, [], _++_, append-assoc}
-use mathlib.Core.Option.{none, some}
 use Prim.Native.Nat.{ℕ, _+_, _*_, _≤_}
 use native.Mathlib.Omega.{arith}
-use lib.ListN.{length, take, length-append}
+use lib.ListN.{length, length-append}
 use lib.Seq.{sets}
 use Rattle.base.specs.Buffers.{written}
 use Rattle.tables.specs.Rows.{Picture, rowCount, arrowCount}
@@ -14,17 +13,17 @@ use Rattle.tables.specs.Steps.{SoundRows, SoundArrows}
 use Rattle.tables.specs.declared.Refusal.{Refusal}
 use Rattle.tables.specs.declared.Verdict.the-variants.{Passed, Refused as Stopped}
 use Rattle.base.proofs.BufferLaws.{written-none, written-run}
-use Rattle.base.proofs.PartLaws.{part-is}
 use Rattle.tables.proofs.TableLaws.{room-passed, sound-rows, sound-arrows}
 use Rattle.tables.proofs.Verdicts.{passed, refused}
-use Rattle.base.proofs.Options.{past, stop}
 use Rattle.blocks.proofs.MadeBlocks.{capacities, record-sizes}
-use Rattle.packer.specs.Packed.{blocksFor, blocksOf, kindBytes, packed}
-use Rattle.packer.specs.Packs.{packingOf, packFault, packAnswer, fileAfter}
+use Rattle.packing.specs.Packed.{blocksFor, blocksOf, kindBytes, packed}
+use Rattle.packing.specs.Packs.{packFault, packAnswer, fileAfter}
 use Rattle.packer.specs.Walks.{boxKind, containmentKind, arrowKind, OfKind, BlocksFit}
-use Rattle.packer.specs.declared.Packing.the-variants.{Packed, Refused}
-use Rattle.packer.proofs.Lengths.{kind-length, packed-length}
-use Rattle.packer.proofs.Regular.{rows-by-kind, blocks-by-kind, first-by-kind, fills-1, fills-2, fills-3, box-block}
+use Rattle.packing.specs.declared.Packing.the-variants.{Packed, Refused}
+use Rattle.packing.proofs.PackedLaws.{by-kinds}
+use Rattle.packing.proofs.CallLaws.{fault-of-tables, fault-of-room, pack-refused, pack-done}
+use Rattle.packing.proofs.Lengths.{kind-length, packed-length}
+use Rattle.packing.proofs.Regular.{rows-by-kind, blocks-by-kind, first-by-kind, fills-1, fills-2, fills-3, box-block}
 
 -- the tables pass checks 1 to 7, and so many blocks of containments and of arrows are needed
 pub record Counted (pic : Picture) (second third : ℕ) : Type 0 where
@@ -117,7 +116,6 @@ module _ {pic : Picture} {second third : ℕ} (counted : Counted pic second thir
   pub file-made : (l₀ l₁ l₂ l₃ : List ℕ) → 512 * (1 + second + third) ≤ length l₀ → l₁ ≡ sets l₀ (512 * 0) (kindBytes pic 1)
       → l₂ ≡ sets l₁ (512 * 1) (kindBytes pic 2) → l₃ ≡ sets l₂ (512 * (1 + second)) (kindBytes pic 3)
       → l₃ ≡ written (packed pic) l₀
-  unfolding packed
   file-made l₀ l₁ l₂ l₃ room p q r =
       let f = kindBytes pic 1 in
       let g = kindBytes pic 2 in
@@ -131,36 +129,21 @@ module _ {pic : Picture} {second third : ℕ} (counted : Counted pic second thir
       q ∙ ap (λ (l : List ℕ). sets l (512 * 1) g) one ∙ (rw lf at (written-run f g l₀ (omega arith))) in
       let three : l₃ ≡ written (f ++ g ++ h) l₀ =
       r ∙ ap (λ (l : List ℕ). sets l (512 * (1 + second)) h) two ∙ (rw lfg at (written-run (f ++ g) h l₀ (omega arith))) in
-      rw append-assoc at three
+      rw by-kinds (rw append-assoc at three)
 
-module _ (pic : Picture) (file : List ℕ) where
-  -- the call by its fault
-  refused-by : (r : Refusal) → packFault pic file ≡ some r → (Refused r ≡ packAnswer pic file) × (file ≡ fileAfter pic file)
-  unfolding packingOf packAnswer fileAfter
-  refused-by r e = (rw e, rw e)
-
-  -- refused by checks 1 to 7
-  pub by-tables : (r : Refusal) → verdictOf (tableFault pic) ≡ Stopped r
-      → (Refused r ≡ packAnswer pic file) × (file ≡ fileAfter pic file)
-  unfolding packFault
-  by-tables r e = refused-by r (stop _ _ (refused _ r e))
-
-  -- where the call is not refused, the first bytes of the lent file, as many as it answers, are the packed file
-  pub packed-part : packFault pic file ≡ none
-      → (packAnswer pic file ≡ Packed (length (packed pic)))
-      × (take (length (packed pic)) (fileAfter pic file) ≡ packed pic)
-  unfolding packingOf packAnswer fileAfter
-  packed-part e = (rw e, rw e (part-is (packed pic) file _ _ (refl, refl)))
+-- refused by checks 1 to 7
+pub by-tables : (pic : Picture) (file : List ℕ) (r : Refusal) → verdictOf (tableFault pic) ≡ Stopped r
+    → (Refused r ≡ packAnswer pic file) × (file ≡ fileAfter pic file)
+by-tables pic file r e = pack-refused pic file r (fault-of-tables pic file r (refused _ r e))
 
 module _ {pic : Picture} {second third : ℕ} (counted : Counted pic second third) (file : List ℕ) where
   by-nine : packFault pic file ≡ roomFault 8 (length file) (512 * (1 + second + third))
-  unfolding packFault
-  by-nine = past _ _ (passed _ (counted .tabled)) ∙ rw (← need-is counted)
+  by-nine = fault-of-room pic file (passed _ (counted .tabled)) ∙ rw (← need-is counted)
 
   -- refused by check 9
   pub by-room : (r : Refusal) → verdictOf (roomFault 8 (length file) (512 * (1 + second + third))) ≡ Stopped r
       → (Refused r ≡ packAnswer pic file) × (file ≡ fileAfter pic file)
-  by-room r e = refused-by pic file r (by-nine ∙ refused _ r e)
+  by-room r e = pack-refused pic file r (by-nine ∙ refused _ r e)
 
   -- not refused
   module _ (fits : verdictOf (roomFault 8 (length file) (512 * (1 + second + third))) ≡ Passed) where
@@ -169,7 +152,6 @@ module _ {pic : Picture} {second third : ℕ} (counted : Counted pic second thir
 
     pub by-none : (end : List ℕ) → end ≡ written (packed pic) file
         → (Packed (512 * (1 + second + third)) ≡ packAnswer pic file) × (end ≡ fileAfter pic file)
-    unfolding packingOf packAnswer fileAfter
     by-none end e =
-        let f : packFault pic file ≡ none = by-nine ∙ passed _ fits in
-        (rw (f, need-is counted), rw f e)
+        let done = pack-done pic file (by-nine ∙ passed _ fits) in
+        (rw (need-is counted) (done .0), e ∙ done .1)

@@ -1,20 +1,8 @@
 -- Laws for the proofs of this crate and of the crates above it.
 pub mod Putting
-pub mod Lengths
-pub mod Chunks
-pub mod Regular
+pub mod Taking
 pub mod Walking
 pub mod RecordLaws
 pub mod Writing
 pub mod Filing
-pub mod BlockSays
-pub mod PackedBlocks
-pub mod ReadBack
 pub mod Standing
-pub mod PackedRegular
-pub mod PackedBytes
-pub mod Runs
-pub mod BlockIs
-pub mod KindRuns
-pub mod SaidRows
-pub mod OnePacking

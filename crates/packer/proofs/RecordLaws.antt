@@ -1,5 +1,5 @@
 -- The records of a block written one after the other, and what that means of each kind. Assumes nothing.
-use mathlib.Core.Path.{_≡_, refl, sym, ap, _∙_}
+use mathlib.Core.Path.{_≡_, refl, sym, ap, fun-ext, _∙_}
 use mathlib.Core.List.{List}
 use Prim.Native.Nat.{ℕ, _+_, _*_, _^_, _<_, _≤_}
 use native.Mathlib.Omega.{arith}
@@ -11,12 +11,13 @@ use Rattle.blocks.specs.Blocks.{joined}
 use Rattle.blocks.proofs.JoinedLaws.{joined-none}
 use Rattle.blocks.proofs.MadeBlocks.{capacities, record-sizes}
 use Rattle.blocks.proofs.Placing.{put-more as put-next}
-use Rattle.packer.specs.Packed.{bytes16, boxBytes, containmentBytes, arrowBytes, recordBytes}
+use Rattle.packing.specs.Packed.{boxBytes, containmentBytes, arrowBytes, recordBytes}
 use Rattle.packer.specs.Walks.{OfKind, walkAt, Run, blockByte, Begins}
 use Rattle.packer.specs.declared.Kind.{Kind}
 use Rattle.packer.specs.declared.Walk.{Walk}
-use Rattle.packer.proofs.Lengths.{third-kind, records-fit}
-use Rattle.packer.proofs.Regular.{rows-by-kind}
+use Rattle.packing.proofs.PackedLaws.{record-by-kind}
+use Rattle.packing.proofs.Lengths.{third-kind, records-fit}
+use Rattle.packing.proofs.Regular.{rows-by-kind}
 use Rattle.packer.proofs.Walking.{walk-within}
 
 -- a loop that has put j of so many records of a table, from a byte on
@@ -90,19 +91,6 @@ module _ {size capacity rows : ℕ} {bytes : ℕ → List ℕ} {at : ℕ} {file�
       let e : j ≡ count = let m = put .most in omega arith in
       (rw e at (put .the-walk), rw e at (put .so-far))
 
--- the bytes of a record
-pub box-length : (boxes : List ℕ) (i : ℕ) → length (boxBytes boxes i) ≡ 1
-unfolding boxBytes
-box-length boxes i = refl
-
-pub containment-length : (rows : List ℕ) (i : ℕ) → length (containmentBytes rows i) ≡ 4
-unfolding containmentBytes bytes16
-containment-length rows i = refl
-
-pub arrow-length : (arrows : List ℕ) (i : ℕ) → length (arrowBytes arrows i) ≡ 6
-unfolding arrowBytes bytes16
-arrow-length arrows i = refl
-
 -- the records' bytes fit between head and check
 pub used-most : {pic : Picture} {kind : Kind} {len count : ℕ} {w : Walk}
     → OfKind pic kind × Begins kind len w count → kind .size * count ≤ 500
@@ -149,8 +137,10 @@ module _ {pic : Picture} {kind : Kind} {len : ℕ} {w : Walk} {count : ℕ}
 
   pub boxes-done : kind .number ≡ 1 → (l : List ℕ) {r : Walk} {l′ : List ℕ} → r ≡ walkAt 500 (w .row + count)
       → l′ ≡ sets l (at + 8) (joined (λ j. boxBytes (pic .boxes) (w .row + j)) count) → Done r l l′
-  unfolding recordBytes
-  boxes-done e l p q = (p ∙ rw (asked .0 .the-capacity, e, capacities .0), q ∙ rw (from, e))
+  boxes-done e l p q = (
+    p ∙ rw (asked .0 .the-capacity, e, capacities .0),
+    q ∙ rw (from, e) (ap (λ (f : ℕ → List ℕ). sets l (blockByte kind w + 8) (joined f count)) (fun-ext (λ j. sym (record-by-kind pic (w .row + j) .0)))),
+  )
 
   pub containments-run : kind .number ≡ 2 → Run 4 125 (rowCount (pic .rows)) w count (at + 8) len
   containments-run e = run-of 4 125 (rowCount (pic .rows))
@@ -159,8 +149,10 @@ module _ {pic : Picture} {kind : Kind} {len : ℕ} {w : Walk} {count : ℕ}
 
   pub containments-done : kind .number ≡ 2 → (l : List ℕ) {r : Walk} {l′ : List ℕ} → r ≡ walkAt 125 (w .row + count)
       → l′ ≡ sets l (at + 8) (joined (λ j. containmentBytes (pic .rows) (w .row + j)) count) → Done r l l′
-  unfolding recordBytes
-  containments-done e l p q = (p ∙ rw (asked .0 .the-capacity, e, capacities .1), q ∙ rw (from, e))
+  containments-done e l p q = (
+    p ∙ rw (asked .0 .the-capacity, e, capacities .1),
+    q ∙ rw (from, e) (ap (λ (f : ℕ → List ℕ). sets l (blockByte kind w + 8) (joined f count)) (fun-ext (λ j. sym (record-by-kind pic (w .row + j) .1)))),
+  )
 
   pub arrows-run : (kind .number ≡ 1 → ⊥) → (kind .number ≡ 2 → ⊥) → Run 6 83 (arrowCount (pic .arrows)) w count (at + 8) len
   arrows-run a b = run-of 6 83 (arrowCount (pic .arrows))
@@ -169,5 +161,7 @@ module _ {pic : Picture} {kind : Kind} {len : ℕ} {w : Walk} {count : ℕ}
 
   pub arrows-done : (kind .number ≡ 1 → ⊥) → (kind .number ≡ 2 → ⊥) → (l : List ℕ) {r : Walk} {l′ : List ℕ} → r ≡ walkAt 83 (w .row + count)
       → l′ ≡ sets l (at + 8) (joined (λ j. arrowBytes (pic .arrows) (w .row + j)) count) → Done r l l′
-  unfolding recordBytes
-  arrows-done a b l p q = (p ∙ rw (asked .0 .the-capacity, third a b, capacities .2), q ∙ rw (from, third a b))
+  arrows-done a b l p q = (
+    p ∙ rw (asked .0 .the-capacity, third a b, capacities .2),
+    q ∙ rw (from, third a b) (ap (λ (f : ℕ → List ℕ). sets l (blockByte kind w + 8) (joined f count)) (fun-ext (λ j. sym (record-by-kind pic (w .row + j) .2)))),
+  )

@@ -8,12 +8,13 @@ use Rattle.blocks.specs.Blocks.{capacity, recordSize}
 use Rattle.blocks.specs.Files.{blockAt}
 use Rattle.blocks.proofs.Made.{made-block}
 use Rattle.blocks.proofs.MadeBlocks.{RecordIs}
-use Rattle.packer.specs.Packed.{rowsOf, recordBytes, blocksOf, firstOf, countIn, kindBlock, packed}
+use Rattle.packing.specs.Packed.{rowsOf, recordBytes, blocksOf, firstOf, countIn, kindBlock, packed}
 use Rattle.packer.specs.Walks.{walkAt}
-use Rattle.packer.proofs.Lengths.{of-kind, capacity-some}
-use Rattle.packer.proofs.Regular.{least-above, first-by-kind, all-packed}
-use Rattle.packer.proofs.BlockSays.{kind-record}
-use Rattle.packer.proofs.PackedBlocks.{blocks, blocksAll, packed-is, blocks-whole, block-1, block-2, block-3}
+use Rattle.packing.proofs.PackedLaws.{count-in}
+use Rattle.packing.proofs.Lengths.{of-kind, capacity-some}
+use Rattle.packing.proofs.Regular.{least-above, first-by-kind, all-packed}
+use Rattle.packing.proofs.BlockSays.{kind-record}
+use Rattle.packing.proofs.PackedBlocks.{blocks, blocksAll, packed-is, blocks-whole, block-1, block-2, block-3}
 
 module _ (pic : Picture) where
   -- block k of a kind is that many blocks behind the kind's first one
@@ -40,12 +41,11 @@ module _ (pic : Picture) where
     pub record-stands : (i : ℕ) → i < rowsOf pic kind
         → RecordIs (blockAt (packed pic) (firstOf pic kind + walkAt (capacity kind) i .block))
         (recordSize kind) (walkAt (capacity kind) i .place) (recordBytes pic kind i)
-    unfolding countIn
     record-stands i row =
         let c = capacity kind in
         let some = capacity-some kind low high in
         let e : c * (i / c) + i % c ≡ i = div-add-mod i c in
         let all : rowsOf pic kind ≤ blocksOf pic kind * c = rw mul-comm (all-packed pic kind low high) in
         let block : i / c < blocksOf pic kind = div-lt-iff-lt-mul some .1 (omega arith) in
-        let place : i % c < countIn pic kind (i / c) = least-above _ _ _ (omega arith) (mod-lt i some) in
+        let place : i % c < countIn pic kind (i / c) = rw count-in (least-above _ _ _ (omega arith) (mod-lt i some)) in
         rw (block-is (i / c) block) (rw e at (kind-record pic kind low high (i / c) (i % c) place))

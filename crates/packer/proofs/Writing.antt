@@ -13,12 +13,13 @@ use Rattle.blocks.specs.Fnv.{fnv1a}
 use Rattle.blocks.specs.Blocks.{capacity, recordSize, joined}
 use Rattle.blocks.proofs.JoinedLaws.{joined-none}
 use Rattle.blocks.proofs.Placing.{joined-length, put-more}
-use Rattle.packer.specs.Packed.{bytes32, headBytes, covered, blockOf, least, recordBytes, blocksOf, countIn, kindBlock}
+use Rattle.packing.specs.Packed.{bytes32, headBytes, covered, blockOf, least, recordBytes, blocksOf, countIn, kindBlock}
 use Rattle.packer.specs.Walks.{OfKind, walkAt, blockByte, Begins, BlocksFit}
 use Rattle.packer.specs.declared.Kind.{Kind}
 use Rattle.packer.specs.declared.Walk.{Walk}
-use Rattle.packer.proofs.Lengths.{least-most, capacity-some, head-length, record-length, covered-length, kind-block-length}
-use Rattle.packer.proofs.Regular.{block-begun, full-but-last}
+use Rattle.packing.proofs.PackedLaws.{covered-is, block-of, count-in, kind-block}
+use Rattle.packing.proofs.Lengths.{least-most, capacity-some, head-length, record-length, covered-length, kind-block-length}
+use Rattle.packing.proofs.Regular.{block-begun, full-but-last}
 use Rattle.packer.proofs.Putting.{chain, stored}
 use Rattle.packer.proofs.Walking.{walk-begun}
 
@@ -32,7 +33,6 @@ module _ (l₀ : List ℕ) {pic : Picture} {kind : Kind} {w : Walk} {count : ℕ
       → l₄ ≡ sets l₃ (at + 508) (bytes32 (fnv1a (take 508 (drop at l₃))))
       → l₄ ≡ sets l₀ (blockByte kind w)
       (blockOf (kind .number) (kind .first + w .block) count (λ j. recordBytes pic (kind .number) (w .row + j)))
-  unfolding blockOf covered
   block-made {l₁} {l₂} {l₃} {l₄} e₁ e₂ e₃ p₁ p₂ p₃ p₄ =
       let of = asked .0 in
       let begins = asked .1 in
@@ -52,11 +52,11 @@ module _ (l₀ : List ℕ) {pic : Picture} {kind : Kind} {w : Walk} {count : ℕ
       let filler : l₃ ≡ sets l₂ (blockByte kind w + (8 + u)) z = rw (e₁, of .the-size, behind) at p₃ in
       let three : l₃ ≡ sets l₀ (blockByte kind w) (h ++ r ++ z) = chain l₀ l₂ l₃ (blockByte kind w) (8 + u) (h ++ r) z used two filler in
       let all : l₃ ≡ sets l₀ (blockByte kind w) (h ++ (r ++ z)) = rw append-assoc at three in
-      let whole : length (h ++ (r ++ z)) ≡ 508 = covered-length (kind .number) (of .low) (of .high) (kind .first + w .block) count f fit len in
+      let whole : length (h ++ (r ++ z)) ≡ 508 = rw covered-is at (covered-length (kind .number) (of .low) (of .high) (kind .first + w .block) count f fit len) in
       let room : blockByte kind w + 508 ≤ length l₀ = let m = begins .room in omega arith in
       let seen : take 508 (drop (blockByte kind w) l₃) ≡ h ++ (r ++ z) = rw all (stored l₀ (blockByte kind w) 508 (h ++ (r ++ z)) whole room) in
       let check : l₄ ≡ sets l₃ (blockByte kind w + 508) (bytes32 (fnv1a (h ++ (r ++ z)))) = rw (e₁, seen) at p₄ in
-      chain l₀ l₃ l₄ (blockByte kind w) 508 (h ++ (r ++ z)) (bytes32 (fnv1a (h ++ (r ++ z)))) whole all check
+      rw (block-of, covered-is) (chain l₀ l₃ l₄ (blockByte kind w) 508 (h ++ (r ++ z)) (bytes32 (fnv1a (h ++ (r ++ z)))) whole all check)
 
 -- a loop that has written so many blocks of a kind
 module _ (pic : Picture) (kind : Kind) (l₀ : List ℕ) (blocks : ℕ) where
@@ -93,8 +93,7 @@ module _ {pic : Picture} {kind : Kind} {l₀ : List ℕ} {blocks : ℕ}
   -- the rows that the next block takes
   module _ {count : ℕ} (is : count ≡ least (kind .rows - w .row) (kind .capacity)) where
     count-is : count ≡ countIn pic (kind .number) k
-    unfolding countIn
-    count-is = is ∙ rw (stands, of .the-capacity, of .the-rows)
+    count-is = is ∙ rw (count-in, stands, of .the-capacity, of .the-rows)
 
     pub next-begins : Begins kind (length file) w count
     next-begins =
@@ -117,8 +116,7 @@ module _ {pic : Picture} {kind : Kind} {l₀ : List ℕ} {blocks : ℕ}
         (blockOf (kind .number) (kind .first + w .block) count (λ j. recordBytes pic (kind .number) (w .row + j)))) where
       next-block : blockOf (kind .number) (kind .first + w .block) count (λ j. recordBytes pic (kind .number) (w .row + j))
           ≡ kindBlock pic (kind .number) k
-      unfolding kindBlock
-      next-block = rw (stands, count-is, of .the-first, of .the-capacity)
+      next-block = rw (kind-block, stands, count-is, of .the-first, of .the-capacity)
 
       next-row : w′ .row ≡ w .row + count
       next-row = rw walked

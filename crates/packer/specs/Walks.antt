@@ -4,7 +4,7 @@ use mathlib.Core.Path.{_≡_}
 use Prim.Native.Nat.{ℕ, _+_, _*_, _/_, _%_, _^_, _<_, _≤_}
 use Rattle.tables.specs.Rows.{Picture}
 use Rattle.blocks.specs.Blocks.{capacity, recordSize}
-use Rattle.packer.specs.Packed.{rowsOf, firstOf}
+use Rattle.packing.specs.Packed.{rowsOf, firstOf}
 use Rattle.packer.specs.declared.Kind.{Kind}
 use Rattle.packer.specs.declared.Walk.{Walk}
 

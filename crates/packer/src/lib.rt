@@ -8,21 +8,21 @@ ghost use lib.ListN.{length};
 ghost use lib.Seq.{sets};
 ghost use Rattle.tables.specs.Rows.{picture};
 ghost use Rattle.blocks.specs.Blocks.{joined};
-ghost use Rattle.packer.specs.Packed.{blockOf, least, blocksFor, recordBytes, blocksOf, kindBytes};
-ghost use Rattle.packer.specs.Packs.{packAnswer, fileAfter};
+ghost use Rattle.packing.specs.Packed.{blockOf, least, blocksFor, recordBytes, blocksOf, kindBytes};
+ghost use Rattle.packing.specs.Packs.{packAnswer, fileAfter};
 ghost use Rattle.packer.specs.Walks.{boxKind, containmentKind, arrowKind, OfKind, walkAt};
 ghost use Rattle.packer.specs.Walks.{blockByte, Begins, BlocksFit};
 use base::narrow;
 use blocks::ArrowRecord;
 use blocks::BoxRecord;
 use blocks::ContainmentRecord;
+use packing::Packing;
 use put::put_check;
 use put::put_head;
 use put::put_zeros;
 use records::put_arrows;
 use records::put_boxes;
 use records::put_containments;
-use tables::Refusal;
 use tables::Verdict;
 use tables::check_room;
 
@@ -219,12 +219,6 @@ fn put_kind(kind: Kind, boxes: &[u8], rows: &[u16], arrows: &[u16], blocks: usiz
         let count = least_of(kind.rows - walk.row, kind.capacity);
         walk = put_block(kind, boxes, rows, arrows, walk, count, file);
     }
-}
-
-// What packing answers: the file's length, or a refusal.
-pub enum Packing {
-    Packed(usize),
-    Refused(Refusal),
 }
 
 // Packs a picture into a lent file. Checks 1 to 7, then 9 with buffer 8, before a byte is written. A picture's boxes, at most 256,

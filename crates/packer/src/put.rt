@@ -7,7 +7,7 @@ ghost use lib.Seq.{sets};
 ghost use Rattle.base.specs.Buffers.{zeros};
 ghost use Rattle.tables.specs.Rows.{rowCount, arrowCount};
 ghost use Rattle.blocks.specs.Fnv.{fnv1a};
-ghost use Rattle.packer.specs.Packed.{bytes16, bytes32, boxBytes, containmentBytes, arrowBytes, headBytes};
+ghost use Rattle.packing.specs.Packed.{bytes16, bytes32, boxBytes, containmentBytes, arrowBytes, headBytes};
 use blocks::Check;
 use tables::Arrow;
 use tables::Containment;

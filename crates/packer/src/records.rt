@@ -5,7 +5,7 @@ ghost use lib.ListN.{length};
 ghost use lib.Seq.{sets};
 ghost use Rattle.tables.specs.Rows.{rowCount, arrowCount};
 ghost use Rattle.blocks.specs.Blocks.{joined};
-ghost use Rattle.packer.specs.Packed.{boxBytes, containmentBytes, arrowBytes};
+ghost use Rattle.packing.specs.Packed.{boxBytes, containmentBytes, arrowBytes};
 ghost use Rattle.packer.specs.Walks.{walkAt, Run};
 use super::Walk;
 use super::put::put_arrow;

@@ -12,8 +12,8 @@ use Rattle.headings.specs.declared.Headings.{Headings}
 use Rattle.headings.specs.declared.Headings.the-variants.{Written as HeadingsWritten, Refused as HeadingsRefused}
 use Rattle.blocks.specs.declared.Reading.{Reading}
 use Rattle.blocks.specs.declared.Reading.the-variants.{Tables, Refused as ReadRefused}
-use Rattle.packer.specs.declared.Packing.{Packing}
-use Rattle.packer.specs.declared.Packing.the-variants.{Packed, Refused as PackRefused}
+use Rattle.packing.specs.declared.Packing.{Packing}
+use Rattle.packing.specs.declared.Packing.the-variants.{Packed, Refused as PackRefused}
 use Rattle.answers.specs.declared.EntryReply.{EntryReply}
 use Rattle.rights_c.specs.declared.Reply.{Reply}
 

@@ -10,7 +10,7 @@ ghost use Rattle.answers.specs.Calls.{replyOf, entryEarly, entryFault, judgeFau
 ghost use Rattle.list_meaning.specs.Calls.{listEarly, listBefore, listAnswer, listAfter, workAfter};
 ghost use Rattle.headings.specs.Calls.{headingsOf, headingFault, usersAfter, filesAfter};
 ghost use Rattle.blocks.specs.Reads.{ReadDone};
-ghost use Rattle.packer.specs.Packs.{packAnswer, fileAfter};
+ghost use Rattle.packing.specs.Packs.{packAnswer, fileAfter};
 ghost use Rattle.rights_c.specs.Replies.{reply, doneReply, refusedReply, verdictReply, entryReply, askedReply};
 ghost use Rattle.rights_c.specs.Replies.{listReply, headingReply, readReply, packReply, version};
 ghost use Rattle.blocks.specs.declared.Reading.{Reading};
@@ -18,7 +18,7 @@ use blocks::Reading;
 use headings::Headings;
 use list_meaning::Listed;
 use meaning::Entry;
-use packer::Packing;
+use packing::Packing;
 use tables::Refusal;
 use tables::Verdict;
 

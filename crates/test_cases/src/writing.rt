@@ -8,7 +8,7 @@ use headings::Headings;
 use libc::STDOUT_FILENO;
 use list_meaning::Listed;
 use meaning::Entry;
-use packer::Packing;
+use packing::Packing;
 use tables::Refusal;
 use tables::Verdict;
 

@@ -1,6 +1,6 @@
 -- Blocks before the last are full (`Taken`). Assumes nothing.
 use Prim.Native.Nat.{_-_}
-use Rattle.packer.proofs.Regular.{Taken, taken-none, taken-some, taken-more, taken-all}
+use Rattle.packer.proofs.Taking.{Taken, taken-none, taken-some, taken-more, taken-all}
 use native.Mathlib.Omega.{arith}
 use borrow.Author.Needs.{needs}
 use Rattle.packer.proofs.blocks_for.Statement.{statement}

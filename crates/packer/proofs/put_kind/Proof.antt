@@ -2,7 +2,7 @@
 use mathlib.Core.Path.{_≡_}
 use Prim.Native.Nat.{_-_}
 use Rattle.tables.specs.Rows.{picture}
-use Rattle.packer.specs.Packed.{kindBytes}
+use Rattle.packing.proofs.PackedLaws.{kind-bytes}
 use Rattle.packer.proofs.Writing.{Wrote, wrote-none, row-begun, next-begins, wrote-more}
 use native.Mathlib.Omega.{arith}
 use borrow.Author.Needs.{needs}
@@ -45,12 +45,11 @@ same-length c =
     c .before .loop .inv .same-length
 
 returns : tie.Need-returns Inv-loop μ-loop
-unfolding kindBytes
 returns c =
     let l = c .before .loop in
     let start = c .before .before .before .before .before .before .before in
     let e : l .k ≡ start .args .blocks = let m = l .inv .most in omega arith in
-    rw (← start .pre .1, ← e) (l .inv .so-far)
+    rw (kind-bytes, ← start .pre .1, ← e) (l .inv .so-far)
 
 pub put-kind-spec : {M : Type 1} → statement M
 put-kind-spec =

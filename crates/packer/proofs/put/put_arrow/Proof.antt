@@ -1,15 +1,16 @@
 -- Tail, head, then mode and sign, one behind the other. Assumes nothing.
-use mathlib.Core.Path.{refl, ap}
+use mathlib.Core.Path.{ap, _∙_}
 use Rattle.packer.proofs.Putting.{chain}
-use mathlib.Core.List.{_∷_, [], _++_}
+use mathlib.Core.List.{_∷_, [], _++_, append-assoc}
 use Rattle.tables.specs.declared.Arrow.{Arrow}
-use Rattle.packer.specs.Packed.{bytes16, arrowBytes}
+use Rattle.packing.specs.Packed.{bytes16}
+use Rattle.packing.proofs.PackedLaws.{arrow-is}
+use Rattle.packing.proofs.Lengths.{two-bytes, four-bytes}
 use borrow.Author.Needs.{needs}
 use Rattle.packer.proofs.put.put_arrow.Statement.{statement}
 use Rattle.packer.proofs.put.put_arrow.Tie as tie
 
 returns : tie.Need-returns
-unfolding arrowBytes bytes16
 returns c =
     let at-last = c .before .before in
     let sign = at-last .before .before .low82 in
@@ -21,16 +22,17 @@ returns c =
     let l₁ = at-tail .put16 .last .1 .1 .0 in
     let l₂ = at-head .put162 .last .1 .1 .0 in
     let ends = bytes16 (r .result .tail) ++ bytes16 (r .result .head) in
-    let two = chain (a .file .now) l₁ l₂ (a .at) 2 (bytes16 (r .result .tail)) (bytes16 (r .result .head)) refl (at-tail .put16 .ensures) (at-head .put162 .ensures) in
-    let three = chain (a .file .now) l₂ _ (a .at) 4 ends (mode .result ∷ sign .result ∷ []) refl two (at-last .put-two .ensures) in
+    let two = chain (a .file .now) l₁ l₂ (a .at) 2 (bytes16 (r .result .tail)) (bytes16 (r .result .head)) (two-bytes _) (at-tail .put16 .ensures) (at-head .put162 .ensures) in
+    let three = chain (a .file .now) l₂ _ (a .at) 4 ends (mode .result ∷ sign .result ∷ []) (four-bytes _ _) two (at-last .put-two .ensures) in
     rw (
+      arrow-is,
       ← ap (λ (x : Arrow). x .tail) (r .ensures),
       ← ap (λ (x : Arrow). x .head) (r .ensures),
       ← ap (λ (x : Arrow). x .mode) (r .ensures),
       ← ap (λ (x : Arrow). x .sign) (r .ensures),
       ← mode .ensures,
       ← sign .ensures,
-    ) three
+    ) (rw append-assoc at three)
 
 pub put-arrow-spec : {M : Type 1} → statement M
 put-arrow-spec =

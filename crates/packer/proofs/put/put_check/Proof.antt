@@ -5,7 +5,7 @@ use mathlib.Core.Path.{_∙_}
 use Prim.Native.Nat.{ℕ, _-_}
 use lib.Seq.{sets}
 use Rattle.blocks.proofs.MadeBlocks.{check-is}
-use Rattle.packer.specs.Packed.{bytes32}
+use Rattle.packing.specs.Packed.{bytes32}
 use native.Mathlib.Omega.{arith}
 use borrow.Author.Needs.{needs}
 use Rattle.packer.proofs.put.put_check.Statement.{statement}

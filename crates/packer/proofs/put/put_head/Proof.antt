@@ -1,14 +1,16 @@
 -- The four parts of a head, one behind the other. Assumes nothing.
-use mathlib.Core.Path.{refl}
+use mathlib.Core.Path.{ap, refl}
+use Prim.Native.Nat.{ℕ, suc}
 use Rattle.packer.proofs.Putting.{chain}
-use mathlib.Core.List.{_∷_, [], _++_}
-use Rattle.packer.specs.Packed.{bytes16, headBytes}
+use mathlib.Core.List.{_∷_, [], _++_, append-assoc}
+use Rattle.packing.specs.Packed.{bytes16}
+use Rattle.packing.proofs.PackedLaws.{head-is}
+use Rattle.packing.proofs.Lengths.{two-bytes, four-bytes}
 use borrow.Author.Needs.{needs}
 use Rattle.packer.proofs.put.put_head.Statement.{statement}
 use Rattle.packer.proofs.put.put_head.Tie as tie
 
 returns : tie.Need-returns
-unfolding headBytes bytes16
 returns c =
     let last = c .before .before in
     let count = last .before .before .before .before in
@@ -19,8 +21,10 @@ returns c =
     let l₂ = number .put16 .last .1 .1 .0 in
     let l₃ = count .put162 .last .1 .1 .0 in
     let two = chain (a .file .now) l₁ l₂ (a .at) 2 (a .kind ∷ 0 ∷ []) (bytes16 (a .number)) refl (kind .put-two .ensures) (number .put16 .ensures) in
-    let three = chain (a .file .now) l₂ l₃ (a .at) 4 (a .kind ∷ 0 ∷ bytes16 (a .number)) (bytes16 (a .count)) refl two (count .put162 .ensures) in
-    chain (a .file .now) l₃ _ (a .at) 6 (a .kind ∷ 0 ∷ (bytes16 (a .number) ++ bytes16 (a .count))) (0 ∷ 0 ∷ []) refl three (last .put-two2 .ensures)
+    let three = chain (a .file .now) l₂ l₃ (a .at) 4 (a .kind ∷ 0 ∷ bytes16 (a .number)) (bytes16 (a .count)) (ap (λ (n : ℕ). suc (suc n)) (two-bytes _)) two (count .put162 .ensures) in
+    rw (head-is, ← append-assoc)
+    (chain (a .file .now) l₃ _ (a .at) 6 (a .kind ∷ 0 ∷ (bytes16 (a .number) ++ bytes16 (a .count))) (0 ∷ 0 ∷ [])
+    (ap (λ (n : ℕ). suc (suc n)) (four-bytes _ _)) three (last .put-two2 .ensures))
 
 pub put-head-spec : {M : Type 1} → statement M
 put-head-spec =

@@ -1,8 +1,9 @@
 -- After j turns j records of the block stand in the file (`Put`). Assumes nothing.
 use Prim.Native.Nat.{_-_}
 use lib.ListN.{length}
-use Rattle.packer.specs.Packed.{boxBytes}
-use Rattle.packer.proofs.RecordLaws.{Put, put-none, place-low, put-asks, next-asks, put-more, put-all, box-length}
+use Rattle.packing.specs.Packed.{boxBytes}
+use Rattle.packer.proofs.RecordLaws.{Put, put-none, place-low, put-asks, next-asks, put-more, put-all}
+use Rattle.packing.proofs.Lengths.{box-length}
 use native.Mathlib.Omega.{arith}
 use borrow.Author.Needs.{needs}
 use Rattle.packer.proofs.records.put_boxes.Statement.{statement}

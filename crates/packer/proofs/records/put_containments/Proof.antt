@@ -1,8 +1,9 @@
 -- After j turns j records of the block stand in the file (`Put`). Assumes nothing.
 use Prim.Native.Nat.{_-_}
 use Rattle.tables.specs.Rows.{rowCount}
-use Rattle.packer.specs.Packed.{containmentBytes}
-use Rattle.packer.proofs.RecordLaws.{Put, put-none, place-low, put-asks, next-asks, put-more, put-all, containment-length}
+use Rattle.packing.specs.Packed.{containmentBytes}
+use Rattle.packer.proofs.RecordLaws.{Put, put-none, place-low, put-asks, next-asks, put-more, put-all}
+use Rattle.packing.proofs.Lengths.{containment-length}
 use native.Mathlib.Omega.{arith}
 use borrow.Author.Needs.{needs}
 use Rattle.packer.proofs.records.put_containments.Statement.{statement}

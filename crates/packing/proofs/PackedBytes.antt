@@ -14,12 +14,12 @@ use Rattle.tables.proofs.TableLaws.{sound-rows, sound-arrows}
 use Rattle.blocks.specs.Blocks.{capacity, recordSize, joined}
 use Rattle.blocks.proofs.JoinedLaws.{joined-none}
 use Rattle.blocks.proofs.MadeBlocks.{check-small}
-use Rattle.packer.specs.Packed.{bytes16, bytes32, boxBytes, containmentBytes, arrowBytes, headBytes, covered, blockOf}
-use Rattle.packer.specs.Packed.{rowsOf, recordBytes, blocksOf, firstOf, countIn, kindBlock, kindBytes, packed}
-use Rattle.packer.proofs.Lengths.{of-kind, least-most, capacity-most, count-most}
-use Rattle.packer.proofs.Chunks.{joined-suc}
-use Rattle.packer.proofs.Regular.{rows-by-kind, first-by-kind}
-use Rattle.packer.proofs.PackedBlocks.{blocks-few}
+use Rattle.packing.specs.Packed.{bytes16, bytes32, boxBytes, containmentBytes, arrowBytes, headBytes, covered, blockOf}
+use Rattle.packing.specs.Packed.{rowsOf, recordBytes, blocksOf, firstOf, countIn, kindBlock, kindBytes, packed}
+use Rattle.packing.proofs.Lengths.{of-kind, least-most, capacity-most, count-most}
+use Rattle.packing.proofs.Chunks.{joined-suc}
+use Rattle.packing.proofs.Regular.{rows-by-kind, first-by-kind}
+use Rattle.packing.proofs.PackedBlocks.{blocks-few}
 
 -- ---- lists of bytes
 

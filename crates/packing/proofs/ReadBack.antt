@@ -17,8 +17,8 @@ use Rattle.blocks.specs.declared.Reading.{Reading}
 use Rattle.blocks.specs.declared.Reading.the-variants.{Tables}
 use Rattle.blocks.proofs.Made.{made-boxes, made-containments, made-arrows, made-counts, made-good, made-read}
 use Rattle.blocks.proofs.MadeBlocks.{counts-in, tables-passed}
-use Rattle.packer.specs.Packed.{packed}
-use Rattle.packer.proofs.PackedBlocks.{blocks, blocksAll, packed-is, blocks-whole, blocks-good, blocks-few, boxes-packed, containments-packed, arrows-packed}
+use Rattle.packing.specs.Packed.{packed}
+use Rattle.packing.proofs.PackedBlocks.{blocks, blocksAll, packed-is, blocks-whole, blocks-good, blocks-few, boxes-packed, containments-packed, arrows-packed}
 
 module _ (pic : Picture) (sound : tableFault pic ≡ none) where
   few : (0 < blocksAll pic) × (blocksAll pic ≤ 17)

@@ -15,11 +15,11 @@ use Rattle.blocks.proofs.JoinedLaws.{joined-none}
 use Rattle.blocks.proofs.Placing.{joined-length}
 use Rattle.blocks.proofs.MadeBlocks.{headMade}
 use Rattle.blocks.proofs.GoodBlocks.{Good, block-whole, block-bytes, file-block, kinds-rise}
-use Rattle.packer.specs.Packed.{least, recordBytes, rowsOf, firstOf, countIn, kindBlock}
-use Rattle.packer.specs.Regular.{kindAt, countAt, Regular}
-use Rattle.packer.proofs.Chunks.{least-low, least-high}
-use Rattle.packer.proofs.Runs.{Runs, runs, joined-run, chunks-length, chunk-at, joined-one}
-use Rattle.packer.proofs.BlockIs.{recordIn, block-is}
+use Rattle.packing.specs.Packed.{least, recordBytes, rowsOf, firstOf, countIn, kindBlock}
+use Rattle.packing.specs.Regular.{kindAt, countAt, Regular}
+use Rattle.packing.proofs.Chunks.{least-low, least-high}
+use Rattle.packing.proofs.Runs.{Runs, runs, joined-run, chunks-length, chunk-at, joined-one}
+use Rattle.packing.proofs.BlockIs.{recordIn, block-is}
 
 -- ---- the run of a kind: m blocks from one on, and no others
 

@@ -13,10 +13,10 @@ use Rattle.blocks.specs.Blocks.{number16, number32, headOf, capacity, recordSiz
 use Rattle.blocks.proofs.Placing.{joined-length}
 use Rattle.blocks.proofs.MadeBlocks.{record-sizes, number16-is, number32-is, headMade, head-made, RecordIs, block-passed}
 use Rattle.blocks.proofs.MadeBlocks.{box-row, containment-row, arrow-row, boxes-are, containments-are, arrows-are}
-use Rattle.packer.specs.Packed.{bytes16, bytes32, boxBytes, containmentBytes, arrowBytes, headBytes, covered, blockOf}
-use Rattle.packer.specs.Packed.{recordBytes, firstOf, countIn, kindBlock}
-use Rattle.packer.proofs.Chunks.{joined-at}
-use Rattle.packer.proofs.Lengths.{head-length, covered-length, record-length, count-most}
+use Rattle.packing.specs.Packed.{bytes16, bytes32, boxBytes, containmentBytes, arrowBytes, headBytes, covered, blockOf}
+use Rattle.packing.specs.Packed.{recordBytes, firstOf, countIn, kindBlock}
+use Rattle.packing.proofs.Chunks.{joined-at}
+use Rattle.packing.proofs.Lengths.{head-length, covered-length, record-length, count-most}
 
 -- a number is what its two bytes say
 two-bytes : (x : ℕ) → x % 256 + 256 * (x / 256) ≡ x

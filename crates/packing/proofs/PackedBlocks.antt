@@ -11,11 +11,11 @@ use Rattle.blocks.specs.Blocks.{capacity, joined, boxesSaid, containmentsSaid, 
 use Rattle.blocks.specs.Files.{kindBefore, blocksFault, boxesIn, containmentsIn, arrowsIn}
 use Rattle.blocks.proofs.Made.{joined-same}
 use Rattle.blocks.proofs.MadeBlocks.{no-boxes, no-containments, no-arrows, none-before, run-more, boxes-in, containments-in, arrows-in}
-use Rattle.packer.specs.Packed.{rowsOf, blocksOf, firstOf, countIn, kindBlock, kindBytes, packed}
-use Rattle.packer.proofs.Chunks.{joined-empty, glue, glue-low, glue-high, glue-each, joined-glue, joined-all, boxes-joined, containments-joined, arrows-joined}
-use Rattle.packer.proofs.Lengths.{least-most, kind-block-length}
-use Rattle.packer.proofs.Regular.{rows-by-kind, first-by-kind, fills-1, fills-2, fills-3, box-block, all-packed}
-use Rattle.packer.proofs.BlockSays.{kind-head, kind-sound, boxes-said, containments-said, arrows-said}
+use Rattle.packing.specs.Packed.{rowsOf, blocksOf, firstOf, countIn, kindBlock, kindBytes, packed}
+use Rattle.packing.proofs.Chunks.{joined-empty, glue, glue-low, glue-high, glue-each, joined-glue, joined-all, boxes-joined, containments-joined, arrows-joined}
+use Rattle.packing.proofs.Lengths.{least-most, kind-block-length}
+use Rattle.packing.proofs.Regular.{rows-by-kind, first-by-kind, fills-1, fills-2, fills-3, box-block, all-packed}
+use Rattle.packing.proofs.BlockSays.{kind-head, kind-sound, boxes-said, containments-said, arrows-said}
 
 module _ (pic : Picture) where
   -- the box blocks, then the containment blocks, then the arrow blocks

@@ -9,9 +9,9 @@ use Rattle.tables.specs.Refusals.{unlessRefused}
 use Rattle.tables.specs.Rows.{Picture}
 use Rattle.tables.specs.Faults.{tableFault, roomFault}
 use Rattle.tables.specs.declared.Refusal.{Refusal}
-use Rattle.packer.specs.Packed.{packed}
-use Rattle.packer.specs.declared.Packing.{Packing}
-use Rattle.packer.specs.declared.Packing.the-variants.{Packed, Refused}
+use Rattle.packing.specs.Packed.{packed}
+use Rattle.packing.specs.declared.Packing.{Packing}
+use Rattle.packing.specs.declared.Packing.the-variants.{Packed, Refused}
 
 -- the answer, by the fault that was found, if any: the file's length
 unfoldable pub packingOf : Option Refusal → ℕ → Packing

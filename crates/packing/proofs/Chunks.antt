@@ -17,7 +17,7 @@ use Rattle.blocks.specs.Blocks.{joined}
 use Rattle.blocks.proofs.JoinedLaws.{joined-none, joined-more, joined-fold, append-chains}
 use Rattle.blocks.proofs.Made.{joined-same}
 use Rattle.blocks.proofs.Placing.{joined-length}
-use Rattle.packer.specs.Packed.{least}
+use Rattle.packing.specs.Packed.{least}
 
 -- ---- the smaller of two
 

@@ -1,7 +1,7 @@
 -- The lengths of records, of blocks and of the packed file. Assumes nothing.
 use mathlib.Core.Path.{_≡_, refl}
 use mathlib.Core.Bool.{Bool, true, false, cond}
-use mathlib.Core.List.{List}
+use mathlib.Core.List.{List, _++_}
 use mathlib.Core.Logic.{⊎-elim, _⊎_, inl, inr}
 use Prim.Native.Nat.{ℕ, zero, suc, _+_, _*_, _-_, _<_, _≤_}
 use native.Mathlib.Omega.{arith}
@@ -13,8 +13,8 @@ use Rattle.base.proofs.BufferLaws.{zeros-length}
 use Rattle.blocks.specs.Blocks.{capacity, recordSize}
 use Rattle.blocks.proofs.MadeBlocks.{capacities, record-sizes}
 use Rattle.blocks.proofs.Placing.{joined-length}
-use Rattle.packer.specs.Packed.{bytes16, bytes32, boxBytes, containmentBytes, arrowBytes, headBytes, covered, blockOf, least}
-use Rattle.packer.specs.Packed.{rowsOf, recordBytes, blocksOf, countIn, kindBlock, kindBytes, packed}
+use Rattle.packing.specs.Packed.{bytes16, bytes32, boxBytes, containmentBytes, arrowBytes, headBytes, covered, blockOf, least}
+use Rattle.packing.specs.Packed.{rowsOf, recordBytes, blocksOf, countIn, kindBlock, kindBytes, packed}
 
 -- a kind is 1, 2 or 3
 pub kinds : (kind : ℕ) → 1 ≤ kind → kind ≤ 3 → (kind ≡ 1) ⊎ ((kind ≡ 2) ⊎ (kind ≡ 3))
@@ -35,6 +35,28 @@ least-most a b = go (ltb a b) refl
     go : (t : Bool) → ltb a b ≡ t → (cond t a b ≤ a) × (cond t a b ≤ b)
     go true e = let h = ltb-true a b e in (omega arith, omega arith)
     go false e = let h = ltb-false a b e in (omega arith, omega arith)
+
+-- numbers of 16 bits
+pub two-bytes : (x : ℕ) → length (bytes16 x) ≡ 2
+unfolding bytes16
+two-bytes x = refl
+
+pub four-bytes : (x y : ℕ) → length (bytes16 x ++ bytes16 y) ≡ 4
+unfolding bytes16
+four-bytes x y = refl
+
+-- the bytes of a record
+pub box-length : (boxes : List ℕ) (i : ℕ) → length (boxBytes boxes i) ≡ 1
+unfolding boxBytes
+box-length boxes i = refl
+
+pub containment-length : (rows : List ℕ) (i : ℕ) → length (containmentBytes rows i) ≡ 4
+unfolding containmentBytes bytes16
+containment-length rows i = refl
+
+pub arrow-length : (arrows : List ℕ) (i : ℕ) → length (arrowBytes arrows i) ≡ 6
+unfolding arrowBytes bytes16
+arrow-length arrows i = refl
 
 pub head-length : (kind number count : ℕ) → length (headBytes kind number count) ≡ 8
 unfolding headBytes bytes16

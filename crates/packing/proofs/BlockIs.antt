@@ -13,9 +13,9 @@ use Rattle.blocks.specs.declared.Head.{Head}
 use Rattle.blocks.proofs.Made.{joined-same}
 use Rattle.blocks.proofs.MadeBlocks.{number16-is, number32-is, headMade}
 use Rattle.blocks.proofs.GoodBlocks.{Good, head-bytes}
-use Rattle.packer.specs.Packed.{bytes16, bytes32, boxBytes, containmentBytes, arrowBytes, recordBytes, headBytes, covered, blockOf}
-use Rattle.packer.proofs.Chunks.{rows-joined}
-use Rattle.packer.proofs.Lengths.{records-fit}
+use Rattle.packing.specs.Packed.{bytes16, bytes32, boxBytes, containmentBytes, arrowBytes, recordBytes, headBytes, covered, blockOf}
+use Rattle.packing.proofs.Chunks.{rows-joined}
+use Rattle.packing.proofs.Lengths.{records-fit}
 
 -- ---- the bytes of a number are those that it is said by
 

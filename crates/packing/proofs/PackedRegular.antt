@@ -14,13 +14,13 @@ use Rattle.blocks.specs.Files.{blockAt, blockCount}
 use Rattle.blocks.specs.declared.Head.{Head}
 use Rattle.blocks.proofs.Made.{made-count, made-block}
 use Rattle.blocks.proofs.MadeBlocks.{headMade}
-use Rattle.packer.specs.Packed.{rowsOf, blocksOf, firstOf, countIn, kindBlock, packed}
-use Rattle.packer.specs.Regular.{kindAt, countAt, Regular}
-use Rattle.packer.proofs.Lengths.{kinds}
-use Rattle.packer.proofs.Regular.{first-by-kind, rows-by-kind, box-block}
-use Rattle.packer.proofs.Regular.{no-boxes-one-block, full-but-last, none-empty, no-rows-no-block}
-use Rattle.packer.proofs.BlockSays.{kind-head}
-use Rattle.packer.proofs.PackedBlocks.{blocks, blocksAll, packed-is, blocks-whole, block-1, block-2, block-3}
+use Rattle.packing.specs.Packed.{rowsOf, blocksOf, firstOf, countIn, kindBlock, packed}
+use Rattle.packing.specs.Regular.{kindAt, countAt, Regular}
+use Rattle.packing.proofs.Lengths.{kinds}
+use Rattle.packing.proofs.Regular.{first-by-kind, rows-by-kind, box-block}
+use Rattle.packing.proofs.Regular.{no-boxes-one-block, full-but-last, none-empty, no-rows-no-block}
+use Rattle.packing.proofs.BlockSays.{kind-head}
+use Rattle.packing.proofs.PackedBlocks.{blocks, blocksAll, packed-is, blocks-whole, block-1, block-2, block-3}
 
 module _ (pic : Picture) where
   -- block k is block j of a kind

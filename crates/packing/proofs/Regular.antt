@@ -12,9 +12,9 @@ use lib.ListN.{length}
 use Rattle.tables.specs.Rows.{Picture, rowCount, arrowCount}
 use Rattle.blocks.specs.Blocks.{capacity}
 use Rattle.blocks.proofs.MadeBlocks.{of-boxes, of-containments, of-arrows, capacities}
-use Rattle.packer.specs.Packed.{least, blocksFor, rowsOf, blocksOf, firstOf, countIn}
-use Rattle.packer.proofs.Lengths.{of-kind, least-most, capacity-some}
-use Rattle.packer.proofs.Chunks.{least-low, least-high}
+use Rattle.packing.specs.Packed.{least, blocksFor, rowsOf, blocksOf, firstOf, countIn}
+use Rattle.packing.proofs.Lengths.{of-kind, least-most, capacity-some}
+use Rattle.packing.proofs.Chunks.{least-low, least-high}
 
 -- ---- the smaller of two
 
@@ -28,7 +28,7 @@ least-above i a b p q = go (ltb a b)
     go false = q
 
 -- the second, if it is not the first
-least-second : (a b : ℕ) → least a b < a → least a b ≡ b
+pub least-second : (a b : ℕ) → least a b < a → least a b ≡ b
 unfolding least
 least-second a b = go (ltb a b)
   where
@@ -51,39 +51,6 @@ blocks-are c n m some enough few =
     let e : n + (c - 1) ≡ c * m + r = omega arith in
     let l : r < c = omega arith in
     rw e (mul-add-div some m r ∙ rw (div-eq-of-lt l) (add-zero m))
-
--- a loop that has taken the rows of m blocks, each full or with the rows that were left
-pub record Taken (c n m row : ℕ) : Type 0 where
-  pub most : row ≤ n
-  pub few : m ≤ row
-  pub enough : row ≤ c * m
-  pub begun : c * m < n + c
-  pub full : row < n → row ≡ c * m
-
-module _ (c n : ℕ) (some : 0 < c) where
-  pub taken-none : Taken c n 0 0
-  taken-none = record { most = omega arith; few = omega arith; enough = omega arith; begun = rw mul-zero (omega arith); full = λ h. rw mul-zero }
-
-  module _ (m row count : ℕ) (t : Taken c n m row) (less : row < n) (is : count ≡ least (n - row) c) where
-    -- one block more takes a row at least
-    pub taken-some : (0 < count) × (count ≤ n - row)
-    taken-some = (rw is (least-above 0 (n - row) c (omega arith) some), rw is (least-most (n - row) c .0))
-
-    pub taken-more : Taken c n (m + 1) (row + count)
-    taken-more =
-        let e : c * (m + 1) ≡ c * m + c = rw (add-one m, mul-suc) in
-        let l = least-most (n - row) c in
-        let f = t .full less in
-        record {
-          most = omega (arith, taken-some .1);
-          few = omega (arith, taken-some .0, t .few);
-          enough = omega (arith, l .1);
-          begun = omega arith;
-          full = λ more. let s : count ≡ c = is ∙ least-second (n - row) c (omega arith) in omega arith;
-        }
-
-  pub taken-all : (m row : ℕ) → Taken c n m row → (row < n → ⊥) → m ≡ blocksFor c n
-  taken-all m row t end = sym (blocks-are c n m some (let a = t .enough in omega arith) (t .begun))
 
 -- a block begins within the rows
 fills-begun : (c n m k : ℕ) → Fills c n m → k < m → c * k ≤ n

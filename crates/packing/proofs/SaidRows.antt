@@ -13,10 +13,10 @@ use Rattle.blocks.specs.Files.{blockAt, fileFault, boxesOf, containmentsOf, arr
 use Rattle.blocks.proofs.MadeBlocks.{capacities, record-sizes, no-boxes, no-containments, no-arrows}
 use Rattle.blocks.proofs.MadeBlocks.{boxes-are, containments-are, arrows-are, boxes-in, containments-in, arrows-in}
 use Rattle.blocks.proofs.GoodBlocks.{box-row-is, containment-row-is, arrow-row-is, block-whole, block-bytes, file-block}
-use Rattle.packer.specs.Packed.{recordBytes}
-use Rattle.packer.specs.Regular.{countAt, Regular, pictureOf}
-use Rattle.packer.proofs.BlockIs.{recordIn, box-record, containment-record, arrow-record}
-use Rattle.packer.proofs.KindRuns.{Run, Said, table-run, head-of, run-good, table-said}
+use Rattle.packing.specs.Packed.{recordBytes}
+use Rattle.packing.specs.Regular.{countAt, Regular, pictureOf}
+use Rattle.packing.proofs.BlockIs.{recordIn, box-record, containment-record, arrow-record}
+use Rattle.packing.proofs.KindRuns.{Run, Said, table-run, head-of, run-good, table-said}
 
 -- the row of a block's record j, by its bytes
 unfoldable boxAt : List ℕ → ℕ → List ℕ

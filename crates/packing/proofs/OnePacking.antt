@@ -18,16 +18,16 @@ use Rattle.blocks.specs.Files.{blockAt, blockCount, fileFault, boxesOf, contain
 use Rattle.blocks.proofs.Made.{joined-same, made-of-blocks, good-whole}
 use Rattle.blocks.proofs.MadeBlocks.{capacities}
 use Rattle.blocks.proofs.GoodBlocks.{file-some}
-use Rattle.packer.specs.Packed.{blocksFor, recordBytes, rowsOf, blocksOf, firstOf, kindBlock, kindBytes, packed}
-use Rattle.packer.specs.Regular.{kindAt, countAt, Regular, pictureOf, RegularPacking}
-use Rattle.packer.proofs.Chunks.{joined-add}
-use Rattle.packer.proofs.Regular.{blocks-are, rows-by-kind, blocks-by-kind, first-by-kind}
-use Rattle.packer.proofs.ReadBack.{packed-good, packed-boxes, packed-containments, packed-arrows}
-use Rattle.packer.proofs.PackedRegular.{packed-regular}
-use Rattle.packer.proofs.PackedBytes.{packed-bytes}
-use Rattle.packer.proofs.Runs.{Runs}
-use Rattle.packer.proofs.KindRuns.{Run, file-runs, run-good, run-some, blocks-same}
-use Rattle.packer.proofs.SaidRows.{RunRows, box-rows, containment-rows, arrow-rows}
+use Rattle.packing.specs.Packed.{blocksFor, recordBytes, rowsOf, blocksOf, firstOf, kindBlock, kindBytes, packed}
+use Rattle.packing.specs.Regular.{kindAt, countAt, Regular, pictureOf, RegularPacking}
+use Rattle.packing.proofs.Chunks.{joined-add}
+use Rattle.packing.proofs.Regular.{blocks-are, rows-by-kind, blocks-by-kind, first-by-kind}
+use Rattle.packing.proofs.ReadBack.{packed-good, packed-boxes, packed-containments, packed-arrows}
+use Rattle.packing.proofs.PackedRegular.{packed-regular}
+use Rattle.packing.proofs.PackedBytes.{packed-bytes}
+use Rattle.packing.proofs.Runs.{Runs}
+use Rattle.packing.proofs.KindRuns.{Run, file-runs, run-good, run-some, blocks-same}
+use Rattle.packing.proofs.SaidRows.{RunRows, box-rows, containment-rows, arrow-rows}
 
 -- so many blocks, if all but the last are full and the last isn't empty
 module _ (c rows : ℕ) (some : 0 < c) where

@@ -13,7 +13,7 @@ use lib.ListN.{length, getD, length-append}
 use lib.Seq.{getD-append-add}
 use Rattle.blocks.specs.Blocks.{joined}
 use Rattle.blocks.proofs.Placing.{joined-length}
-use Rattle.packer.proofs.Chunks.{joined-suc, joined-add, joined-empty, joined-at}
+use Rattle.packing.proofs.Chunks.{joined-suc, joined-add, joined-empty, joined-at}
 
 -- ---- where numbers that do not fall reach t
 

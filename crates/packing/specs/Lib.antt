@@ -1,0 +1,4 @@
+pub mod Packed
+pub mod Regular
+pub mod Packs
+pub mod Cases
