@@ -2,8 +2,8 @@
 ghost use Prim.Native.Nat.{_≤_};
 use super::buffers::PLACES;
 use answers::Reply;
+use block_files::Seen;
 use blocks::Reading;
-use blocks::Seen;
 use headings::Headings;
 use libc::STDOUT_FILENO;
 use lists::Listed;
