@@ -1,7 +1,7 @@
 -- How the row counts and the lengths of the tables grow block by block. Assumes nothing.
-use mathlib.Core.Path.{_≡_, refl}
+use mathlib.Core.Path.{_≡_, refl, sym}
 use mathlib.Core.Bool.{Bool, true, false, cond, or-true, true≢false}
-use mathlib.Core.List.{List}
+use mathlib.Core.List.{List, []}
 use mathlib.Core.Option.{none, some}
 use Prim.Native.Nat.{ℕ, zero, suc, _+_, _*_, _/_, _<_, _≤_}
 use native.Mathlib.Omega.{arith}
@@ -17,15 +17,15 @@ use Rattle.base.proofs.SearchLaws.{first-none, first-nothing, first-more, first
 use Rattle.base.proofs.BufferLaws.{written-run}
 use Rattle.tables.proofs.TableLaws.{both-none}
 use Rattle.blocks.specs.Blocks.{headOf, capacity, byKind, boxRow, containmentRow, arrowRow, countOf, joined, boxesSaid, containmentsSaid, arrowsSaid, wrongHead, blockFault}
-use Rattle.blocks.specs.Files.{blockAt, blockCount, kindBefore, blocksFault, boxesIn, containmentsIn, arrowsIn}
-use Rattle.blocks.specs.Reads.{countsIn, countsOf}
-use Rattle.blocks.specs.Steps.{countsWith, BlockFits, Fitting}
+use Rattle.blocks.specs.Files.{kindBefore, blocksFault, boxesIn, containmentsIn, arrowsIn}
+use Rattle.blocks.specs.Reads.{countsIn}
+use Rattle.blocks.specs.Steps.{noCounts, countsWith}
 use Rattle.blocks.specs.declared.Head.{Head}
 use Rattle.blocks.specs.declared.Counts.{Counts}
 use Rattle.blocks.proofs.Placing.{joined-length, joined-most}
 
--- a turn of the loop that writes the blocks, for each table
-pub table-more : (f : ℕ → List ℕ) (old : List ℕ) (k n i : ℕ) → k < n → length (joined f n) ≤ length old → i ≡ length (joined f k)
+-- one block more in a table
+table-more : (f : ℕ → List ℕ) (old : List ℕ) (k n i : ℕ) → k < n → length (joined f n) ≤ length old → i ≡ length (joined f k)
     → sets (written (joined f k) old) i (f k) ≡ written (joined f (k + 1)) old
 unfolding joined
 table-more f old k n i h l e =
@@ -52,7 +52,27 @@ half-more l c = omega arith
 quarter-more : (l c : ℕ) → (l + 4 * c) / 4 ≡ l / 4 + c
 quarter-more l c = omega arith
 
+-- the row counts with a block, each by itself
+pub counts-with : (counts : Counts) (head : Head)
+    → countsWith counts head
+    ≡ record {
+      boxes = counts .boxes + countOf 1 head;
+      containments = counts .containments + countOf 2 head;
+      arrows = counts .arrows + countOf 3 head;
+    }
+unfolding countsWith
+counts-with counts head = refl
+
 module _ (blocks : ℕ → List ℕ) where
+  -- no blocks say nothing
+  pub counts-none : countsIn blocks 0 ≡ noCounts
+  unfolding countsIn boxesIn containmentsIn arrowsIn joined
+  counts-none = refl
+
+  pub tables-none : (boxesIn blocks 0 ≡ []) × (containmentsIn blocks 0 ≡ []) × (arrowsIn blocks 0 ≡ [])
+  unfolding boxesIn containmentsIn arrowsIn joined
+  tables-none = (refl, refl, refl)
+
   -- the row counts with one block more
   pub counts-more : (n : ℕ) → countsIn blocks (n + 1) ≡ countsWith (countsIn blocks n) (headOf (blocks n))
   unfolding countsIn countsWith boxesIn containmentsIn arrowsIn joined
@@ -72,6 +92,26 @@ module _ (blocks : ℕ → List ℕ) where
   arrows-length (suc n) =
       let e = arrows-length n in
       simp (length-append, arrows-said) (omega arith)
+
+  -- each table written so far, with what one block more says
+  module _ (old : List ℕ) (k n : ℕ) (h : k < n) where
+    pub boxes-more : countsIn blocks n .boxes ≤ length old
+        → sets (written (boxesIn blocks k) old) (countsIn blocks k .boxes) (boxesSaid (blocks k)) ≡ written (boxesIn blocks (k + 1)) old
+    unfolding countsIn boxesIn
+    boxes-more l = table-more (λ i. boxesSaid (blocks i)) old k n _ h l refl
+
+    pub rows-more : 2 * countsIn blocks n .containments ≤ length old
+        → sets (written (containmentsIn blocks k) old) (2 * countsIn blocks k .containments) (containmentsSaid (blocks k))
+        ≡ written (containmentsIn blocks (k + 1)) old
+    unfolding containmentsIn
+    rows-more l =
+        table-more (λ i. containmentsSaid (blocks i)) old k n _ h (rw (rows-length n) l) (sym (rows-length k))
+
+    pub arrows-more : 4 * countsIn blocks n .arrows ≤ length old
+        → sets (written (arrowsIn blocks k) old) (4 * countsIn blocks k .arrows) (arrowsSaid (blocks k)) ≡ written (arrowsIn blocks (k + 1)) old
+    unfolding arrowsIn
+    arrows-more l =
+        table-more (λ i. arrowsSaid (blocks i)) old k n _ h (rw (arrows-length n) l) (sym (arrows-length k))
 
 -- a good block's count
 pub head-fits : (before place : ℕ) (head : Head) → wrongHead before place head ≡ false → head .count ≤ capacity (head .kind)
@@ -156,31 +196,10 @@ pub record NoMore (few many : Counts) : Type 0 where
   pub rows-most : few .containments ≤ many .containments
   pub arrows-most : few .arrows ≤ many .arrows
 
-counts-most : (blocks : ℕ → List ℕ) (k n : ℕ) → k ≤ n → NoMore (countsIn blocks k) (countsIn blocks n)
+pub counts-most : (blocks : ℕ → List ℕ) (k n : ℕ) → k ≤ n → NoMore (countsIn blocks k) (countsIn blocks n)
 unfolding countsIn boxesIn containmentsIn arrowsIn
 counts-most blocks k n h =
     let b = joined-most (λ i. boxesSaid (blocks i)) k n h in
     let r = joined-most (λ i. containmentsSaid (blocks i)) k n h in
     let a = joined-most (λ i. arrowsSaid (blocks i)) k n h in
     record { boxes-most = b; rows-most = omega arith; arrows-most = omega arith }
-
--- what a turn of the loop that writes the blocks needs
-pub block-fits : (file : List ℕ) (k boxes rows arrows : ℕ) → Fitting file boxes rows arrows → k < blockCount file
-    → BlockFits (countsIn (blockAt file) k) (headOf (blockAt file k)) boxes rows arrows
-unfolding countsWith
-block-fits file k boxes rows arrows f h =
-    let m : NoMore (countsWith (countsIn (blockAt file) k) (headOf (blockAt file k))) (countsOf file)
-    = rw (counts-more (blockAt file) k) at (counts-most (blockAt file) (k + 1) (blockCount file) (omega arith)) in
-    let g : Holds (headOf (blockAt file k)) = good-holds (blockAt file) k (blockCount file) h (f .good) in
-    let l : Few k (countsIn (blockAt file) k) = few-counts (blockAt file) k (blocks-before (blockAt file) k (blockCount file) (omega arith) (f .good)) in
-    record {
-      boxes-count = g .boxes-count;
-      rows-count = g .rows-count;
-      arrows-count = g .arrows-count;
-      boxes-few = omega arith;
-      rows-few = omega arith;
-      arrows-few = omega arith;
-      boxes-room = omega arith;
-      rows-room = omega arith;
-      arrows-room = omega arith;
-    }

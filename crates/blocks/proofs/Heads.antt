@@ -5,18 +5,14 @@ use mathlib.Core.List.{List}
 use Prim.Native.Nat.{ℕ, zero, suc, _+_, _-_, _<_, _≤_}
 use native.Mathlib.Omega.{arith}
 use native.Mathlib.Numerals.{add-one}
-use borrow.Author.Tests.{lt-ltb, ne-eqb, eqb-true, eqb-false}
+use borrow.Author.Tests.{ne-eqb, eqb-true, eqb-false}
 use lib.Bits.{bitOr, or-add-and, and-le-l, and-le-r}
 use lib.Dec.{eqb}
 use lib.ListN.{length, getD, drop}
 use lib.Seq.{drop-cons}
 use Rattle.blocks.specs.Blocks.{headOf, byKind, countOf, allZero}
-use Rattle.blocks.specs.Files.{blockAt, blockCount, kindBefore}
-use Rattle.blocks.specs.Reader.{seenAt}
-use Rattle.blocks.specs.Steps.{noHead}
+use Rattle.blocks.specs.Files.{kindBefore}
 use Rattle.blocks.specs.declared.Head.{Head}
-use Rattle.blocks.specs.declared.Seen.{Seen}
-use Rattle.blocks.specs.declared.Seen.the-variants.{Block, NoBlock}
 
 cond-most : (t : Bool) {a b m : ℕ} → a ≤ m → b ≤ m → cond t a b ≤ m
 cond-most true p q = p
@@ -30,16 +26,6 @@ by-kind-most kind a b c m p q r =
 pub count-most : (kind : ℕ) (head : Head) → countOf kind head ≤ head .count
 unfolding countOf
 count-most kind head = cond-most (eqb (head .kind) kind) (omega arith) (omega arith)
-
--- what is seen at the number of a block that the file has
-abbrev pub headIn : Seen → Head
-headIn (Block head) = head
-headIn NoBlock = noHead
-
-pub seen-here : (file : List ℕ) (block : ℕ) (seen : Seen) → block < blockCount file → seen ≡ seenAt file block
-    → headIn seen ≡ headOf (blockAt file block)
-unfolding seenAt
-seen-here file block seen h e = rw e (simp (lt-ltb block (blockCount file) h))
 
 -- the block before one that isn't the first
 pub kind-before : (blocks : ℕ → List ℕ) (k : ℕ) → (k ≡ 0 → ⊥) → kindBefore blocks k ≡ headOf (blocks (k - 1)) .kind

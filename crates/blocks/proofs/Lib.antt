@@ -4,9 +4,8 @@ pub mod Parts
 pub mod Placing
 pub mod JoinedLaws
 pub mod Heads
-pub mod Held
-mod ReaderCalls
 pub mod Counting
+pub mod RowLaws
 pub mod Order
 pub mod Rooms
 pub mod Made

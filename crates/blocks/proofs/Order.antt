@@ -3,12 +3,15 @@ use mathlib.Core.Path.{_≡_, refl, _∙_}
 use mathlib.Core.Bool.{not, _||_}
 use mathlib.Core.List.{List}
 use mathlib.Core.Option.{Option, none, some}
-use Prim.Native.Nat.{ℕ, _%_, _<_, _≤_}
+use Prim.Native.Nat.{ℕ, _*_, _%_, _<_, _≤_}
 use native.Mathlib.Omega.{arith}
 use borrow.Author.Tests.{le-ltb, eq-eqb, ne-eqb}
 use lib.Dec.{eqb, ltb, eqb→eq, nltb→le, not-T}
 use lib.ListN.{length}
+use Rattle.base.specs.Search.{orElse, given}
 use Rattle.base.specs.Buffers.{written}
+use Rattle.tables.specs.Faults.{countFault, roomFault}
+use Rattle.tables.specs.Refusals.{badLength}
 use Rattle.tables.specs.declared.Refusal.{Refusal}
 use Rattle.base.proofs.Tests.{T-or₁, T-or₂}
 use Rattle.base.proofs.SearchLaws.{given-none, given-false}
@@ -16,7 +19,6 @@ use Rattle.tables.proofs.TableLaws.{both-none, not-not, room-passed}
 use Rattle.base.proofs.Options.{past, stop}
 use Rattle.blocks.specs.Files.{blockAt, blockCount, lengthFault, blocksFault, fileFault, boxesOf, containmentsOf, arrowsOf}
 use Rattle.blocks.specs.Reads.{countsOf, tablesFault, readFault, answerOf, ReadDone}
-use Rattle.blocks.specs.Steps.{Fitting}
 use Rattle.blocks.specs.declared.Counts.{Counts}
 use Rattle.blocks.specs.declared.Reading.the-variants.{Tables, Refused}
 
@@ -28,6 +30,11 @@ answer-tables (some r) c d e = let z : _≡_ {A = ℕ} 0 1 = cc in absurd (omega
 pub answer-refused : (o : Option Refusal) (c : Counts) (r : Refusal) → answerOf o c ≡ Refused r → o ≡ some r
 answer-refused none c r e = let z : _≡_ {A = ℕ} 0 1 = cc in absurd (omega arith)
 answer-refused (some s) c r e = let i : s ≡ r = cc in rw i
+
+-- 14 by its tests
+pub length-tests : (len : ℕ) → lengthFault len ≡ given (eqb len 0 || not (eqb (len % 512) 0) || ltb 32768 len) (badLength len)
+unfolding lengthFault
+length-tests len = refl
 
 -- a length that 14 passes
 pub length-whole : (len : ℕ) → lengthFault len ≡ none → (len % 512 ≡ 0) × (len ≤ 32768)
@@ -61,20 +68,28 @@ module _ (file : List ℕ) (boxes rows arrows : ℕ) where
       unfolding readFault fileFault
       by-tables = past _ _ (past _ _ whole ∙ good)
 
-      -- no fault at all
-      pub fitting : tablesFault (countsOf file) boxes rows arrows ≡ none → Fitting file boxes rows arrows
-      unfolding tablesFault
-      fitting e =
-          let room = both-none _ _ (both-none _ _ e .1) in
-          let rest = both-none _ _ (room .1) in
-          let short = length-whole (length file) whole .1 in
-          record {
-            few = omega arith;
-            good = good;
-            boxes-fit = room-passed 5 boxes _ (room .0);
-            rows-fit = room-passed 6 rows _ (rest .0);
-            arrows-fit = room-passed 7 arrows _ (rest .1);
-          }
+-- 2 first, then 9 for each table
+module _ (counts : Counts) (boxes rows arrows : ℕ) where
+  pub by-counts : {r : Refusal} → countFault (counts .boxes) (counts .containments) (counts .arrows) ≡ some r
+      → tablesFault counts boxes rows arrows ≡ some r
+  unfolding tablesFault
+  by-counts e = stop _ _ e
+
+  pub by-rooms : countFault (counts .boxes) (counts .containments) (counts .arrows) ≡ none
+      → tablesFault counts boxes rows arrows
+      ≡ orElse (roomFault 5 boxes (counts .boxes))
+      (orElse (roomFault 6 rows (2 * counts .containments)) (roomFault 7 arrows (4 * counts .arrows)))
+  unfolding tablesFault
+  by-rooms e = past _ _ e
+
+  -- where there is no fault, each table has room
+  pub tables-fit : tablesFault counts boxes rows arrows ≡ none
+      → (counts .boxes ≤ boxes) × (2 * counts .containments ≤ rows) × (4 * counts .arrows ≤ arrows)
+  unfolding tablesFault
+  tables-fit e =
+      let room = both-none _ _ (both-none _ _ e .1) in
+      let rest = both-none _ _ (room .1) in
+      (room-passed 5 boxes _ (room .0), room-passed 6 rows _ (rest .0), room-passed 7 arrows _ (rest .1))
 
 -- a refusal leaves the tables as they were
 pub read-refused : (file boxes rows arrows : List ℕ) {r : Refusal} → readFault file (length boxes) (length rows) (length arrows) ≡ some r

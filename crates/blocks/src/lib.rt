@@ -1,8 +1,6 @@
-// Block files: the check of a block, what a block says, and reading a file into three lent tables.
+// Block files: the check of a block, what a block says, and what reading a file answers.
 mod bytes;
 mod fnv;
-mod into_tables;
-mod reader;
 mod verify;
 
 ghost use mathlib.Core.Path.{_≡_};
@@ -15,17 +13,13 @@ ghost use Rattle.blocks.specs.Steps.{noHead, countsWith, noCounts};
 use base::wide;
 use bytes::byte_of;
 use bytes::number_of;
+pub use bytes::wide8;
 pub use fnv::Check;
-pub use into_tables::read;
-pub use reader::BlockReader;
-pub use reader::head_after;
-pub use reader::head_at;
 use tables::Refusal;
+pub use verify::check_block;
 
-// A block has so many bytes, and a file at most so many.
-const BLOCK_SIZE: usize = 512;
-
-const FILE_LIMIT: usize = 32768;
+// A block has so many bytes.
+pub const BLOCK_SIZE: usize = 512;
 
 // A record of a box block.
 pub struct BoxRecord {
@@ -41,7 +35,7 @@ impl BoxRecord {
     pub const CAPACITY: usize = 500;
 
     // Record j of a block.
-    fn at(file: &[u8], block: usize, j: usize) -> Self
+    pub fn at(file: &[u8], block: usize, j: usize) -> Self
         requires { ⌜ (block < blockCount (now file)) × (j < 500) ⌝ }
         ensures { λ r. ⌜ r ≡ boxRecord (blockAt (now (file .entry)) block) j ⌝ }
     {
@@ -66,7 +60,7 @@ impl ContainmentRecord {
     pub const CAPACITY: usize = 125;
 
     // Record j of a block.
-    fn at(file: &[u8], block: usize, j: usize) -> Self
+    pub fn at(file: &[u8], block: usize, j: usize) -> Self
         requires { ⌜ (block < blockCount (now file)) × (j < 125) ⌝ }
         ensures { λ r. ⌜ r ≡ containmentRecord (blockAt (now (file .entry)) block) j ⌝ }
     {
@@ -94,7 +88,7 @@ impl ArrowRecord {
     pub const CAPACITY: usize = 83;
 
     // Record j of a block.
-    fn at(file: &[u8], block: usize, j: usize) -> Self
+    pub fn at(file: &[u8], block: usize, j: usize) -> Self
         requires { ⌜ (block < blockCount (now file)) × (j < 83) ⌝ }
         ensures { λ r. ⌜ r ≡ arrowRecord (blockAt (now (file .entry)) block) j ⌝ }
     {
@@ -135,7 +129,7 @@ pub struct Head {
 
 impl Head {
     // The bytes of a block's head.
-    fn from_bytes(file: &[u8], block: usize) -> Self
+    pub fn from_bytes(file: &[u8], block: usize) -> Self
         requires { ⌜ block < blockCount (now file) ⌝ }
         ensures { λ r. ⌜ r ≡ headOf (blockAt (now (file .entry)) block) ⌝ }
     {
@@ -149,20 +143,8 @@ impl Head {
         }
     }
 
-    // The head of a block, as the block's reader sees it.
-    fn of(file: &[u8], block: usize) -> Self
-        requires { ⌜ block < blockCount (now file) ⌝ }
-        ensures { λ r. ⌜ r ≡ headOf (blockAt (now (file .entry)) block) ⌝ }
-    {
-        let seen = head_at(file, block);
-        let Seen::Block(head) = seen else {
-            return Self::none();
-        };
-        head
-    }
-
     // The head that stands for no block.
-    fn none() -> Self
+    pub fn none() -> Self
         ensures { λ r. ⌜ r ≡ noHead ⌝ }
     {
         Self {
@@ -176,7 +158,7 @@ impl Head {
     }
 
     // How many records of a kind the block has.
-    fn count_of(self, kind: u8) -> usize
+    pub fn count_of(self, kind: u8) -> usize
         ensures { λ r. ⌜ r ≡ countOf kind self ⌝ }
     {
         if self.kind == kind {
@@ -219,12 +201,6 @@ impl Head {
     }
 }
 
-// What stands at a block number: a block, of which the head is shown, or none.
-pub enum Seen {
-    Block(Head),
-    NoBlock,
-}
-
 // The row counts of three tables.
 pub struct Counts {
     pub boxes: usize,
@@ -234,7 +210,7 @@ pub struct Counts {
 
 impl Counts {
     // Those of tables without rows.
-    fn zero() -> Self
+    pub fn zero() -> Self
         ensures { λ r. ⌜ r ≡ noCounts ⌝ }
     {
         Self {
@@ -245,7 +221,7 @@ impl Counts {
     }
 
     // Those with the records of one block more.
-    fn with(self, head: Head) -> Self
+    pub fn with(self, head: Head) -> Self
         requires { ⌜ (self .boxes < 2 ^ 32) × (self .containments < 2 ^ 32) × (self .arrows < 2 ^ 32) ⌝ }
         ensures { λ r. ⌜ r ≡ countsWith self head ⌝ }
     {

@@ -232,7 +232,7 @@ fn list(file: &[u8]) -> Sent
     let mut boxes = box_bytes();
     let mut rows = table_numbers();
     let mut arrows = table_numbers();
-    let reading = blocks::read(file, &mut boxes, &mut rows, &mut arrows);
+    let reading = block_files::read(file, &mut boxes, &mut rows, &mut arrows);
     match reading {
         Reading::Refused(r) => send_stopped(file, r),
         Reading::Tables(c) => list_counted(file, c, &boxes, &rows, &arrows),

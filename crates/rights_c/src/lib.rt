@@ -244,7 +244,7 @@ pub extern "C" fn rights_read(
         × ReadDone (now (file .entry)) (now (boxes .entry)) (now (rows .entry)) (now (arrows .entry)) (now (boxes .exit))
         (now (rows .exit)) (now (arrows .exit)) x) ⌝ }
 {
-    of_reading(blocks::read(file, boxes, rows, arrows))
+    of_reading(block_files::read(file, boxes, rows, arrows))
 }
 
 #[no_mangle]

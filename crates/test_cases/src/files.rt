@@ -19,7 +19,7 @@ fn show_file(file: &[u8], boxes: &mut [u8], rows: &mut [u16], arrows: &mut [u16]
     let b = bytes_lent(boxes, number().value);
     let r = numbers_lent(rows, number().value);
     let a = numbers_lent(arrows, number().value);
-    show_reading(blocks::read(file, &mut boxes[..b], &mut rows[..r], &mut arrows[..a]));
+    show_reading(block_files::read(file, &mut boxes[..b], &mut rows[..r], &mut arrows[..a]));
     show_bytes(boxes);
     show_numbers(rows);
     show_numbers(arrows);
@@ -35,11 +35,11 @@ fn one_less(n: usize) -> usize {
 
 fn show_moves(file: &[u8]) {
     let count = file.len() / 512;
-    show_seen(blocks::head_after(file, 0));
+    show_seen(block_files::head_after(file, 0));
     io::write_all(STDOUT_FILENO, b" : ");
-    show_seen(blocks::head_after(file, one_less(count)));
+    show_seen(block_files::head_after(file, one_less(count)));
     io::write_all(STDOUT_FILENO, b" : ");
-    show_seen(blocks::head_after(file, count));
+    show_seen(block_files::head_after(file, count));
     io::write_all(STDOUT_FILENO, b"\n");
 }
 

@@ -2,8 +2,8 @@
 ghost use Prim.Native.Nat.{_≤_};
 use super::buffers::PLACES;
 use answers::EntryReply;
+use block_files::Seen;
 use blocks::Reading;
-use blocks::Seen;
 use headings::Headings;
 use libc::STDOUT_FILENO;
 use list_meaning::Listed;

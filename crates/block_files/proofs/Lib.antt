@@ -1,0 +1,5 @@
+-- Laws for the proofs of this crate.
+mod Held
+mod ReaderCalls
+mod SeenLaws
+mod Fits
