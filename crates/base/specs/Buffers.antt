@@ -9,9 +9,9 @@ build g zero = []
 build g (suc n) = build g n ++ (g n ∷ [])
 
 -- the first places hold the new values; places beyond them are as they were
-unfoldable pub written : List ℕ → List ℕ → List ℕ
+unfoldable pub written : (new old : List ℕ) → List ℕ
 written new old = new ++ drop (length new) old
 
 -- n times 0
-unfoldable pub zeros : ℕ → List ℕ
+unfoldable pub zeros : (n : ℕ) → List ℕ
 zeros n = replicate n 0

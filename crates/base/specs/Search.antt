@@ -5,7 +5,7 @@ use mathlib.Core.Option.{Option, none, some}
 use Prim.Native.Nat.{ℕ, zero, suc}
 
 -- where the first holds, the second does
-abbrev pub implies : Bool → Bool → Bool
+abbrev pub implies : (a b : Bool) → Bool
 implies a b = not a || b
 
 -- the first of two that is there
@@ -24,7 +24,7 @@ first g zero = none
 first g (suc n) = orElse (first g n) (g n)
 
 -- the lowest number at which the test holds
-unfoldable pub lowest : (ℕ → Bool) → ℕ → Option ℕ
+unfoldable pub lowest : (p : ℕ → Bool) (n : ℕ) → Option ℕ
 lowest p n = first (λ k. given (p k) k) n
 
 -- the test holds at each number

@@ -10,9 +10,9 @@ use Rattle.block_files.specs.declared.Seen.{Seen}
 use Rattle.block_files.specs.declared.Seen.the-variants.{Block, NoBlock}
 
 -- the head of the block at a number, where the file has such a block
-unfoldable pub seenAt : List ℕ → ℕ → Seen
+unfoldable pub seenAt : (file : List ℕ) (block : ℕ) → Seen
 seenAt file block = cond (ltb block (blockCount file)) (Block (headOf (blockAt file block))) NoBlock
 
 -- the number of the next block, up to the number behind the last block
-unfoldable pub nextBlock : List ℕ → ℕ → ℕ
+unfoldable pub nextBlock : (file : List ℕ) (block : ℕ) → ℕ
 nextBlock file block = cond (ltb block (blockCount file)) (block + 1) block

@@ -19,6 +19,7 @@ use blocks::Counts;
 use blocks::Reading;
 use blocks::check_block;
 use blocks::wide8;
+use tables::Refusal;
 use tables::Verdict;
 
 // A file has at most so many bytes.
@@ -29,7 +30,7 @@ fn check_length(len: usize) -> Verdict
     ensures { λ r. ⌜ r ≡ verdictOf (lengthFault len) ⌝ }
 {
     let wrong = (len == 0) | (len % BLOCK_SIZE != 0) | (FILE_LIMIT < len);
-    Verdict::refused_if(wrong, 14, len, 0, 0)
+    Verdict::refused_if(wrong, Refusal::BAD_LENGTH, len, 0, 0)
 }
 
 // For each block in turn 15, 16 and 17; the row counts of a file whose blocks are good.

@@ -15,14 +15,14 @@ use Rattle.blocks.specs.declared.ContainmentRecord.{ContainmentRecord}
 use Rattle.blocks.specs.declared.ArrowRecord.{ArrowRecord}
 
 -- the numbers of 16 and of 32 bits that begin at a byte, little-endian
-unfoldable pub number16 : List ℕ → ℕ → ℕ
+unfoldable pub number16 : (block : List ℕ) (at : ℕ) → ℕ
 number16 block at = getD block at 0 + 256 * getD block (at + 1) 0
 
-unfoldable pub number32 : List ℕ → ℕ → ℕ
+unfoldable pub number32 : (block : List ℕ) (at : ℕ) → ℕ
 number32 block at = number16 block at + 65536 * number16 block (at + 2)
 
 -- byte 0 kind, byte 1 zero, bytes 2 and 3 block number, bytes 4 and 5 record count, bytes 6 and 7 zero
-unfoldable pub headOf : List ℕ → Head
+unfoldable pub headOf : (block : List ℕ) → Head
 headOf block = record {
   kind = getD block 0 0;
   byte1 = getD block 1 0;
@@ -33,29 +33,29 @@ headOf block = record {
 }
 
 -- by kind: 1 boxes, 2 containments, 3 arrows
-unfoldable pub byKind : ℕ → ℕ → ℕ → ℕ → ℕ
+unfoldable pub byKind : (kind boxes containments arrows : ℕ) → ℕ
 byKind kind boxes containments arrows =
     cond (eqb kind 1) boxes (cond (eqb kind 2) containments (cond (eqb kind 3) arrows 0))
 
 -- how many records a block holds at most, and how many bytes each has
-unfoldable pub capacity : ℕ → ℕ
+unfoldable pub capacity : (kind : ℕ) → ℕ
 capacity kind = byKind kind 500 125 83
 
-unfoldable pub recordSize : ℕ → ℕ
+unfoldable pub recordSize : (kind : ℕ) → ℕ
 recordSize kind = byKind kind 1 4 6
 
 -- the byte after the records
-unfoldable pub recordsEnd : Head → ℕ
+unfoldable pub recordsEnd : (head : Head) → ℕ
 recordsEnd head = 8 + recordSize (head .kind) * (head .count)
 
 -- record j of a block of each kind
-unfoldable pub boxRecord : List ℕ → ℕ → BoxRecord
+unfoldable pub boxRecord : (block : List ℕ) (j : ℕ) → BoxRecord
 boxRecord block j = record { side = getD block (8 + j) 0 }
 
-unfoldable pub containmentRecord : List ℕ → ℕ → ContainmentRecord
+unfoldable pub containmentRecord : (block : List ℕ) (j : ℕ) → ContainmentRecord
 containmentRecord block j = record { outer = number16 block (8 + 4 * j); inner = number16 block (10 + 4 * j) }
 
-unfoldable pub arrowRecord : List ℕ → ℕ → ArrowRecord
+unfoldable pub arrowRecord : (block : List ℕ) (j : ℕ) → ArrowRecord
 arrowRecord block j = record {
   tail = number16 block (8 + 6 * j);
   head = number16 block (10 + 6 * j);
@@ -64,18 +64,18 @@ arrowRecord block j = record {
 }
 
 -- a record as the numbers of its table's row
-unfoldable pub boxRow : List ℕ → ℕ → List ℕ
+unfoldable pub boxRow : (block : List ℕ) (j : ℕ) → List ℕ
 boxRow block j = boxRecord block j .side ∷ []
 
-unfoldable pub containmentRow : List ℕ → ℕ → List ℕ
+unfoldable pub containmentRow : (block : List ℕ) (j : ℕ) → List ℕ
 containmentRow block j = containmentRecord block j .outer ∷ containmentRecord block j .inner ∷ []
 
-unfoldable pub arrowRow : List ℕ → ℕ → List ℕ
+unfoldable pub arrowRow : (block : List ℕ) (j : ℕ) → List ℕ
 arrowRow block j =
     arrowRecord block j .tail ∷ arrowRecord block j .head ∷ arrowRecord block j .mode ∷ arrowRecord block j .sign ∷ []
 
 -- how many records of a kind a block has
-unfoldable pub countOf : ℕ → Head → ℕ
+unfoldable pub countOf : (kind : ℕ) (head : Head) → ℕ
 countOf kind head = cond (eqb (head .kind) kind) (head .count) 0
 
 -- f 0, f 1, .., n lists one after the other
@@ -84,22 +84,22 @@ joined f zero = []
 joined f (suc n) = joined f n ++ f n
 
 -- what a block says of each table: the rows of its records, in order
-unfoldable pub boxesSaid : List ℕ → List ℕ
+unfoldable pub boxesSaid : (block : List ℕ) → List ℕ
 boxesSaid block = joined (boxRow block) (countOf 1 (headOf block))
 
-unfoldable pub containmentsSaid : List ℕ → List ℕ
+unfoldable pub containmentsSaid : (block : List ℕ) → List ℕ
 containmentsSaid block = joined (containmentRow block) (countOf 2 (headOf block))
 
-unfoldable pub arrowsSaid : List ℕ → List ℕ
+unfoldable pub arrowsSaid : (block : List ℕ) → List ℕ
 arrowsSaid block = joined (arrowRow block) (countOf 3 (headOf block))
 
 -- 15: the check in bytes 508 to 511 isn't that of bytes 0 to 507
-unfoldable pub wrongCheck : List ℕ → Bool
+unfoldable pub wrongCheck : (block : List ℕ) → Bool
 wrongCheck block = not (eqb (fnv1a (take 508 block)) (number32 block 508))
 
 -- 16: its kind is not 1 to 3 or is below the kind of the block before, byte 1, 6 or 7 is not zero, the block number
 -- isn't the block's place in the file, or the count is above the capacity of its kind
-unfoldable pub wrongHead : ℕ → ℕ → Head → Bool
+unfoldable pub wrongHead : (before place : ℕ) (head : Head) → Bool
 wrongHead before place head =
     ltb (head .kind) 1 || ltb 3 (head .kind) || ltb (head .kind) before
     || not (eqb (head .byte1) 0) || not (eqb (head .byte6) 0) || not (eqb (head .byte7) 0)
@@ -110,11 +110,11 @@ unfoldable pub allZero : List ℕ → Bool
 allZero [] = true
 allZero (x ∷ xs) = eqb x 0 && allZero xs
 
-unfoldable pub wrongFiller : Head → List ℕ → Bool
+unfoldable pub wrongFiller : (head : Head) (block : List ℕ) → Bool
 wrongFiller head block = not (allZero (drop (recordsEnd head) (take 508 block)))
 
 -- 15, 16, 17 of the block at a place, by the kind of the block before
-unfoldable pub blockFault : ℕ → ℕ → List ℕ → Option Refusal
+unfoldable pub blockFault : (before place : ℕ) (block : List ℕ) → Option Refusal
 blockFault before place block =
     orElse (given (wrongCheck block) (badBlock 15 place))
     (orElse (given (wrongHead before place (headOf block)) (badBlock 16 place))

@@ -11,10 +11,10 @@ use Rattle.tables.specs.declared.Refusal.{Refusal}
 use Rattle.blocks.specs.Blocks.{headOf, joined, boxesSaid, containmentsSaid, arrowsSaid, blockFault}
 
 -- a file's blocks of 512 bytes
-abbrev pub blockCount : List ℕ → ℕ
+abbrev pub blockCount : (file : List ℕ) → ℕ
 blockCount file = length file / 512
 
-unfoldable pub blockAt : List ℕ → ℕ → List ℕ
+unfoldable pub blockAt : (file : List ℕ) (k : ℕ) → List ℕ
 blockAt file k = take 512 (drop (512 * k) file)
 
 -- the kind of the block before block k, 0 where there is none
@@ -23,33 +23,33 @@ kindBefore blocks zero = 0
 kindBefore blocks (suc k) = headOf (blocks k) .kind
 
 -- for each of n blocks in turn 15, 16, 17
-unfoldable pub blocksFault : (ℕ → List ℕ) → ℕ → Option Refusal
+unfoldable pub blocksFault : (blocks : ℕ → List ℕ) (n : ℕ) → Option Refusal
 blocksFault blocks n = first (λ k. blockFault (kindBefore blocks k) k (blocks k)) n
 
 -- 14: file length 0, not a multiple of 512, or above 32,768
-unfoldable pub lengthFault : ℕ → Option Refusal
+unfoldable pub lengthFault : (len : ℕ) → Option Refusal
 lengthFault len = given (eqb len 0 || not (eqb (len % 512) 0) || ltb 32768 len) (badLength len)
 
 -- 14, then the blocks
-unfoldable pub fileFault : List ℕ → Option Refusal
+unfoldable pub fileFault : (file : List ℕ) → Option Refusal
 fileFault file = orElse (lengthFault (length file)) (blocksFault (blockAt file) (blockCount file))
 
 -- what n blocks say of each table
-unfoldable pub boxesIn : (ℕ → List ℕ) → ℕ → List ℕ
+unfoldable pub boxesIn : (blocks : ℕ → List ℕ) (n : ℕ) → List ℕ
 boxesIn blocks n = joined (λ k. boxesSaid (blocks k)) n
 
-unfoldable pub containmentsIn : (ℕ → List ℕ) → ℕ → List ℕ
+unfoldable pub containmentsIn : (blocks : ℕ → List ℕ) (n : ℕ) → List ℕ
 containmentsIn blocks n = joined (λ k. containmentsSaid (blocks k)) n
 
-unfoldable pub arrowsIn : (ℕ → List ℕ) → ℕ → List ℕ
+unfoldable pub arrowsIn : (blocks : ℕ → List ℕ) (n : ℕ) → List ℕ
 arrowsIn blocks n = joined (λ k. arrowsSaid (blocks k)) n
 
 -- what a file says: its three tables
-abbrev pub boxesOf : List ℕ → List ℕ
+abbrev pub boxesOf : (file : List ℕ) → List ℕ
 boxesOf file = boxesIn (blockAt file) (blockCount file)
 
-abbrev pub containmentsOf : List ℕ → List ℕ
+abbrev pub containmentsOf : (file : List ℕ) → List ℕ
 containmentsOf file = containmentsIn (blockAt file) (blockCount file)
 
-abbrev pub arrowsOf : List ℕ → List ℕ
+abbrev pub arrowsOf : (file : List ℕ) → List ℕ
 arrowsOf file = arrowsIn (blockAt file) (blockCount file)

@@ -8,7 +8,7 @@ unfoldable pub fnvStart : ℕ
 fnvStart = 2166136261
 
 -- for each byte, exclusive-or it in, then multiply by 16,777,619 and keep the low 32 bits
-unfoldable pub fnvStep : ℕ → ℕ → ℕ
+unfoldable pub fnvStep : (state byte : ℕ) → ℕ
 fnvStep state byte = bitXor state byte * 16777619 % 2 ^ 32
 
 -- the bytes in turn
@@ -16,5 +16,5 @@ unfoldable pub fnvFold : ℕ → List ℕ → ℕ
 fnvFold state [] = state
 fnvFold state (byte ∷ bytes) = fnvFold (fnvStep state byte) bytes
 
-unfoldable pub fnv1a : List ℕ → ℕ
+unfoldable pub fnv1a : (bytes : List ℕ) → ℕ
 fnv1a bytes = fnvFold fnvStart bytes

@@ -16,18 +16,18 @@ use Rattle.blocks.specs.declared.Reading.{Reading}
 use Rattle.blocks.specs.declared.Reading.the-variants.{Tables, Refused}
 
 -- the row counts of what n blocks say
-unfoldable pub countsIn : (ℕ → List ℕ) → ℕ → Counts
+unfoldable pub countsIn : (blocks : ℕ → List ℕ) (n : ℕ) → Counts
 countsIn blocks n = record {
   boxes = length (boxesIn blocks n);
   containments = rowCount (containmentsIn blocks n);
   arrows = arrowCount (arrowsIn blocks n);
 }
 
-abbrev pub countsOf : List ℕ → Counts
+abbrev pub countsOf : (file : List ℕ) → Counts
 countsOf file = countsIn (blockAt file) (blockCount file)
 
 -- 2, then 9, each for the lowest table or buffer: 5 boxes, 6 containments, 7 arrows (numbers to be read)
-unfoldable pub tablesFault : Counts → ℕ → ℕ → ℕ → Option Refusal
+unfoldable pub tablesFault : (counts : Counts) (boxes rows arrows : ℕ) → Option Refusal
 tablesFault counts boxes rows arrows =
     orElse (countFault (counts .boxes) (counts .containments) (counts .arrows))
     (orElse (roomFault 5 boxes (counts .boxes))
@@ -35,7 +35,7 @@ tablesFault counts boxes rows arrows =
     (roomFault 7 arrows (4 * counts .arrows))))
 
 -- 14, then for each block in turn 15, 16, 17, then 2, then 9
-unfoldable pub readFault : List ℕ → ℕ → ℕ → ℕ → Option Refusal
+unfoldable pub readFault : (file : List ℕ) (boxes rows arrows : ℕ) → Option Refusal
 readFault file boxes rows arrows = orElse (fileFault file) (tablesFault (countsOf file) boxes rows arrows)
 
 -- the three row counts, or the refusal
@@ -44,7 +44,7 @@ answerOf none counts = Tables counts
 answerOf (some r) counts = Refused r
 
 -- a refusal leaves every place untouched; else the places beyond what is read stay
-abbrev pub endOf : Option Refusal → List ℕ → List ℕ → List ℕ
+abbrev pub endOf : (fault : Option Refusal) (new old : List ℕ) → List ℕ
 endOf fault new old = unlessRefused fault (written new old) old
 
 -- the answer, and what each table holds at the end

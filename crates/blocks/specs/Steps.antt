@@ -13,7 +13,7 @@ abbrev pub noCounts : Counts
 noCounts = record { boxes = 0; containments = 0; arrows = 0 }
 
 -- the row counts with one block more
-unfoldable pub countsWith : Counts → Head → Counts
+unfoldable pub countsWith : (counts : Counts) (head : Head) → Counts
 countsWith counts head = record {
   boxes = counts .boxes + countOf 1 head;
   containments = counts .containments + countOf 2 head;

@@ -13,6 +13,7 @@ use super::Head;
 use super::bytes::byte_of;
 use super::bytes::number_of;
 use super::bytes::wide16;
+use tables::Refusal;
 use tables::Verdict;
 
 // The check of a block's bytes 0 to 507.
@@ -78,11 +79,23 @@ pub fn check_block(file: &[u8], block: usize, head: Head) -> Verdict
 {
     Verdict::refused_if(
             check_of(file, block) != stored_check(file, block),
-            15,
+            Refusal::BAD_CHECK,
             block,
             0,
             0,
         )
-        .or_else(Verdict::refused_if(head.wrong(kind_before(file, block), block), 16, block, 0, 0))
-        .or_else(Verdict::refused_if(wrong_filler(file, block, head), 17, block, 0, 0))
+        .or_else(Verdict::refused_if(
+            head.wrong(kind_before(file, block), block),
+            Refusal::BAD_HEAD,
+            block,
+            0,
+            0,
+        ))
+        .or_else(Verdict::refused_if(
+            wrong_filler(file, block, head),
+            Refusal::BAD_FILLER,
+            block,
+            0,
+            0,
+        ))
 }

@@ -18,11 +18,11 @@ wordAt x (suc (suc (suc zero))) = x .d
 wordAt x (suc (suc (suc (suc q)))) = 0
 
 -- k is in the set; no k from 256 on is
-unfoldable pub isIn : Set → ℕ → Bool
+unfoldable pub isIn : (x : Set) (k : ℕ) → Bool
 isIn x k = bitAt (wordAt x (k / 64)) (k % 64)
 
 -- k is one of the numbers of word q of a set
-unfoldable pub inWord : ℕ → ℕ → ℕ → Bool
+unfoldable pub inWord : (q w k : ℕ) → Bool
 inWord q w k = eqb (k / 64) q && bitAt w (k % 64)
 
 -- the lowest number below n at which the test holds, or n
@@ -31,19 +31,19 @@ least p zero = 0
 least p (suc n) = cond (p 0) 0 (suc (least (λ k. p (suc k)) n))
 
 -- the lowest number of the set, or 256
-unfoldable pub low : Set → ℕ
+unfoldable pub low : (x : Set) → ℕ
 low x = least (isIn x) 256
 
 -- set r of a table
-abbrev pub setAt : List ℕ → ℕ → Set
+abbrev pub setAt : (t : List ℕ) (r : ℕ) → Set
 setAt t r = record { a = getD t (4 * r) 0; b = getD t (4 * r + 1) 0; c = getD t (4 * r + 2) 0; d = getD t (4 * r + 3) 0 }
 
 -- set r of the table has k
-unfoldable pub has : List ℕ → ℕ → ℕ → Bool
+unfoldable pub has : (t : List ℕ) (r k : ℕ) → Bool
 has t r k = isIn (setAt t r) k
 
 -- k is one of the numbers
-unfoldable pub among : List ℕ → ℕ → Bool
+unfoldable pub among : (numbers : List ℕ) (k : ℕ) → Bool
 among numbers k = anyBelow (λ i. eqb (getD numbers i 0) k) (length numbers)
 
 -- u is t with x as its set r

@@ -9,7 +9,7 @@ use Rattle.boxsets.specs.Sets.{isIn}
 use Rattle.user_rows.specs.declared.Row.{Row}
 
 -- the byte of a file in the matrix, by the row of its user: 1 granted, 2 unclear, 0 denied
-unfoldable pub byteIn : Row → ℕ → ℕ
+unfoldable pub byteIn : (row : Row) (f : ℕ) → ℕ
 byteIn row f = cond (isIn (row .granted) f) 1 (cond (isIn (row .unclear) f) 2 0)
 
 -- the places from `at` on hold g 0, g 1, .., n of them; others are as they were

@@ -33,9 +33,9 @@ contains (x ∷ []) a b = false
 contains (x ∷ y ∷ rows) a b = contains rows a b || (eqb a x || contains rows a x) && (eqb y b || contains rows y b)
 
 -- a is b or contains it
-unfoldable pub around : List ℕ → ℕ → ℕ → Bool
+unfoldable pub around : (rows : List ℕ) (a b : ℕ) → Bool
 around rows a b = eqb a b || contains rows a b
 
 -- 10: a box contains itself
-unfoldable pub loopFault : List ℕ → List ℕ → Option Refusal
+unfoldable pub loopFault : (boxes rows : List ℕ) → Option Refusal
 loopFault boxes rows = first (λ b. given (contains rows b b) (inItself b)) (length boxes)

@@ -20,25 +20,25 @@ pub data Drawn (rows : List ℕ) (a b : ℕ) : ℕ → Type 0 where
   otherwise : (Chain rows a b → ⊥) → Drawn rows a b 0
 
 -- the same as a number that computes (`drawn-iff`)
-unfoldable pub drawn : List ℕ → ℕ → ℕ → ℕ
+unfoldable pub drawn : (rows : List ℕ) (a b : ℕ) → ℕ
 drawn rows a b = cond (direct rows a b) 2 (bit (contains rows a b))
 
 -- n × n bytes for n boxes: byte a × n + b is that of boxes a and b; places beyond them are as they were
-unfoldable pub filled : ℕ → List ℕ → List ℕ → List ℕ
+unfoldable pub filled : (n : ℕ) (rows s : List ℕ) → List ℕ
 filled n rows s = written (build (λ p. drawn rows (p / n) (p % n)) (n * n)) s
 
 -- 9 for the scratch of n boxes
-unfoldable pub scratchFault : ℕ → List ℕ → Option Refusal
+unfoldable pub scratchFault : (n : ℕ) (s : List ℕ) → Option Refusal
 scratchFault n s = roomFault 0 (length s) (n * n)
 
 -- the scratch is filled whenever checks 1 to 9 pass; else it is as it was
-abbrev pub scratchAfter : Option Refusal → List ℕ → List ℕ → List ℕ → List ℕ
+abbrev pub scratchAfter : (early : Option Refusal) (boxes rows s : List ℕ) → List ℕ
 scratchAfter early boxes rows s = unlessRefused early (filled (length boxes) rows s) s
 
 -- checks 1 to 7 of a picture, 9 for the scratch
-unfoldable pub earlyFault : Picture → List ℕ → Option Refusal
+unfoldable pub earlyFault : (pic : Picture) (s : List ℕ) → Option Refusal
 earlyFault pic s = orElse (tableFault pic) (scratchFault (length (pic .boxes)) s)
 
 -- and 10
-unfoldable pub pictureFault : Picture → List ℕ → Option Refusal
+unfoldable pub pictureFault : (pic : Picture) (s : List ℕ) → Option Refusal
 pictureFault pic s = orElse (earlyFault pic s) (loopFault (pic .boxes) (pic .rows))

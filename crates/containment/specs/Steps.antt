@@ -28,7 +28,7 @@ pub record Both (n : ℕ) (f : ℕ → ℕ → Bool) (t : List ℕ) : Type 0 whe
   pub up : (a b : ℕ) → b < n → has t (256 + b) a ≡ f a b
 
 -- the closure of the rows of n boxes: what each box is or contains, and what is it or contains it
-abbrev pub Closure : ℕ → List ℕ → List ℕ → Type 0
+abbrev pub Closure : (n : ℕ) (rows t : List ℕ) → Type 0
 Closure n rows t = Both n (around rows) t
 
 -- whatever t says of boxes below 256, u says with g added to it
@@ -37,7 +37,7 @@ pub record Turns (g : (ℕ → ℕ → Bool) → ℕ → ℕ → Bool) (t u : Li
   pub says : (f : ℕ → ℕ → Bool) → Both 256 f t → Both 256 (g f) u
 
 -- f a b, or a way through box k
-unfoldable pub through : (ℕ → ℕ → Bool) → ℕ → ℕ → ℕ → Bool
+unfoldable pub through : (f : ℕ → ℕ → Bool) (k a b : ℕ) → Bool
 through f k a b = f a b || f a k && f k b
 
 -- ways through boxes below k
@@ -51,25 +51,25 @@ selves f zero a b = f a b
 selves f (suc k) a b = selves f k a b || eqb a k && eqb b k
 
 -- 10: the lowest of n boxes whose set has it
-unfoldable pub ownFault : ℕ → List ℕ → Option Refusal
+unfoldable pub ownFault : (n : ℕ) (t : List ℕ) → Option Refusal
 ownFault n t = first (λ b. given (has t b b) (inItself b)) n
 
 -- no set of the first n has a number from n on
-abbrev pub Square : ℕ → List ℕ → Type 0
+abbrev pub Square : (n : ℕ) (t : List ℕ) → Type 0
 Square n t = (a b : ℕ) → a < n → T (has t a b) → b < n
 
 -- ---- bytes
 
 -- byte a × n + b is g a b
-abbrev pub Bytes : ℕ → (ℕ → ℕ → ℕ) → List ℕ → Type 0
+abbrev pub Bytes : (n : ℕ) (g : ℕ → ℕ → ℕ) (s : List ℕ) → Type 0
 Bytes n g s = (a b : ℕ) → a < n → b < n → getD s (a * n + b) 0 ≡ g a b
 
 -- byte a × n + b is 1 if f a b, else 0
-abbrev pub Cells : ℕ → (ℕ → ℕ → Bool) → List ℕ → Type 0
+abbrev pub Cells : (n : ℕ) (f : ℕ → ℕ → Bool) (s : List ℕ) → Type 0
 Cells n f s = Bytes n (λ a b. bit (f a b)) s
 
 -- v where a row has a as outer box and b as inner, else g a b
-unfoldable pub over : List ℕ → ℕ → (ℕ → ℕ → ℕ) → ℕ → ℕ → ℕ
+unfoldable pub over : (rows : List ℕ) (v : ℕ) (g : ℕ → ℕ → ℕ) (a b : ℕ) → ℕ
 over rows v g a b = cond (direct rows a b) v (g a b)
 
 -- t has as many bytes as s, and the same from m on
@@ -84,5 +84,5 @@ pub record Ones (p : ℕ → Bool) (at : ℕ) (s t : List ℕ) : Type 0 where
   pub before : (i : ℕ) → i < at → getD t i 0 ≡ getD s i 0
 
 -- there is a place for each of them
-abbrev pub Room : (ℕ → Bool) → ℕ → List ℕ → Type 0
+abbrev pub Room : (p : ℕ → Bool) (at : ℕ) (s : List ℕ) → Type 0
 Room p at s = (b : ℕ) → T (p b) → at + b < length s

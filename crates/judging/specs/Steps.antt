@@ -8,7 +8,7 @@ use Rattle.tables.specs.Rows.{arrowCount, arrowAt}
 use Rattle.meaning.specs.Meaning.{hasMode}
 
 -- arrows whose modes and signs are small
-abbrev pub Signed : List ℕ → Type 0
+abbrev pub Signed : (arrows : List ℕ) → Type 0
 Signed arrows = (k : ℕ) → k < arrowCount arrows → (arrowAt arrows k .mode ≤ 7) × (arrowAt arrows k .sign ≤ 1)
 
 -- an arrow below n has the mode and the sign

@@ -15,7 +15,7 @@ use Rattle.user_rows.specs.Steps.{Sorts}
 use Rattle.kept_rows.specs.declared.Kept.{Kept}
 
 -- each is the number of a box
-abbrev pub Boxes : List ℕ → Type 0
+abbrev pub Boxes : (numbers : List ℕ) → Type 0
 Boxes numbers = (i : ℕ) → i < length numbers → getD numbers i 0 < 256
 
 module _ (pic : Picture) (mode : ℕ) where
@@ -27,11 +27,11 @@ module _ (pic : Picture) (mode : ℕ) where
         || tailsBelow (pic .arrows) mode (arrowCount (pic .arrows)) positive t))
 
   -- the row is that of each user around whom the tails are the kept ones
-  abbrev pub Keeps : Kept → Type 0
+  abbrev pub Keeps : (k : Kept) → Type 0
   Keeps k = (u : ℕ) → u < length (pic .boxes) → TailsNear u (k .tails) → Sorts pic mode u (isIn (k .asked)) (k .row)
 
   -- and so are the numbers
-  abbrev pub KeepsNumbers : Kept → List ℕ → Type 0
+  abbrev pub KeepsNumbers : (k : Kept) (numbers : List ℕ) → Type 0
   KeepsNumbers k numbers =
       (u : ℕ) → u < length (pic .boxes) → TailsNear u (k .tails)
       → (f : ℕ) → T (isIn (k .asked) f) → getD numbers f 0 ≡ numberOf (answer pic mode u f)

@@ -19,7 +19,7 @@ use Rattle.list_meaning.specs.declared.Listed.{Listed}
 use Rattle.list_meaning.specs.declared.Listed.the-variants.{Written, Refused}
 
 -- n times 65,535
-unfoldable pub blanks : ℕ → List ℕ
+unfoldable pub blanks : (n : ℕ) → List ℕ
 blanks n = replicate n noArrow
 
 module _ (pic : Picture) (m : ℕ) where
@@ -28,7 +28,7 @@ module _ (pic : Picture) (m : ℕ) where
   listRoom = length (modeArrows (pic .arrows) m)
 
   -- checks 1 to 9, by the scratch, the list and the work bytes as they were lent
-  unfoldable pub listEarly : List ℕ → List ℕ → List ℕ → Option Refusal
+  unfoldable pub listEarly : (s out work : List ℕ) → Option Refusal
   listEarly s out work =
       orElse (tableFault pic)
       (orElse (modeFault m)
@@ -36,7 +36,7 @@ module _ (pic : Picture) (m : ℕ) where
       (orElse (roomFault 3 (length out) listRoom) (roomFault 4 (length work) (pairs pic)))))
 
   -- checks 1 to 12, of which 12 is about this mode: nothing is written to the list and the work bytes before all have passed
-  unfoldable pub listBefore : List ℕ → List ℕ → List ℕ → Option Refusal
+  unfoldable pub listBefore : (s out work : List ℕ) → Option Refusal
   listBefore s out work = orElse (listEarly s out work) (orElse (loopFault (pic .boxes) (pic .rows)) (unclearFault pic m))
 
   -- the answer, by the fault of the whole call, if any: how many places the list takes
@@ -50,13 +50,13 @@ module _ (pic : Picture) (m : ℕ) where
   placesOf (some r) = blanks listRoom
 
   -- the answer, and the list places and work bytes at the end, by the fault of checks 1 to 12, if any: that leaves both as they were
-  unfoldable pub listAnswer : Option Refusal → Listed
+  unfoldable pub listAnswer : (fault : Option Refusal) → Listed
   listAnswer fault = listedOf (orElse fault (orderFault pic m))
 
-  unfoldable pub listAfter : Option Refusal → List ℕ → List ℕ
+  unfoldable pub listAfter : (fault : Option Refusal) (out : List ℕ) → List ℕ
   listAfter fault out = unlessRefused fault (written (placesOf (orderFault pic m)) out) out
 
-  unfoldable pub workAfter : Option Refusal → List ℕ → List ℕ
+  unfoldable pub workAfter : (fault : Option Refusal) (work : List ℕ) → List ℕ
   workAfter fault work = unlessRefused fault (written (zeros (pairs pic)) work) work
 
   -- what is answered, and what the list places and the work bytes hold, once checks 1 to 10 have passed

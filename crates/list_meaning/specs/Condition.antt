@@ -22,33 +22,33 @@ use Rattle.list_meaning.specs.declared.Listed.the-variants.{Written, Ref
 
 module _ (pic : Picture) where
   -- (u, f) is a pair: an atomic user and an atomic file
-  abbrev pub Pair : ℕ → ℕ → Type 0
+  abbrev pub Pair : (u f : ℕ) → Type 0
   Pair u f = T (atom (pic .boxes) (pic .rows) user u) × T (atom (pic .boxes) (pic .rows) file f)
 
   -- arrow k reaches the pair (u, f)
-  abbrev pub arrowReaches : ℕ → ℕ → ℕ → Bool
+  abbrev pub arrowReaches : (u f k : ℕ) → Bool
   arrowReaches u f k = reaches pic (arrowAt (pic .arrows) k) u f
 
   -- the list reaches the pair (u, f): one of its arrows does
-  abbrev pub Reaches : List ℕ → ℕ → ℕ → Type 0
+  abbrev pub Reaches : (l : List ℕ) (u f : ℕ) → Type 0
   Reaches l u f = T (anyOf (arrowReaches u f) l)
 
   module _ (m : ℕ) where
     -- (u, f) gets the picture's answer from the first arrow in the list that reaches it, if there is one
-    abbrev pub GetsAnswer : List ℕ → ℕ → ℕ → Type 0
+    abbrev pub GetsAnswer : (l : List ℕ) (u f : ℕ) → Type 0
     GetsAnswer l u f = (k : ℕ) → firstOf (arrowReaches u f) l ≡ some k → T (gives (arrowAt (pic .arrows) k .sign) (answer pic m u f))
 
     -- a list of the mode's arrows is honest if each pair that it reaches gets the picture's answer from the first arrow in the list
     -- that reaches it
-    abbrev pub Honest : List ℕ → Type 0
+    abbrev pub Honest : (l : List ℕ) → Type 0
     Honest l = T (allOf (ofMode (pic .arrows) m) l) × ((u f : ℕ) → Pair u f → GetsAnswer l u f)
 
     -- (u, f) is granted in the mode
-    abbrev pub IsGranted : ℕ → ℕ → Type 0
+    abbrev pub IsGranted : (u f : ℕ) → Type 0
     IsGranted u f = T (isGranted (answer pic m u f))
 
     -- the list reaches every granted pair
-    abbrev pub ReachesAll : List ℕ → Type 0
+    abbrev pub ReachesAll : (l : List ℕ) → Type 0
     ReachesAll l = (u f : ℕ) → Pair u f → IsGranted u f → Reaches l u f
 
     -- some honest list reaches every granted pair
@@ -56,7 +56,7 @@ module _ (pic : Picture) where
     SomeReachesAll = (l : List ℕ) × Honest l × ReachesAll l
 
     -- some honest list reaches the pair (u, f)
-    abbrev pub SomeReaches : ℕ → ℕ → Type 0
+    abbrev pub SomeReaches : (u f : ℕ) → Type 0
     SomeReaches u f = (l : List ℕ) × Honest l × Reaches l u f
 
     -- (u, f) is the first granted pair, by user, then file, that no honest list whatever reaches

@@ -19,20 +19,20 @@ followed l (some k) = l ++ (k ∷ [])
 
 module _ (pic : Picture) where
   -- arrow k would be the first in the list to reach the pair at place p
-  unfoldable pub new : List ℕ → ℕ → ℕ → Bool
+  unfoldable pub new : (l : List ℕ) (k p : ℕ) → Bool
   new l k p = meets pic p k && not (reached pic l p)
 
   module _ (m : ℕ) where
     -- arrow k can follow while the list stays honest: each pair that it would be the first to reach gets the picture's answer
-    unfoldable pub fits : List ℕ → ℕ → Bool
+    unfoldable pub fits : (l : List ℕ) (k : ℕ) → Bool
     fits l k = every (λ p. implies (new l k p) (right pic m p k)) (pairs pic)
 
     -- it can follow, and reaches a pair that nothing earlier reached
-    unfoldable pub addable : List ℕ → ℕ → Bool
+    unfoldable pub addable : (l : List ℕ) (k : ℕ) → Bool
     addable l k = ofMode (pic .arrows) m k && (fits l k && not (every (λ p. not (new l k p)) (pairs pic)))
 
     -- the lowest-numbered such arrow
-    unfoldable pub next : List ℕ → Option ℕ
+    unfoldable pub next : (l : List ℕ) → Option ℕ
     next l = lowest (addable l) (arrowCount (pic .arrows))
 
     -- the first n places of the list: at each stands the next arrow, and the list ends when there is none
@@ -45,7 +45,7 @@ module _ (pic : Picture) where
     greedy = listTo (arrowCount (pic .arrows))
 
     -- the first granted pair that a list does not reach
-    unfoldable pub leftBy : List ℕ → Option Refusal
+    unfoldable pub leftBy : (l : List ℕ) → Option Refusal
     leftBy l =
         first (λ p. given (granted pic m p && not (reached pic l p)) (noOrder m (userAt pic p) (fileAt pic p)))
         (pairs pic)

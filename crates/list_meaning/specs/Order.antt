@@ -39,42 +39,42 @@ distinct [] = true
 distinct (k ∷ l) = not (anyOf (eqb k) l) && distinct l
 
 -- a pair gets granted from a positive arrow and denied from a negative one: an arrow of sign s gives the answer e
-unfoldable pub gives : ℕ → Entry → Bool
+unfoldable pub gives : (s : ℕ) (e : Entry) → Bool
 gives s e = cond (isGranted e) (eqb s positive) (eqb s negative && not (isUnclear e))
 
 -- k is the number of an arrow of mode m
-unfoldable pub ofMode : List ℕ → ℕ → ℕ → Bool
+unfoldable pub ofMode : (arrows : List ℕ) (m k : ℕ) → Bool
 ofMode arrows m k = ltb k (arrowCount arrows) && hasMode arrows m k
 
 module _ (pic : Picture) where
   -- arrow k reaches the pair at place p
-  unfoldable pub meets : ℕ → ℕ → Bool
+  unfoldable pub meets : (p k : ℕ) → Bool
   meets p k = reaches pic (arrowAt (pic .arrows) k) (userAt pic p) (fileAt pic p)
 
   -- the list reaches the pair at place p: one of its arrows does
-  unfoldable pub reached : List ℕ → ℕ → Bool
+  unfoldable pub reached : (l : List ℕ) (p : ℕ) → Bool
   reached l p = anyOf (meets p) l
 
   module _ (m : ℕ) where
     -- the pair at place p is granted in the mode
-    unfoldable pub granted : ℕ → Bool
+    unfoldable pub granted : (p : ℕ) → Bool
     granted p = isGranted (answerAt pic m p)
 
     -- the pair at place p gets the picture's answer from arrow k
-    unfoldable pub right : ℕ → ℕ → Bool
+    unfoldable pub right : (p k : ℕ) → Bool
     right p k = gives (arrowAt (pic .arrows) k .sign) (answerAt pic m p)
 
     -- a list of the mode's arrows is honest if each pair that it reaches gets the picture's answer from the first arrow in the list
     -- that reaches it
-    unfoldable pub honest : List ℕ → Bool
+    unfoldable pub honest : (l : List ℕ) → Bool
     honest l = allOf (ofMode (pic .arrows) m) l && every (λ p. passes (right p) (firstOf (meets p) l)) (pairs pic)
 
     -- the list reaches every granted pair
-    unfoldable pub coversAll : List ℕ → Bool
+    unfoldable pub coversAll : (l : List ℕ) → Bool
     coversAll l = every (λ p. implies (granted p) (reached l p)) (pairs pic)
 
     -- what holds of the list that is written: it is honest, has no arrow twice and reaches every granted pair
-    unfoldable pub qualifies : List ℕ → Bool
+    unfoldable pub qualifies : (l : List ℕ) → Bool
     qualifies l = honest l && (distinct l && coversAll l)
 
     -- (u, f) is the first granted pair, by user, then file, that no honest list whatever reaches

@@ -20,7 +20,7 @@ pub record Small (arrows : List ℕ) : Type 0 where
   pub sign-small : (k : ℕ) → k < arrowCount arrows → arrowAt arrows k .sign ≤ 1
 
 -- each number is that of an arrow
-abbrev pub Numbers : List ℕ → List ℕ → Type 0
+abbrev pub Numbers : (arrows own : List ℕ) → Type 0
 Numbers arrows own = (i : ℕ) → i < length own → getD own i 0 < arrowCount arrows
 
 -- ---- what the tables say
@@ -32,7 +32,7 @@ pub record SetsBelow (arrows : List ℕ) (mode k : ℕ) (heads : List ℕ) : Typ
   pub tails-are : (sign t : ℕ) → sign ≤ 1 → has heads (512 + sign) t ≡ tailsBelow arrows mode k sign t
 
 -- of all
-abbrev pub ModeSets : List ℕ → ℕ → List ℕ → Type 0
+abbrev pub ModeSets : (arrows : List ℕ) (mode : ℕ) (heads : List ℕ) → Type 0
 ModeSets arrows mode heads = SetsBelow arrows mode (arrowCount arrows) heads
 
 -- an arrow was added to the sets, unless its head was there

@@ -45,7 +45,7 @@ pub record Run (size capacity rows : ℕ) (w : Walk) (count at len : ℕ) : Type
   pub room : at + size * count ≤ len
 
 -- the byte of the file at which the walk's block begins
-abbrev pub blockByte : Kind → Walk → ℕ
+abbrev pub blockByte : (kind : Kind) (w : Walk) → ℕ
 blockByte kind w = 512 * (kind .first + w .block)
 
 -- the walk stands at the first place of a block that a file of so many bytes has, and as many rows follow as the block has records

@@ -11,10 +11,10 @@ use Rattle.blocks.specs.Fnv.{fnv1a}
 use Rattle.blocks.specs.Blocks.{byKind, capacity, recordSize, joined}
 
 -- a number of 16 and one of 32 bits as bytes, little-endian
-unfoldable pub bytes16 : ℕ → List ℕ
+unfoldable pub bytes16 : (x : ℕ) → List ℕ
 bytes16 x = x % 256 ∷ x / 256 ∷ []
 
-unfoldable pub bytes32 : ℕ → List ℕ
+unfoldable pub bytes32 : (x : ℕ) → List ℕ
 bytes32 x = bytes16 (x % 65536) ++ bytes16 (x / 65536)
 
 -- row i of each table as a record: 1 byte; two 16-bit numbers; two 16-bit numbers, mode, sign. The low byte is all of a mode and of a
@@ -45,7 +45,7 @@ blockOf kind number count records =
     covered kind number count records ++ bytes32 (fnv1a (covered kind number count records))
 
 -- the smaller of two
-unfoldable pub least : ℕ → ℕ → ℕ
+unfoldable pub least : (a b : ℕ) → ℕ
 least a b = cond (ltb a b) a b
 
 -- how many blocks so many rows fill, the last one full or not

@@ -16,7 +16,7 @@ GotMost most (Bytes n) = n ≤ most
 GotMost most Failed = Unit
 
 -- unless a write failed, so many lines went out
-abbrev pub SentAll : ℕ → Sent → Type 0
+abbrev pub SentAll : (count : ℕ) (s : Sent) → Type 0
 SentAll count s = s .failed ≡ false → s .lines ≡ count
 
 -- the rows went out up to a place: all of them, unless a write failed

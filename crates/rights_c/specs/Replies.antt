@@ -17,15 +17,15 @@ use Rattle.packing.specs.declared.Packing.the-variants.{Packed, Refused as Pack
 use Rattle.answers.specs.declared.EntryReply.{EntryReply}
 use Rattle.rights_c.specs.declared.Reply.{Reply}
 
-abbrev pub reply : ℕ → ℕ → ℕ → ℕ → ℕ → Reply
+abbrev pub reply : (kind number a b c : ℕ) → Reply
 reply kind number a b c = record { kind = kind; number = number; a = a; b = b; c = c }
 
 -- kind 4, refused: the refusal's number and its three numbers
-abbrev pub refusedReply : Refusal → Reply
+abbrev pub refusedReply : (r : Refusal) → Reply
 refusedReply r = reply 4 (r .number) (r .first) (r .second) (r .third)
 
 -- kind 5, done
-abbrev pub doneReply : ℕ → ℕ → ℕ → Reply
+abbrev pub doneReply : (a b c : ℕ) → Reply
 doneReply a b c = reply 5 0 a b c
 
 -- judge and matrix: done, or refused

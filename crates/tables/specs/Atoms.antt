@@ -14,13 +14,13 @@ outer (x ∷ []) b = false
 outer (x ∷ y ∷ rows) b = eqb x b || outer rows b
 
 -- b is an atomic box of side s: no user group or folder, and the outer one of no row
-unfoldable pub atom : List ℕ → List ℕ → ℕ → ℕ → Bool
+unfoldable pub atom : (boxes rows : List ℕ) (s b : ℕ) → Bool
 atom boxes rows s b = onSide boxes s b && not (isGroup (getD boxes b 0)) && not (outer rows b)
 
 -- the atomic boxes of side s, by rising number
-unfoldable pub atoms : List ℕ → List ℕ → ℕ → List ℕ
+unfoldable pub atoms : (boxes rows : List ℕ) (s : ℕ) → List ℕ
 atoms boxes rows s = select (atom boxes rows s) (length boxes)
 
 -- how many pairs of an atomic user and an atomic file there are
-unfoldable pub pairCount : List ℕ → List ℕ → ℕ
+unfoldable pub pairCount : (boxes rows : List ℕ) → ℕ
 pairCount boxes rows = length (atoms boxes rows user) * length (atoms boxes rows file)

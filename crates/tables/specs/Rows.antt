@@ -14,7 +14,7 @@ pub record Picture : Type 0 where
   pub rows : List ℕ
   pub arrows : List ℕ
 
-abbrev pub picture : List ℕ → List ℕ → List ℕ → Picture
+abbrev pub picture : (boxes rows arrows : List ℕ) → Picture
 picture boxes rows arrows = record { boxes = boxes; rows = rows; arrows = arrows }
 
 -- the two sides, which are bytes of boxes too
@@ -32,22 +32,22 @@ abbrev pub folder : ℕ
 folder = 3
 
 -- the side that a box's byte puts it on: 2 counts as user, 3 as file
-unfoldable pub sideOf : ℕ → ℕ
+unfoldable pub sideOf : (byte : ℕ) → ℕ
 sideOf byte = byte % 2
 
 -- the byte is that of a user group or a folder; one above 3 is refused
-unfoldable pub isGroup : ℕ → Bool
+unfoldable pub isGroup : (byte : ℕ) → Bool
 isGroup byte = leb userGroup byte
 
 -- b is a box of side s
-unfoldable pub onSide : List ℕ → ℕ → ℕ → Bool
+unfoldable pub onSide : (boxes : List ℕ) (s b : ℕ) → Bool
 onSide boxes s b = ltb b (length boxes) && eqb (sideOf (getD boxes b 0)) s
 
 -- containments: outer box, then inner box
-abbrev pub rowCount : List ℕ → ℕ
+abbrev pub rowCount : (rows : List ℕ) → ℕ
 rowCount rows = length rows / 2
 
-abbrev pub rowAt : List ℕ → ℕ → Containment
+abbrev pub rowAt : (rows : List ℕ) (k : ℕ) → Containment
 rowAt rows k = record { outer = getD rows (2 * k) 0; inner = getD rows (2 * k + 1) 0 }
 
 -- the number that stands where there is no arrow
@@ -55,10 +55,10 @@ abbrev pub noArrow : ℕ
 noArrow = 65535
 
 -- arrows: tail, head, mode, sign
-abbrev pub arrowCount : List ℕ → ℕ
+abbrev pub arrowCount : (arrows : List ℕ) → ℕ
 arrowCount arrows = length arrows / 4
 
-abbrev pub arrowAt : List ℕ → ℕ → Arrow
+abbrev pub arrowAt : (arrows : List ℕ) (k : ℕ) → Arrow
 arrowAt arrows k = record {
   tail = getD arrows (4 * k) 0;
   head = getD arrows (4 * k + 1) 0;

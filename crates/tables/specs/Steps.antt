@@ -30,20 +30,20 @@ pub record SoundArrows (boxes arrows : List ℕ) : Type 0 where
   pub sign-most : (k : ℕ) → k < arrowCount arrows → arrowAt arrows k .sign ≤ 1
 
 -- the test of a row by the number of the check, 4 to 7, and how many rows it is for
-abbrev pub fails : ℕ → List ℕ → List ℕ → ℕ → Bool
+abbrev pub fails : (check : ℕ) (boxes table : List ℕ) (k : ℕ) → Bool
 fails check boxes table k =
     cond (eqb check 4) (namesNoBox boxes (rowAt table k))
     (cond (eqb check 5) (acrossSides boxes (rowAt table k))
     (cond (eqb check 6) (wrongEnds boxes (arrowAt table k))
     (wrongMode (arrowAt table k))))
 
-abbrev pub rowsFor : ℕ → List ℕ → ℕ
+abbrev pub rowsFor : (check : ℕ) (table : List ℕ) → ℕ
 rowsFor check table = cond (ltb check 6) (rowCount table) (arrowCount table)
 
 -- b is a box of the side and no group, and its mark is 0
-unfoldable pub unmarked : List ℕ → ℕ → List ℕ → ℕ → Bool
+unfoldable pub unmarked : (boxes : List ℕ) (side : ℕ) (marks : List ℕ) (b : ℕ) → Bool
 unmarked boxes side marks b = onSide boxes side b && not (isGroup (getD boxes b 0)) && eqb (getD marks b 0) 0
 
 -- byte b is 1 if f b, else 0: how outer boxes are marked while atomic ones are looked for
-abbrev pub Marks : (ℕ → Bool) → List ℕ → Type 0
+abbrev pub Marks : (f : ℕ → Bool) (marks : List ℕ) → Type 0
 Marks f marks = (b : ℕ) → b < length marks → getD marks b 0 ≡ bit (f b)
