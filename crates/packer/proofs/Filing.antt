@@ -18,7 +18,7 @@ use Rattle.tables.proofs.Verdicts.{passed, refused}
 use Rattle.blocks.proofs.MadeBlocks.{capacities, record-sizes}
 use Rattle.packing.specs.Packed.{blocksFor, blocksOf, kindBytes, packed}
 use Rattle.packing.specs.Packs.{packFault, packAnswer, fileAfter}
-use Rattle.packer.specs.Walks.{boxKind, containmentKind, arrowKind, OfKind, BlocksFit}
+use Rattle.packer.specs.Kinds.{boxKind, containmentKind, arrowKind, OfKind, BlocksFit}
 use Rattle.packing.specs.declared.Packing.the-variants.{Packed, Refused}
 use Rattle.packing.proofs.PackedLaws.{by-kinds}
 use Rattle.packing.proofs.CallLaws.{fault-of-tables, fault-of-room, pack-refused, pack-done}

@@ -1,8 +1,5 @@
 -- Laws for the proofs of this crate and of the crates above it.
-pub mod Putting
 pub mod Taking
-pub mod Walking
-pub mod RecordLaws
+pub mod KindLaws
 pub mod Writing
 pub mod Filing
-pub mod Standing

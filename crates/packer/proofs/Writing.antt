@@ -14,14 +14,15 @@ use Rattle.blocks.specs.Blocks.{capacity, recordSize, joined}
 use Rattle.blocks.proofs.JoinedLaws.{joined-none}
 use Rattle.blocks.proofs.Placing.{joined-length, put-more}
 use Rattle.packing.specs.Packed.{bytes32, headBytes, covered, blockOf, least, recordBytes, blocksOf, countIn, kindBlock}
-use Rattle.packer.specs.Walks.{OfKind, walkAt, blockByte, Begins, BlocksFit}
+use Rattle.block_parts.specs.Walks.{walkAt}
+use Rattle.packer.specs.Kinds.{OfKind, blockByte, Begins, BlocksFit}
 use Rattle.packer.specs.declared.Kind.{Kind}
-use Rattle.packer.specs.declared.Walk.{Walk}
+use Rattle.block_parts.specs.declared.Walk.{Walk}
 use Rattle.packing.proofs.PackedLaws.{covered-is, block-of, count-in, kind-block}
 use Rattle.packing.proofs.Lengths.{least-most, capacity-some, head-length, record-length, covered-length, kind-block-length}
 use Rattle.packing.proofs.Regular.{block-begun, full-but-last}
-use Rattle.packer.proofs.Putting.{chain, stored}
-use Rattle.packer.proofs.Walking.{walk-begun}
+use Rattle.block_parts.proofs.Putting.{chain, stored}
+use Rattle.block_parts.proofs.Walking.{walk-begun}
 
 module _ (l₀ : List ℕ) {pic : Picture} {kind : Kind} {w : Walk} {count : ℕ}
     (asked : OfKind pic kind × Begins kind (length l₀) w count) where

@@ -1,28 +1,26 @@
 // Packs a picture into a block file: blocks of each kind full but the last, none empty but the one of a picture without boxes.
-mod put;
-mod records;
-
 ghost use mathlib.Core.Path.{_≡_};
-ghost use Prim.Native.Nat.{ℕ, _+_, _*_, _^_, _<_};
+ghost use Prim.Native.Nat.{_+_, _*_, _^_, _<_};
 ghost use lib.ListN.{length};
 ghost use lib.Seq.{sets};
 ghost use Rattle.tables.specs.Rows.{picture};
 ghost use Rattle.blocks.specs.Blocks.{joined};
 ghost use Rattle.packing.specs.Packed.{blockOf, least, blocksFor, recordBytes, blocksOf, kindBytes};
 ghost use Rattle.packing.specs.Packs.{packAnswer, fileAfter};
-ghost use Rattle.packer.specs.Walks.{boxKind, containmentKind, arrowKind, OfKind, walkAt};
-ghost use Rattle.packer.specs.Walks.{blockByte, Begins, BlocksFit};
+ghost use Rattle.block_parts.specs.Walks.{walkAt};
+ghost use Rattle.packer.specs.Kinds.{boxKind, containmentKind, arrowKind, OfKind, blockByte, Begins, BlocksFit};
 use base::narrow;
+use block_parts::Walk;
+use block_parts::put_arrows;
+use block_parts::put_boxes;
+use block_parts::put_check;
+use block_parts::put_containments;
+use block_parts::put_head;
+use block_parts::put_zeros;
 use blocks::ArrowRecord;
 use blocks::BoxRecord;
 use blocks::ContainmentRecord;
 use packing::Packing;
-use put::put_check;
-use put::put_head;
-use put::put_zeros;
-use records::put_arrows;
-use records::put_boxes;
-use records::put_containments;
 use tables::Verdict;
 use tables::check_room;
 
@@ -72,47 +70,6 @@ impl Kind {
             capacity: ArrowRecord::CAPACITY,
             rows,
             first,
-        }
-    }
-}
-
-// A walk over the rows of a kind: a row, its block counted from the kind's first one, and its place in the block.
-struct Walk {
-    row: usize,
-    block: usize,
-    place: usize,
-}
-
-impl Walk {
-    // At the first row.
-    fn start() -> Self
-        ensures { λ r. ⌜ ((capacity : ℕ) → r ≡ walkAt capacity 0) ⌝ }
-    {
-        Self {
-            row: 0,
-            block: 0,
-            place: 0,
-        }
-    }
-
-    // At the next row: the next place, or the first place of the next block.
-    fn next(self, capacity: usize) -> Self
-        requires { ⌜ (0 < capacity) × (self .row < 2 ^ 32) × (self ≡ walkAt capacity (self .row)) ⌝ }
-        ensures { λ r. ⌜ r ≡ walkAt capacity (self .row + 1) ⌝ }
-    {
-        let row = self.row + 1;
-        let place = self.place + 1;
-        if place == capacity {
-            return Self {
-                row,
-                block: self.block + 1,
-                place: 0,
-            };
-        }
-        Self {
-            row,
-            block: self.block,
-            place,
         }
     }
 }

@@ -1,5 +1,5 @@
 -- Head, records, filler and check, one behind the other (`block-made`). Assumes nothing.
-use Rattle.packer.proofs.RecordLaws.{used-most, begins-still}
+use Rattle.packer.proofs.KindLaws.{used-most, begins-still}
 use Rattle.packer.proofs.Writing.{block-made}
 use native.Mathlib.Omega.{arith}
 use borrow.Author.Needs.{needs}

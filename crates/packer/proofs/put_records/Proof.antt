@@ -1,5 +1,5 @@
 -- Each kind's loop, by the kind's number. Assumes nothing.
-use Rattle.packer.proofs.RecordLaws.{boxes-run, containments-run, arrows-run, boxes-done, containments-done, arrows-done}
+use Rattle.packer.proofs.KindLaws.{boxes-run, containments-run, arrows-run, boxes-done, containments-done, arrows-done}
 use borrow.Author.Needs.{needs}
 use Rattle.packer.proofs.put_records.Statement.{statement}
 use Rattle.packer.proofs.put_records.Tie as tie
