@@ -1,5 +1,5 @@
-// How the list of a mode is found, on the sets of `stands`: arrow after arrow, by how each stands to the list so far. `closure` is the table
-// of containment, `own` the mode's arrows without repeats: a repeat never reaches anything new.
+// How the list of a mode is found, on the sets of `stands`: arrow after arrow, by how each stands to the list so far. `closure` is the
+// table of containment, `own` the mode's arrows without repeats: a repeat never reaches anything new.
 mod stands;
 
 ghost use mathlib.Core.Path.{_≡_};
