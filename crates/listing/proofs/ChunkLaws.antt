@@ -8,14 +8,15 @@ use Rattle.tables.specs.Rows.{Picture}
 use Rattle.tables.specs.Refusals.{either}
 use Rattle.meaning.specs.Pairs.{users, files}
 use Rattle.blocks.proofs.JoinedLaws.{joined-none}
-use Rattle.listing.specs.Lines.{lineText}
+use Rattle.lines.specs.Lines.{lineText}
 use Rattle.listing.specs.Numbered.{usedModes, lineRows, lineAt, linesFrom}
-use Rattle.listing.specs.Steps.{Put, Ready, Stands, RowPut, Filled, rowText}
-use Rattle.listing.specs.declared.Line.{Line}
+use Rattle.lines.specs.Steps.{Put}
+use Rattle.listing.specs.Steps.{Ready, Stands, RowPut, Filled, rowText}
+use Rattle.lines.specs.declared.Line.{Line}
 use Rattle.listing.specs.declared.Place.{Place}
 use Rattle.listing.specs.declared.Told.{Told}
 use Rattle.listing.proofs.LineLaws.{row-lines}
-use Rattle.listing.proofs.PutLaws.{put-none, put-more, at-start}
+use Rattle.lines.proofs.PutLaws.{put-none, put-more, at-start}
 use Rattle.listing.proofs.StandLaws.{mode-is, stands-next}
 use Rattle.listing.proofs.WholeLaws.{chunks-join}
 

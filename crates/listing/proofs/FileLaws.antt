@@ -23,15 +23,16 @@ use Rattle.blocks.specs.declared.Counts.{Counts as Three}
 use Rattle.blocks.specs.declared.Reading.the-variants.{Tables, Refused as Stops}
 use Rattle.blocks.proofs.Made.{joined-same}
 use Rattle.blocks.proofs.Rooms.{read-stopped, read-tables}
-use Rattle.listing.specs.Text.{text}
-use Rattle.listing.specs.Lines.{lineText}
+use Rattle.lines.specs.Text.{text}
+use Rattle.lines.specs.Lines.{lineText}
 use Rattle.listing.specs.Listing.{countsLine, pictureListing}
 use Rattle.listing.specs.Files.{filePicture, readRefusal, pictureRefusal, fileRefusal, refusedOr, fileListing}
 use Rattle.listing.specs.Numbered.{lineCount, lineAt, lineRows, linesFrom, stoppedOr, oneOr, fileLineCount, fileLine}
-use Rattle.listing.specs.Steps.{Holds, Stands, Filled, Read, Good}
+use Rattle.lines.specs.Steps.{Holds}
+use Rattle.listing.specs.Steps.{Stands, Filled, Read, Good}
 use Rattle.listing.specs.Cases.{case-B}
-use Rattle.listing.specs.declared.Line.{Line}
-use Rattle.listing.specs.declared.Line.the-variants.{Counts, Last, Stopped}
+use Rattle.lines.specs.declared.Line.{Line}
+use Rattle.lines.specs.declared.Line.the-variants.{Counts, Last, Stopped}
 use Rattle.listing.specs.declared.Place.{Place}
 use Rattle.listing.specs.declared.Chunk.{Chunk}
 use Rattle.listing.proofs.WholeLaws.{joined-one, picture-whole, last-is}

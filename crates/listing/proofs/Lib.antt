@@ -1,6 +1,4 @@
 -- Laws for the proofs of this crate and of the crates above it.
-mod PutLaws
-mod DecimalLaws
 mod ModeLaws
 mod RowLaws
 mod AskLaws

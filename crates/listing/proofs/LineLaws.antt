@@ -21,12 +21,12 @@ use Rattle.meaning.specs.Pairs.{users, files, pairs, userAt, fileAt, anyUnclear
 use Rattle.meaning.proofs.ModeLaws.{answer-at}
 use Rattle.meaning.proofs.PairLaws.{place-in, pairs-are, user-read, file-read}
 use Rattle.blocks.proofs.Made.{joined-same}
-use Rattle.listing.specs.Lines.{lineText}
+use Rattle.lines.specs.Lines.{lineText}
 use Rattle.listing.specs.Listing.{pairLine}
 use Rattle.listing.specs.Numbered.{usedModes, pairLines, modeOf, pairOf, unclearIn, unclearOf, seenBefore}
 use Rattle.listing.specs.Numbered.{lineAt, lineRows, rowStart, linesFrom}
 use Rattle.listing.specs.Steps.{userLine, userUnclear, rowText}
-use Rattle.listing.specs.declared.Line.the-variants.{Last}
+use Rattle.lines.specs.declared.Line.the-variants.{Last}
 
 -- a search in two parts
 first-add : {A : Type 0} (g : ℕ → Option A) (a n : ℕ) → first g (a + n) ≡ orElse (first g a) (first (λ k. g (a + k)) n)

@@ -31,10 +31,11 @@ use Rattle.boxsets.proofs.LowLaws.{low-in, low-least, none-in}
 use Rattle.boxsets.proofs.WalkLaws.{low-most}
 use Rattle.blocks.specs.Blocks.{joined}
 use Rattle.blocks.proofs.JoinedLaws.{joined-none, joined-more}
-use Rattle.listing.specs.Lines.{lineText}
-use Rattle.listing.specs.Steps.{Put, userLine, userUnclear, rowText}
-use Rattle.listing.specs.declared.Line.the-variants.{Pair}
-use Rattle.listing.proofs.PutLaws.{chain}
+use Rattle.lines.specs.Lines.{lineText}
+use Rattle.lines.specs.Steps.{Put}
+use Rattle.listing.specs.Steps.{userLine, userUnclear, rowText}
+use Rattle.lines.specs.declared.Line.the-variants.{Pair}
+use Rattle.lines.proofs.PutLaws.{chain}
 
 -- ---- lines
 

@@ -19,14 +19,14 @@ use Rattle.meaning.proofs.ClearLaws.{any-unclear, unused-clear}
 use Rattle.blocks.specs.Blocks.{joined}
 use Rattle.blocks.proofs.Made.{joined-same}
 use Rattle.blocks.proofs.JoinedLaws.{joined-none, joined-more, joined-fold, append-chains}
-use Rattle.listing.specs.Lines.{lineText}
+use Rattle.lines.specs.Lines.{lineText}
 use Rattle.listing.specs.Listing.{used, pairLine, modeText, pictureListing}
 use Rattle.listing.specs.Numbered.{usedModes, pairLines, modeOf, pairOf, unclearIn, unclearOf, seenBefore}
 use Rattle.listing.specs.Numbered.{lineCount, lineAt, lineRows, rowStart, linesFrom}
 use Rattle.listing.specs.Steps.{Stands}
-use Rattle.listing.specs.declared.Line.{Line}
+use Rattle.lines.specs.declared.Line.{Line}
 use Rattle.listing.specs.declared.Place.{Place}
-use Rattle.listing.specs.declared.Line.the-variants.{Last}
+use Rattle.lines.specs.declared.Line.the-variants.{Last}
 use Rattle.listing.proofs.LineLaws.{line-pair, line-last, rows-lines}
 
 joined-add : (f : ℕ → List ℕ) (a n : ℕ) → joined f (a + n) ≡ joined f a ++ joined (λ p. f (a + p)) n

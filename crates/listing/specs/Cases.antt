@@ -18,8 +18,8 @@ use Rattle.meaning.specs.Cases.{picture-H, picture-I, picture-J, emptied-group,
 use Rattle.meaning.specs.Meaning.{hasMode, modeArrows, reaches, nests, level, overrides, settle, hits, certifies, answer, isUnclear}
 use Rattle.meaning.specs.Pairs.{userAt, fileAt, firstPair, answerAt, unclearFault, anyUnclear}
 use Rattle.blocks.specs.Blocks.{joined}
-use Rattle.listing.specs.Text.{text, digit, decimalTo, decimal, line}
-use Rattle.listing.specs.Lines.{answerFields, threeFields, lineText}
+use Rattle.lines.specs.Text.{text, digit, decimalTo, decimal, line}
+use Rattle.lines.specs.Lines.{answerFields, threeFields, lineText}
 use Rattle.listing.specs.Listing.{used, countsLine, pairLine, modeText, pictureListing}
 use Rattle.listing.specs.Files.{refusedOr}
 

@@ -9,9 +9,9 @@ use Rattle.tables.specs.declared.Refusal.{Refusal}
 use Rattle.containment.specs.Scratch.{pictureFault}
 use Rattle.blocks.specs.Files.{boxesOf, containmentsOf, arrowsOf}
 use Rattle.blocks.specs.Reads.{readFault}
-use Rattle.listing.specs.Lines.{lineText}
+use Rattle.lines.specs.Lines.{lineText}
 use Rattle.listing.specs.Listing.{pictureListing}
-use Rattle.listing.specs.declared.Line.the-variants.{Stopped}
+use Rattle.lines.specs.declared.Line.the-variants.{Stopped}
 
 -- the picture that the file says
 unfoldable pub filePicture : List ℕ → Picture

@@ -1,5 +1,3 @@
-pub mod Text
-pub mod Lines
 pub mod Listing
 pub mod Files
 pub mod Numbered

@@ -9,9 +9,9 @@ use Rattle.tables.specs.Refusals.{verdictOf}
 use Rattle.meaning.specs.Meaning.{modeArrows}
 use Rattle.meaning.specs.Pairs.{pairs, userAt, fileAt, answerAt, anyUnclear}
 use Rattle.blocks.specs.Blocks.{joined}
-use Rattle.listing.specs.Lines.{lineText}
-use Rattle.listing.specs.declared.Line.{Line}
-use Rattle.listing.specs.declared.Line.the-variants.{Counts, Pair, Last}
+use Rattle.lines.specs.Lines.{lineText}
+use Rattle.lines.specs.declared.Line.{Line}
+use Rattle.lines.specs.declared.Line.the-variants.{Counts, Pair, Last}
 
 -- the mode has an arrow
 unfoldable pub used : List ℕ → ℕ → Bool

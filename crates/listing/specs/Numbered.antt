@@ -14,11 +14,11 @@ use Rattle.tables.specs.declared.Verdict.{Verdict}
 use Rattle.meaning.specs.Meaning.{isUnclear}
 use Rattle.meaning.specs.Pairs.{users, files, pairs, userAt, fileAt, answerAt, anyUnclear}
 use Rattle.blocks.specs.Blocks.{joined}
-use Rattle.listing.specs.Lines.{lineText}
+use Rattle.lines.specs.Lines.{lineText}
 use Rattle.listing.specs.Listing.{used, countsLine, pairLine}
 use Rattle.listing.specs.Files.{filePicture, fileRefusal}
-use Rattle.listing.specs.declared.Line.{Line}
-use Rattle.listing.specs.declared.Line.the-variants.{Last, Stopped}
+use Rattle.lines.specs.declared.Line.{Line}
+use Rattle.lines.specs.declared.Line.the-variants.{Last, Stopped}
 
 -- the modes with an arrow, rising
 unfoldable pub usedModes : List ℕ → List ℕ

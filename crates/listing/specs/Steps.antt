@@ -4,9 +4,6 @@ use mathlib.Core.List.{List}
 use mathlib.Core.Option.{Option, none}
 use Prim.Native.Nat.{ℕ, _+_, _*_, _-_, _<_, _≤_}
 use lib.ListN.{length, getD, take}
-use lib.Seq.{sets}
-use Rattle.io.specs.Counts.{Counts}
-use Rattle.base.specs.Buffers.{written}
 use Rattle.base.specs.Search.{first, given}
 use Rattle.tables.specs.Rows.{Picture}
 use Rattle.tables.specs.Refusals.{unclearPair, verdictOf}
@@ -16,29 +13,15 @@ use Rattle.meaning.specs.Pairs.{users, files}
 use Rattle.mode_sets.specs.Steps.{Small}
 use Rattle.certificates.specs.Steps.{Drawn}
 use Rattle.blocks.specs.Blocks.{joined}
-use Rattle.listing.specs.Lines.{lineText}
+use Rattle.lines.specs.Lines.{lineText}
+use Rattle.lines.specs.Steps.{Put, Holds}
 use Rattle.listing.specs.Files.{filePicture, readRefusal, fileRefusal}
 use Rattle.listing.specs.Numbered.{usedModes, lineRows, rowStart, seenBefore, lineAt, linesFrom}
-use Rattle.listing.specs.declared.Line.{Line}
-use Rattle.listing.specs.declared.Line.the-variants.{Pair}
+use Rattle.lines.specs.declared.Line.{Line}
+use Rattle.lines.specs.declared.Line.the-variants.{Pair}
 use Rattle.listing.specs.declared.Place.{Place}
 use Rattle.listing.specs.declared.Told.{Told}
 use Rattle.listing.specs.declared.Chunk.{Chunk}
-
--- ---- text in a buffer
-
--- the bytes from a place on are the text, of at most so many; all others are as they were; next is the place after the text
-pub record Put (old : List ℕ) (at : ℕ) (bytes : List ℕ) (most : ℕ) (new : List ℕ) (next : ℕ) : Type 0 where
-  pub placed : new ≡ sets old at bytes
-  pub ends : next ≡ at + length bytes
-  pub short : length bytes ≤ most
-  pub same : length new ≡ length old
-
--- so many bytes at the start of the buffer are the text
-pub record Holds (text old new : List ℕ) (count : ℕ) : Type 0 where
-  pub bytes-are : count ≡ length text
-  pub written-are : new ≡ written text old
-  pub counted : Counts count new
 
 -- ---- what keeps every index in range
 

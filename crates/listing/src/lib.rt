@@ -1,6 +1,5 @@
 // The program's listing as bytes (document 01, "The program's listing"): which lines there are, and how they are written into a
 // buffer that the caller lends.
-mod put;
 mod row;
 
 ghost use mathlib.Core.Path.{_≡_};
@@ -9,33 +8,17 @@ ghost use lib.ListN.{length};
 ghost use Rattle.base.specs.Buffers.{written};
 ghost use Rattle.tables.specs.Refusals.{either};
 ghost use Rattle.tables.specs.Rows.{Picture};
-ghost use Rattle.listing.specs.Lines.{lineText};
+ghost use Rattle.lines.specs.Lines.{lineText};
 ghost use Rattle.listing.specs.Listing.{used};
 ghost use Rattle.listing.specs.Numbered.{usedModes};
-ghost use Rattle.listing.specs.Steps.{Holds, Sized, Fits, Ready, Stands, Filled};
-use meaning::Entry;
-use put::put_line;
+ghost use Rattle.lines.specs.Steps.{Holds};
+ghost use Rattle.listing.specs.Steps.{Sized, Fits, Ready, Stands, Filled};
+use lines::Line;
+use lines::put_line;
 use row::put_row;
 use tables::Arrow;
 use tables::Refusal;
 use tables::Verdict;
-
-// A line of the listing.
-pub enum Line {
-    // The row counts of the boxes, the containments and the arrows.
-    Counts(usize, usize, usize),
-    // The mode, user, file and answer of a pair.
-    Pair(u16, u16, u16, Entry),
-    // The last line: clear, or the first unclear pair.
-    Last(Verdict),
-    // The only line of a refused file or picture.
-    Stopped(Refusal),
-}
-
-impl Line {
-    // No line has more bytes: three numbers, " ambig" and two numbers more, with spaces, and the line's end.
-    pub const MOST: usize = 111;
-}
 
 // ---- The lines that are no pair lines, each alone at the start of the buffer: its length.
 

@@ -11,7 +11,7 @@ ghost use Rattle.listing.specs.Files.{filePicture, fileRefusal};
 ghost use Rattle.listing.specs.Listing.{countsLine};
 ghost use Rattle.listing.specs.Numbered.{fileLineCount, fileLine, linesFrom};
 ghost use Rattle.listing.specs.Steps.{Ready, Read, Good};
-ghost use Rattle.listing.specs.declared.Line.the-variants.{Counts as CountsLine};
+ghost use Rattle.lines.specs.declared.Line.the-variants.{Counts as CountsLine};
 ghost use Rattle.rights.specs.Steps.{GotMost, SentAll, RowsSent};
 use blocks::Counts;
 use blocks::Reading;

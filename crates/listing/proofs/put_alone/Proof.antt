@@ -1,6 +1,6 @@
 -- `listing::put_alone` meets its contract: the line is put at the start. Assumes nothing.
 use native.Mathlib.Omega.{arith}
-use Rattle.listing.proofs.PutLaws.{at-start}
+use Rattle.lines.proofs.PutLaws.{at-start}
 use borrow.Author.Needs.{needs}
 use Rattle.listing.proofs.put_alone.Statement.{statement}
 use Rattle.listing.proofs.put_alone.Tie as tie

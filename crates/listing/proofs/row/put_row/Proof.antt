@@ -10,7 +10,8 @@ use Rattle.boxsets.specs.Sets.{among}
 use Rattle.boxsets.proofs.AmongLaws.{among-is}
 use Rattle.certificates.specs.Steps.{Drawn}
 use Rattle.user_rows.specs.Steps.{Sorts}
-use Rattle.listing.specs.Steps.{Put, rowText}
+use Rattle.lines.specs.Steps.{Put}
+use Rattle.listing.specs.Steps.{rowText}
 use Rattle.listing.proofs.StandLaws.{atom-in}
 use Rattle.listing.proofs.RowLaws.{row-none, line-more, row-unclear}
 use borrow.Author.Needs.{needs}

@@ -1,9 +1,9 @@
--- `listing::put::put_field` meets its contract: a space, then the number. Assumes nothing.
-use Rattle.listing.proofs.PutLaws.{chain}
-use Rattle.listing.specs.Text.{text}
+-- `lines::put_field` meets its contract: a space, then the number. Assumes nothing.
+use Rattle.lines.proofs.PutLaws.{chain}
+use Rattle.lines.specs.Text.{text}
 use borrow.Author.Needs.{needs}
-use Rattle.listing.proofs.put.put_field.Statement.{statement}
-use Rattle.listing.proofs.put.put_field.Tie as tie
+use Rattle.lines.proofs.put_field.Statement.{statement}
+use Rattle.lines.proofs.put_field.Tie as tie
 
 returns : tie.Need-returns
 unfolding text

@@ -1,9 +1,9 @@
--- `listing::put::put_line` meets its contract, by the kinds of lines. Assumes nothing.
+-- `lines::put_line` meets its contract, by the kinds of lines. Assumes nothing.
 use native.Mathlib.Omega.{arith}
-use Rattle.listing.proofs.PutLaws.{roomier}
+use Rattle.lines.proofs.PutLaws.{roomier}
 use borrow.Author.Needs.{needs}
-use Rattle.listing.proofs.put.put_line.Statement.{statement}
-use Rattle.listing.proofs.put.put_line.Tie as tie
+use Rattle.lines.proofs.put_line.Statement.{statement}
+use Rattle.lines.proofs.put_line.Tie as tie
 
 returns : tie.Need-returns
 returns c =

@@ -1,4 +1,4 @@
--- `listing::put::put_text` meets its contract: what is left of the text goes to the places after those that are written. Assumes
+-- `lines::put_text` meets its contract: what is left of the text goes to the places after those that are written. Assumes
 -- nothing.
 use mathlib.Core.Path.{_≡_, refl}
 use Prim.Native.Nat.{_+_, _-_, _≤_}
@@ -6,10 +6,10 @@ use native.Mathlib.Omega.{arith}
 use native.Mathlib.Nat.{add-zero}
 use lib.ListN.{length, drop, length-set}
 use lib.Seq.{sets}
-use Rattle.listing.proofs.PutLaws.{put-some, put-all}
+use Rattle.lines.proofs.PutLaws.{put-some, put-all}
 use borrow.Author.Needs.{needs}
-use Rattle.listing.proofs.put.put_text.Statement.{statement}
-use Rattle.listing.proofs.put.put_text.Tie as tie
+use Rattle.lines.proofs.put_text.Statement.{statement}
+use Rattle.lines.proofs.put_text.Tie as tie
 
 abbrev Inv-loop : tie.InvT-loop
 Inv-loop out₀ at bytes i₀ i-end out i =

@@ -1,9 +1,9 @@
--- `listing::put::put_end` meets its contract: the number's field, then the line's end. Assumes nothing.
-use Rattle.listing.proofs.PutLaws.{chain}
-use Rattle.listing.specs.Text.{text, line}
+-- `lines::put_end` meets its contract: the number's field, then the line's end. Assumes nothing.
+use Rattle.lines.proofs.PutLaws.{chain}
+use Rattle.lines.specs.Text.{text, line}
 use borrow.Author.Needs.{needs}
-use Rattle.listing.proofs.put.put_end.Statement.{statement}
-use Rattle.listing.proofs.put.put_end.Tie as tie
+use Rattle.lines.proofs.put_end.Statement.{statement}
+use Rattle.lines.proofs.put_end.Tie as tie
 
 returns : tie.Need-returns
 unfolding text line

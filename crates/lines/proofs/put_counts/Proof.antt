@@ -1,10 +1,10 @@
--- `listing::put::put_counts` meets its contract: three words, each with its number. Assumes nothing.
-use Rattle.listing.proofs.PutLaws.{chain}
-use Rattle.listing.specs.Text.{text, line}
-use Rattle.listing.specs.Lines.{lineText}
+-- `lines::put_counts` meets its contract: three words, each with its number. Assumes nothing.
+use Rattle.lines.proofs.PutLaws.{chain}
+use Rattle.lines.specs.Text.{text, line}
+use Rattle.lines.specs.Lines.{lineText}
 use borrow.Author.Needs.{needs}
-use Rattle.listing.proofs.put.put_counts.Statement.{statement}
-use Rattle.listing.proofs.put.put_counts.Tie as tie
+use Rattle.lines.proofs.put_counts.Statement.{statement}
+use Rattle.lines.proofs.put_counts.Tie as tie
 
 returns : tie.Need-returns
 unfolding text line lineText

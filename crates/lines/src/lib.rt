@@ -1,17 +1,33 @@
-// How a line is written into a buffer. Each function puts its bytes at a place and answers the place after them.
+// A line of the listing (document 01, "The program's listing"), as a value and as bytes.
 ghost use mathlib.Core.List.{[], _∷_, _++_};
 ghost use Prim.Native.Nat.{_+_, _≤_};
 ghost use lib.ListN.{length};
-ghost use Rattle.listing.specs.Text.{text, decimal, line};
-ghost use Rattle.listing.specs.Lines.{answerFields, threeFields, lineText};
-ghost use Rattle.listing.specs.Steps.{Put};
-use super::Line;
+ghost use Rattle.lines.specs.Text.{text, decimal, line};
+ghost use Rattle.lines.specs.Lines.{answerFields, threeFields, lineText};
+ghost use Rattle.lines.specs.Steps.{Put};
 use base::wide;
 use meaning::Entry;
 use tables::Refusal;
 use tables::Verdict;
 
-// ---- The parts of a line.
+// A line of the listing.
+pub enum Line {
+    // The row counts of the boxes, the containments and the arrows.
+    Counts(usize, usize, usize),
+    // The mode, user, file and answer of a pair.
+    Pair(u16, u16, u16, Entry),
+    // The last line: clear, or the first unclear pair.
+    Last(Verdict),
+    // The only line of a refused file or picture.
+    Stopped(Refusal),
+}
+
+impl Line {
+    // No line has more bytes: three numbers, " ambig" and two numbers more, with spaces, and the line's end.
+    pub const MOST: usize = 111;
+}
+
+// ---- How it is written into a buffer. Each function puts its bytes at a place and answers the place after them. First its parts.
 
 fn put_text(out: &mut [u8], at: usize, bytes: &[u8]) -> usize
     requires { ⌜ at + length (now bytes) ≤ length (now out) ⌝ }

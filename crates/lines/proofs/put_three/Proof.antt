@@ -1,10 +1,10 @@
--- `listing::put::put_three` meets its contract: two fields, then the line's last. Assumes nothing.
-use Rattle.listing.proofs.PutLaws.{chain}
-use Rattle.listing.specs.Text.{text, line}
-use Rattle.listing.specs.Lines.{threeFields}
+-- `lines::put_three` meets its contract: two fields, then the line's last. Assumes nothing.
+use Rattle.lines.proofs.PutLaws.{chain}
+use Rattle.lines.specs.Text.{text, line}
+use Rattle.lines.specs.Lines.{threeFields}
 use borrow.Author.Needs.{needs}
-use Rattle.listing.proofs.put.put_three.Statement.{statement}
-use Rattle.listing.proofs.put.put_three.Tie as tie
+use Rattle.lines.proofs.put_three.Statement.{statement}
+use Rattle.lines.proofs.put_three.Tie as tie
 
 returns : tie.Need-returns
 unfolding text line threeFields

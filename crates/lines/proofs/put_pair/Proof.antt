@@ -1,11 +1,11 @@
--- `listing::put::put_pair` meets its contract: three numbers, then the answer. Assumes nothing.
-use Rattle.listing.proofs.PutLaws.{chain}
-use Rattle.listing.specs.Text.{text, line}
-use Rattle.listing.specs.Lines.{lineText}
-use Rattle.listing.proofs.PutLaws.{line-answer}
+-- `lines::put_pair` meets its contract: three numbers, then the answer. Assumes nothing.
+use Rattle.lines.proofs.PutLaws.{chain}
+use Rattle.lines.specs.Text.{text, line}
+use Rattle.lines.specs.Lines.{lineText}
+use Rattle.lines.proofs.PutLaws.{line-answer}
 use borrow.Author.Needs.{needs}
-use Rattle.listing.proofs.put.put_pair.Statement.{statement}
-use Rattle.listing.proofs.put.put_pair.Tie as tie
+use Rattle.lines.proofs.put_pair.Statement.{statement}
+use Rattle.lines.proofs.put_pair.Tie as tie
 
 returns : tie.Need-returns
 unfolding text line lineText

@@ -5,9 +5,9 @@ use Rattle.tables.specs.declared.Refusal.{Refusal}
 use Rattle.tables.specs.declared.Verdict.the-variants.{Passed, Refused}
 use Rattle.meaning.specs.declared.Entry.{Entry}
 use Rattle.meaning.specs.declared.Entry.the-variants.{Granted, Denied, Default, Unclear}
-use Rattle.listing.specs.Text.{text, decimal, line}
-use Rattle.listing.specs.declared.Line.{Line}
-use Rattle.listing.specs.declared.Line.the-variants.{Counts, Pair, Last, Stopped}
+use Rattle.lines.specs.Text.{text, decimal, line}
+use Rattle.lines.specs.declared.Line.{Line}
+use Rattle.lines.specs.declared.Line.the-variants.{Counts, Pair, Last, Stopped}
 
 -- the answer, arrow: default is "neg -", unclear "ambig" with its two arrows
 unfoldable pub answerFields : Entry → List (List ℕ)

@@ -1,10 +1,10 @@
--- `listing::put::put_stopped` meets its contract: the word, the number and its three numbers. Assumes nothing.
-use Rattle.listing.proofs.PutLaws.{chain}
-use Rattle.listing.specs.Text.{text, line}
-use Rattle.listing.specs.Lines.{threeFields, lineText}
+-- `lines::put_stopped` meets its contract: the word, the number and its three numbers. Assumes nothing.
+use Rattle.lines.proofs.PutLaws.{chain}
+use Rattle.lines.specs.Text.{text, line}
+use Rattle.lines.specs.Lines.{threeFields, lineText}
 use borrow.Author.Needs.{needs}
-use Rattle.listing.proofs.put.put_stopped.Statement.{statement}
-use Rattle.listing.proofs.put.put_stopped.Tie as tie
+use Rattle.lines.proofs.put_stopped.Statement.{statement}
+use Rattle.lines.proofs.put_stopped.Tie as tie
 
 returns : tie.Need-returns
 unfolding text line threeFields lineText

@@ -1,11 +1,11 @@
--- `listing::put::put_last` meets its contract, by the two verdicts. Assumes nothing.
+-- `lines::put_last` meets its contract, by the two verdicts. Assumes nothing.
 use native.Mathlib.Omega.{arith}
-use Rattle.listing.proofs.PutLaws.{chain, roomier}
-use Rattle.listing.specs.Text.{text, line}
-use Rattle.listing.specs.Lines.{threeFields, lineText}
+use Rattle.lines.proofs.PutLaws.{chain, roomier}
+use Rattle.lines.specs.Text.{text, line}
+use Rattle.lines.specs.Lines.{threeFields, lineText}
 use borrow.Author.Needs.{needs}
-use Rattle.listing.proofs.put.put_last.Statement.{statement}
-use Rattle.listing.proofs.put.put_last.Tie as tie
+use Rattle.lines.proofs.put_last.Statement.{statement}
+use Rattle.lines.proofs.put_last.Tie as tie
 
 returns : tie.Need-returns
 unfolding text line lineText

@@ -9,8 +9,8 @@ use borrow.Author.Tests.{lt-ltb, le-ltb}
 use lib.ListN.{length, take}
 use lib.Seq.{length-take-le}
 use Rattle.io.specs.Digits.{glyph, digits, Fewest}
-use Rattle.listing.specs.Text.{digit, decimalTo, decimal}
-use Rattle.listing.specs.Steps.{Put}
+use Rattle.lines.specs.Text.{digit, decimalTo, decimal}
+use Rattle.lines.specs.Steps.{Put}
 
 -- a digit as io has it
 glyph-is : (d : ℕ) → d < 10 → glyph d ∷ [] ≡ digit d

@@ -1,11 +1,11 @@
--- `listing::put::put_answer` meets its contract, by the four answers. Assumes nothing.
+-- `lines::put_answer` meets its contract, by the four answers. Assumes nothing.
 use native.Mathlib.Omega.{arith}
-use Rattle.listing.proofs.PutLaws.{chain, roomier}
-use Rattle.listing.specs.Text.{text, line}
-use Rattle.listing.specs.Lines.{answerFields}
+use Rattle.lines.proofs.PutLaws.{chain, roomier}
+use Rattle.lines.specs.Text.{text, line}
+use Rattle.lines.specs.Lines.{answerFields}
 use borrow.Author.Needs.{needs}
-use Rattle.listing.proofs.put.put_answer.Statement.{statement}
-use Rattle.listing.proofs.put.put_answer.Tie as tie
+use Rattle.lines.proofs.put_answer.Statement.{statement}
+use Rattle.lines.proofs.put_answer.Tie as tie
 
 returns : tie.Need-returns
 unfolding text line answerFields

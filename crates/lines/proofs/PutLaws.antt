@@ -11,9 +11,9 @@ use Rattle.base.proofs.BufferLaws.{written-none, written-run}
 use Rattle.blocks.proofs.Placing.{sets-more}
 use Rattle.meaning.specs.declared.Entry.{Entry}
 use Rattle.meaning.specs.declared.Entry.the-variants.{Granted, Denied, Default, Unclear}
-use Rattle.listing.specs.Text.{text, line}
-use Rattle.listing.specs.Lines.{answerFields}
-use Rattle.listing.specs.Steps.{Put, Holds}
+use Rattle.lines.specs.Text.{text, line}
+use Rattle.lines.specs.Lines.{answerFields}
+use Rattle.lines.specs.Steps.{Put, Holds}
 
 -- one piece after the other
 pub chain : {old mid new a b : List ℕ} {at x y m k : ℕ} → Put old at a m mid x → Put mid x b k new y → Put old at (a ++ b) (m + k) new y

@@ -1,10 +1,10 @@
--- `listing::put::put_number` meets its contract: the fewest digits are the number in decimal. Assumes nothing.
-use Rattle.listing.proofs.DecimalLaws.{put-decimal, few-digits}
+-- `lines::put_number` meets its contract: the fewest digits are the number in decimal. Assumes nothing.
+use Rattle.lines.proofs.DecimalLaws.{put-decimal, few-digits}
 use lib.Seq.{length-take-le}
 use native.Mathlib.Omega.{arith}
 use borrow.Author.Needs.{needs}
-use Rattle.listing.proofs.put.put_number.Statement.{statement}
-use Rattle.listing.proofs.put.put_number.Tie as tie
+use Rattle.lines.proofs.put_number.Statement.{statement}
+use Rattle.lines.proofs.put_number.Tie as tie
 
 put-text-requires : tie.Need-put-text-requires
 put-text-requires c κs =
