@@ -17,7 +17,7 @@ answerFields Default = text "neg" ∷ text "-" ∷ []
 answerFields (Unclear p n) = text "ambig" ∷ decimal p ∷ decimal n ∷ []
 
 -- the three numbers of a refusal
-unfoldable pub threeFields : Refusal → List (List ℕ)
+unfoldable pub threeFields : (r : Refusal) → List (List ℕ)
 threeFields r = decimal (r .first) ∷ decimal (r .second) ∷ decimal (r .third) ∷ []
 
 unfoldable pub lineText : Line → List ℕ

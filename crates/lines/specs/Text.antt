@@ -12,7 +12,7 @@ text nothing = []
 text (c before s) = code c ∷ text s
 
 -- a digit: 48 is the code of `0`
-unfoldable pub digit : ℕ → List ℕ
+unfoldable pub digit : (d : ℕ) → List ℕ
 digit d = (48 + d) ∷ []
 
 -- n in decimal with no zeros in front, if it has at most one digit more than `most`: its digit where it is below 10, else the tenth
@@ -22,7 +22,7 @@ decimalTo zero n = digit n
 decimalTo (suc most) n = cond (ltb n 10) (digit n) (decimalTo most (n / 10) ++ digit (n % 10))
 
 -- n in decimal: it has at most n + 1 digits
-unfoldable pub decimal : ℕ → List ℕ
+unfoldable pub decimal : (n : ℕ) → List ℕ
 decimal n = decimalTo n n
 
 -- a line: its fields, separated by single spaces, and the line's end

@@ -14,7 +14,7 @@ use Rattle.lines.specs.declared.Line.{Line}
 use Rattle.lines.specs.declared.Line.the-variants.{Counts, Pair, Last}
 
 -- the mode has an arrow
-unfoldable pub used : List ℕ → ℕ → Bool
+unfoldable pub used : (arrows : List ℕ) (m : ℕ) → Bool
 used arrows m = ltb 0 (length (modeArrows arrows m))
 
 module _ (pic : Picture) where
@@ -23,11 +23,11 @@ module _ (pic : Picture) where
   countsLine = Counts (length (pic .boxes)) (rowCount (pic .rows)) (arrowCount (pic .arrows))
 
   -- the line of the pair at place p (by user, then file) in mode m
-  unfoldable pub pairLine : ℕ → ℕ → Line
+  unfoldable pub pairLine : (m p : ℕ) → Line
   pairLine m p = Pair m (userAt pic p) (fileAt pic p) (answerAt pic m p)
 
   -- the lines of mode m: only modes with an arrow are listed
-  unfoldable pub modeText : ℕ → List ℕ
+  unfoldable pub modeText : (m : ℕ) → List ℕ
   modeText m = cond (used (pic .arrows) m) (joined (λ p. lineText (pairLine m p)) (pairs pic)) []
 
   -- the listing of a picture that is not refused

@@ -21,7 +21,7 @@ use Rattle.lines.specs.declared.Line.{Line}
 use Rattle.lines.specs.declared.Line.the-variants.{Last, Stopped}
 
 -- the modes with an arrow, rising
-unfoldable pub usedModes : List ℕ → List ℕ
+unfoldable pub usedModes : (arrows : List ℕ) → List ℕ
 usedModes arrows = select (used arrows) 8
 
 module _ (pic : Picture) where
@@ -30,21 +30,21 @@ module _ (pic : Picture) where
   pairLines = length (usedModes (pic .arrows)) * pairs pic
 
   -- the mode and the pair of pair line i
-  unfoldable pub modeOf : ℕ → ℕ
+  unfoldable pub modeOf : (i : ℕ) → ℕ
   modeOf i = getD (usedModes (pic .arrows)) (i / pairs pic) 0
 
-  unfoldable pub pairOf : ℕ → ℕ
+  unfoldable pub pairOf : (i : ℕ) → ℕ
   pairOf i = i % pairs pic
 
   -- mode, user and file of the pair at place p, where it is unclear in mode m
-  unfoldable pub unclearIn : ℕ → ℕ → Option Refusal
+  unfoldable pub unclearIn : (m p : ℕ) → Option Refusal
   unclearIn m p = given (isUnclear (answerAt pic m p)) (unclearPair m (userAt pic p) (fileAt pic p))
 
-  unfoldable pub unclearOf : ℕ → Option Refusal
+  unfoldable pub unclearOf : (i : ℕ) → Option Refusal
   unclearOf i = unclearIn (modeOf i) (pairOf i)
 
   -- the first unclear pair of the lines before line n, which is a pair line or the last
-  unfoldable pub seenBefore : ℕ → Verdict
+  unfoldable pub seenBefore : (n : ℕ) → Verdict
   seenBefore n = verdictOf (first unclearOf (n - 1))
 
   -- the lines: the counts, the pair lines, the last line
@@ -60,11 +60,11 @@ module _ (pic : Picture) where
   lineRows = length (usedModes (pic .arrows)) * length (users pic)
 
   -- the first line of row r
-  unfoldable pub rowStart : ℕ → ℕ
+  unfoldable pub rowStart : (r : ℕ) → ℕ
   rowStart r = 1 + r * length (files pic)
 
 -- n of the lines from line `from` on
-unfoldable pub linesFrom : (ℕ → Line) → ℕ → ℕ → List ℕ
+unfoldable pub linesFrom : (lines : ℕ → Line) (from n : ℕ) → List ℕ
 linesFrom lines from n = joined (λ k. lineText (lines (from + k))) n
 
 -- the lines of what was read: one only where it is refused
@@ -76,8 +76,8 @@ unfoldable pub oneOr : Option Refusal → ℕ → ℕ
 oneOr none n = n
 oneOr (some r) n = 1
 
-unfoldable pub fileLineCount : List ℕ → ℕ
+unfoldable pub fileLineCount : (file : List ℕ) → ℕ
 fileLineCount file = oneOr (fileRefusal file) (lineCount (filePicture file))
 
-unfoldable pub fileLine : List ℕ → ℕ → Line
+unfoldable pub fileLine : (file : List ℕ) (i : ℕ) → Line
 fileLine file i = stoppedOr (fileRefusal file) (lineAt (filePicture file) i)

@@ -26,7 +26,7 @@ use Rattle.listing.specs.declared.Chunk.{Chunk}
 -- ---- what keeps every index in range
 
 -- each number is below 256
-abbrev pub Bytes : List ℕ → Type 0
+abbrev pub Bytes : (xs : List ℕ) → Type 0
 Bytes xs = (i : ℕ) → i < length xs → getD xs i 0 < 256
 
 -- the tables that rows are made from
