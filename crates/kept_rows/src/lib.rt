@@ -1,5 +1,5 @@
-// The rows of users one after another. Around whom the same tails of the mode's arrows are, has the same row, so the last row is kept: the
-// members of a group often follow each other.
+// The rows of users one after another. Two users with the same tails of the mode's arrows around them have the same row, so the last row is
+// kept: members of a group often follow each other.
 //
 // `closure`, `heads` and `own` are those of crate `user_rows`.
 ghost use mathlib.Core.Path.{_≡_};
@@ -23,14 +23,14 @@ use user_rows::Row;
 use user_rows::answer_row;
 use user_rows::sort_row;
 
-// The asked files, and the row of each user around whom these tails are.
+// The asked files, and the row of each user who has these tails around.
 pub struct Kept {
     pub asked: Set,
     pub tails: Set,
     pub row: Row,
 }
 
-// Before the first user: around whom there is no arrow, has nothing that is granted or unclear.
+// Before the first user: whoever has no arrow around has nothing that is granted or unclear.
 pub fn no_arrows(asked: Set) -> Kept
     ensures { λ r. ⌜ r .asked ≡ asked ⌝ }
     ensures { λ r. ⌜ ((pic : Picture) (m : ℕ) → SoundArrows (pic .boxes) (pic .arrows)
