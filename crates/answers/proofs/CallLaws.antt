@@ -14,8 +14,8 @@ use Rattle.base.proofs.SearchLaws.{given-none}
 use Rattle.tables.specs.Rows.{Picture, user, file}
 use Rattle.tables.specs.Atoms.{atom, pairCount}
 use Rattle.tables.specs.Faults.{tableFault, modeFault, roomFault}
-use Rattle.tables.specs.Refusals.{notAtomic, verdictOf, either}
-use Rattle.tables.specs.Steps.{SoundRows}
+use Rattle.tables.specs.Refusals.{notAtomic, verdictOf}
+use Rattle.tables.specs.Steps.{SoundRows, either}
 use Rattle.tables.specs.declared.Refusal.{Refusal}
 use Rattle.tables.specs.declared.Verdict.{Verdict}
 use Rattle.tables.specs.declared.Verdict.the-variants.{Passed, Refused as Stopped}

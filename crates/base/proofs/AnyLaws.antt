@@ -7,7 +7,8 @@ use Prim.Native.Nat.{ℕ, zero, suc, _+_, _<_}
 use native.Mathlib.Omega.{arith}
 use native.Mathlib.Numerals.{add-one}
 use lib.Dec.{T, eqb, eqb→eq, eqb-refl}
-use Rattle.base.specs.Search.{lowest, every, anyBelow}
+use Rattle.base.specs.Search.{lowest, every}
+use Rattle.base.specs.Steps.{anyBelow}
 use Rattle.base.proofs.Tests.{or-T, T-or₁, T-or₂, and-T, T-and, T-same, T-true, not-false}
 use Rattle.base.proofs.SearchLaws.{below-suc, lowest-some, lowest-none}
 

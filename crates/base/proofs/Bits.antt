@@ -4,7 +4,7 @@ use mathlib.Core.Bool.{Bool, true, false, not, _||_, cond}
 use Prim.Native.Nat.{_<_}
 use lib.Bits.{bitOr}
 use lib.Dec.{eqb, lit<}
-use Rattle.base.specs.Search.{bit}
+use Rattle.base.specs.Steps.{bit}
 
 pub bit-is : (p : Bool) → bit p ≡ cond p 1 0
 unfolding bit

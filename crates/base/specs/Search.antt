@@ -32,17 +32,7 @@ unfoldable pub every : (ℕ → Bool) → ℕ → Bool
 every p zero = true
 every p (suc n) = every p n && p n
 
--- the test holds at some number
-unfoldable pub anyBelow : (ℕ → Bool) → ℕ → Bool
-anyBelow p zero = false
-anyBelow p (suc n) = anyBelow p n || p n
-
 -- the numbers at which the test holds, rising
 unfoldable pub select : (ℕ → Bool) → ℕ → List ℕ
 select p zero = []
 select p (suc n) = cond (p n) (select p n ++ (n ∷ [])) (select p n)
-
--- a test as a byte
-unfoldable pub bit : Bool → ℕ
-bit true = 1
-bit false = 0

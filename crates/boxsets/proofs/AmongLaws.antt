@@ -5,7 +5,7 @@ use mathlib.Core.List.{List}
 use Prim.Native.Nat.{ℕ, _+_, _<_}
 use lib.Dec.{T, eqb, eqb→eq, eqb-refl}
 use lib.ListN.{length, getD}
-use Rattle.base.specs.Search.{anyBelow}
+use Rattle.base.specs.Steps.{anyBelow}
 use Rattle.base.proofs.AnyLaws.{any-zero, any-more, any-is, any-found}
 use Rattle.boxsets.specs.Sets.{isIn, among}
 use Rattle.boxsets.specs.declared.Set.{Set}

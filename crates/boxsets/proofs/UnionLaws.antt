@@ -6,7 +6,8 @@ use mathlib.Core.Option.{some}
 use Prim.Native.Nat.{ℕ, _+_, _*_, _<_}
 use native.Mathlib.Omega.{arith}
 use lib.Dec.{eqb}
-use Rattle.base.specs.Search.{anyBelow, lowest}
+use Rattle.base.specs.Search.{lowest}
+use Rattle.base.specs.Steps.{anyBelow}
 use Rattle.base.proofs.SearchLaws.{lowest-some}
 use Rattle.base.proofs.AnyLaws.{any-none, any-or, any-same, any-take}
 use Rattle.base.proofs.SelectLaws.{lowest-nothing}

@@ -5,7 +5,7 @@ use mathlib.Core.List.{List}
 use Prim.Native.Nat.{ℕ, zero, suc, _+_, _*_, _/_, _%_, _<_}
 use lib.Dec.{eqb}
 use lib.ListN.{length, getD}
-use Rattle.base.specs.Search.{anyBelow}
+use Rattle.base.specs.Steps.{anyBelow}
 use Rattle.boxsets.specs.Words.{bitAt}
 use Rattle.boxsets.specs.declared.Set.{Set}
 
@@ -41,6 +41,10 @@ setAt t r = record { a = getD t (4 * r) 0; b = getD t (4 * r + 1) 0; c = getD t 
 -- set r of the table has k
 unfoldable pub has : (t : List ℕ) (r k : ℕ) → Bool
 has t r k = isIn (setAt t r) k
+
+-- each number is below 256, as the number of a box is
+abbrev pub Boxes : (numbers : List ℕ) → Type 0
+Boxes numbers = (i : ℕ) → i < length numbers → getD numbers i 0 < 256
 
 -- k is one of the numbers
 unfoldable pub among : (numbers : List ℕ) (k : ℕ) → Bool

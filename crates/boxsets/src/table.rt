@@ -3,7 +3,7 @@ ghost use mathlib.Core.Path.{_≡_};
 ghost use mathlib.Core.Bool.{_&&_, _||_};
 ghost use Prim.Native.Nat.{ℕ, _+_, _*_, _<_, _≤_};
 ghost use lib.ListN.{length};
-ghost use Rattle.base.specs.Search.{anyBelow};
+ghost use Rattle.base.specs.Steps.{anyBelow};
 ghost use Rattle.boxsets.specs.Sets.{isIn, inWord, setAt, has, Put, Added, Joins};
 use super::Set;
 use super::drop_bit;

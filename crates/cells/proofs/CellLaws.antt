@@ -1,11 +1,11 @@
--- The cells of the matrix: a row of them is written after another. Assumes nothing.
+-- The cells of one row of the matrix, and one row after another. Assumes nothing.
 use mathlib.Core.Path.{_≡_, refl, sym, ap, _∙_}
 use mathlib.Core.Logic.{_⊎_, inl, inr, ⊎-elim}
 use mathlib.Core.Bool.{Bool}
 use mathlib.Core.List.{List}
-use Prim.Native.Nat.{ℕ, _+_, _*_, _-_, _<_, _≤_}
+use Prim.Native.Nat.{ℕ, _+_, _-_, _<_, _≤_}
 use native.Mathlib.Decide.{decLt}
-use native.Mathlib.Nat.{eq-or-lt-of-le, le-of-suc-le-suc, zero-mul}
+use native.Mathlib.Nat.{eq-or-lt-of-le, le-of-suc-le-suc}
 use native.Mathlib.Omega.{arith}
 use lib.Dec.{T}
 use lib.ListN.{length, getD, set, length-set}
@@ -13,12 +13,9 @@ use lib.Seq.{getD-set-same, getD-set-other, ext-getD}
 use Rattle.base.specs.Buffers.{build, written}
 use Rattle.base.proofs.Tests.{T-true}
 use Rattle.base.proofs.BufferLaws.{written-length, written-at, written-rest, build-length, build-at}
-use Rattle.base.proofs.PartLaws.{built-none}
-use Rattle.base.proofs.Index.{next-row}
 use Rattle.tables.specs.Rows.{Picture}
-use Rattle.meaning.specs.Meaning.{answer, byteOf, numberOf}
-use Rattle.meaning.specs.Pairs.{users, files, byteAt, numberAt, matrixBytes, matrixNumbers}
-use Rattle.meaning.proofs.MatrixLaws.{byte-by, byte-place, number-place, bytes-are, numbers-are}
+use Rattle.meaning.specs.Meaning.{answer, byteOf}
+use Rattle.meaning.proofs.MatrixLaws.{byte-by}
 use Rattle.user_rows.specs.Steps.{Sorts}
 use Rattle.user_rows.specs.declared.Row.{Row}
 use Rattle.cells.specs.Steps.{byteIn, Emitted}
@@ -45,7 +42,7 @@ module _ (g : ℕ → ℕ) (at : ℕ) (old : List ℕ) where
 
 -- ---- one row after another: h says what stands at each place
 
-emitted-written : (g h : ℕ → ℕ) (at n : ℕ) (old mid new : List ℕ) → at + n ≤ length old → mid ≡ written (build h at) old
+pub emitted-written : (g h : ℕ → ℕ) (at n : ℕ) (old mid new : List ℕ) → at + n ≤ length old → mid ≡ written (build h at) old
     → Emitted g at n mid new → ((j : ℕ) → j < n → g j ≡ h (at + j)) → new ≡ written (build h (at + n)) old
 emitted-written g h at n old mid new room e m same =
     ext-getD 0 new (written (build h (at + n)) old) (m .len ∙ mid-length ∙ sym last-length) (λ p l. go p (decLt p at) (decLt p (at + n)))
@@ -76,43 +73,7 @@ emitted-written g h at n old mid new room e m same =
 -- ---- what a row says of a file
 
 module _ (pic : Picture) (m : ℕ) where
-  byte-said : (u f : ℕ) (asked : ℕ → Bool) (row : Row) → Sorts pic m u asked row → T (asked f) → byteIn row f ≡ byteOf (answer pic m u f)
+  pub byte-said : (u f : ℕ) (asked : ℕ → Bool) (row : Row) → Sorts pic m u asked row → T (asked f) → byteIn row f ≡ byteOf (answer pic m u f)
   unfolding byteIn
   byte-said u f asked row s t =
       rw (s .granted-are f, s .unclear-are f, T-true (asked f) t) (sym (byte-by (answer pic m u f)))
-
-  -- the bytes and numbers of the places before k are written
-  abbrev pub Filled : (k : ℕ) (bytes numbers bytes′ numbers′ : List ℕ) → Type 0
-  Filled k bytes numbers bytes′ numbers′ =
-      (bytes′ ≡ written (build (byteAt pic m) k) bytes) × (numbers′ ≡ written (build (numberAt pic m) k) numbers)
-
-  pub filled-none : (fs bytes numbers : List ℕ) → Filled (0 * length fs) bytes numbers bytes numbers
-  filled-none fs bytes numbers = rw zero-mul (built-none (byteAt pic m) bytes, built-none (numberAt pic m) numbers)
-
-  -- row i is written: u is its user, fs are the files
-  module _ (i u : ℕ) (fs : List ℕ) (asked : ℕ → Bool) (row : Row) (found : List ℕ) (is : u ≡ getD (users pic) i 0) (are : fs ≡ files pic)
-      (all : (j : ℕ) → j < length fs → T (asked (getD fs j 0))) where
-    cell-byte : Sorts pic m u asked row → (j : ℕ) → j < length fs → byteIn row (getD fs j 0) ≡ byteAt pic m (i * length fs + j)
-    cell-byte sorts j l = byte-said u (getD fs j 0) asked row sorts (all j l) ∙ rw (is, are) (sym (byte-place pic m i j (rw are at l)))
-
-    cell-number : ((f : ℕ) → T (asked f) → getD found f 0 ≡ numberOf (answer pic m u f))
-        → (j : ℕ) → j < length fs → getD found (getD fs j 0) 0 ≡ numberAt pic m (i * length fs + j)
-    cell-number says j l = says (getD fs j 0) (all j l) ∙ rw (is, are) (sym (number-place pic m i j (rw are at l)))
-
-    pub filled-row : (bytes numbers b n b′ n′ : List ℕ) → i * length fs + length fs ≤ length bytes → i * length fs + length fs ≤ length numbers
-        → Sorts pic m u asked row × ((f : ℕ) → T (asked f) → getD found f 0 ≡ numberOf (answer pic m u f))
-        → Emitted (λ j. byteIn row (getD fs j 0)) (i * length fs) (length fs) b b′
-        × Emitted (λ j. getD found (getD fs j 0) 0) (i * length fs) (length fs) n n′
-        → Filled (i * length fs) bytes numbers b n → Filled ((i + 1) * length fs) bytes numbers b′ n′
-    filled-row bytes numbers b n b′ n′ room-b room-n said w e =
-        rw next-row (
-          emitted-written (λ j. byteIn row (getD fs j 0)) (byteAt pic m) (i * length fs) (length fs) bytes b b′ room-b (e .0) (w .0)
-              (cell-byte (said .0)),
-          emitted-written (λ j. getD found (getD fs j 0) 0) (numberAt pic m) (i * length fs) (length fs) numbers n n′ room-n (e .1) (w .1)
-              (cell-number (said .1)),
-        )
-
-  -- all rows are
-  pub filled-all : (us fs bytes numbers b n : List ℕ) → us ≡ users pic → fs ≡ files pic → Filled (length us * length fs) bytes numbers b n
-      → (b ≡ written (matrixBytes pic m) bytes) × (n ≡ written (matrixNumbers pic m) numbers)
-  filled-all us fs bytes numbers b n eu ef e = (e .0 ∙ rw (eu, ef, bytes-are), e .1 ∙ rw (eu, ef, numbers-are))

@@ -1,2 +1,2 @@
--- Laws for the proofs of this crate.
-mod CellLaws
+-- Laws for the proofs of this crate and of the crates above it.
+pub mod CellLaws

@@ -4,7 +4,7 @@ use mathlib.Core.Path.{_≡_, refl, sym, ap, ap₂, subst, _∙_}
 use mathlib.Core.Bool.{Bool, true, false, not, _&&_, _||_, and-false}
 use Prim.Native.Nat.{ℕ}
 use lib.Dec.{T, eqb, eqb→eq}
-use Rattle.base.specs.Search.{anyBelow}
+use Rattle.base.specs.Steps.{anyBelow}
 use Rattle.base.proofs.Tests.{and-T, T-true, true-T}
 use Rattle.base.proofs.AnyLaws.{any-within, any-same, any-or, any-and}
 use Rattle.tables.specs.Rows.{Picture, arrowCount, arrowAt}

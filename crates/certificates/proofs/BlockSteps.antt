@@ -5,7 +5,7 @@ use mathlib.Core.List.{List}
 use Prim.Native.Nat.{ℕ, _+_, _*_, _<_, _≤_}
 use lib.Dec.{T}
 use lib.ListN.{length}
-use Rattle.base.specs.Search.{anyBelow}
+use Rattle.base.specs.Steps.{anyBelow}
 use Rattle.base.proofs.Tests.{and-T}
 use Rattle.tables.specs.Rows.{Picture}
 use Rattle.tables.specs.declared.Arrow.{Arrow}

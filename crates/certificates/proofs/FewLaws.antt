@@ -3,7 +3,7 @@ use mathlib.Core.Path.{_≡_, refl, sym, _∙_}
 use mathlib.Core.Bool.{Bool, true, false, not, _&&_, _||_}
 use Prim.Native.Nat.{ℕ, _<_}
 use lib.Dec.{T, eqb}
-use Rattle.base.specs.Search.{anyBelow}
+use Rattle.base.specs.Steps.{anyBelow}
 use Rattle.base.proofs.AnyLaws.{any-found, any-take}
 use Rattle.base.proofs.Tests.{not-false, false-not, and-T}
 use Rattle.boxsets.specs.Sets.{isIn, low}

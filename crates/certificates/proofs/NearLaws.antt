@@ -8,7 +8,7 @@ use Prim.Native.Nat.{ℕ, _+_, _*_, _<_, _≤_}
 use native.Mathlib.Omega.{arith}
 use lib.Dec.{T, T-not, not-T, eqb}
 use lib.ListN.{length}
-use Rattle.base.specs.Search.{anyBelow}
+use Rattle.base.specs.Steps.{anyBelow}
 use Rattle.base.proofs.Tests.{and-T, T-and, T-same}
 use Rattle.base.proofs.AnyLaws.{any-same}
 use Rattle.tables.specs.Rows.{Picture, arrowCount}

@@ -4,7 +4,7 @@ use mathlib.Core.Bool.{Bool, true, false, _&&_}
 use Prim.Native.Nat.{ℕ, _<_}
 use lib.Dec.{T, eqb}
 use lib.ListN.{length}
-use Rattle.base.specs.Search.{anyBelow}
+use Rattle.base.specs.Steps.{anyBelow}
 use Rattle.base.proofs.AnyLaws.{any-found, any-is, any-same, any-and, any-image}
 use Rattle.tables.specs.Rows.{Picture, arrowCount, arrowAt}
 use Rattle.tables.specs.Steps.{SoundArrows}

@@ -3,7 +3,7 @@
 use mathlib.Core.Bool.{Bool, not, _&&_, _||_}
 use Prim.Native.Nat.{ℕ}
 use lib.ListN.{length}
-use Rattle.base.specs.Search.{anyBelow}
+use Rattle.base.specs.Steps.{anyBelow}
 use Rattle.tables.specs.Rows.{Picture, arrowCount}
 use Rattle.tables.specs.declared.Arrow.{Arrow}
 use Rattle.containment.specs.Contains.{around}

@@ -7,7 +7,7 @@ ghost use mathlib.Core.Bool.{Bool, not, _&&_};
 ghost use Prim.Native.Nat.{ℕ, _+_, _*_, _<_, _≤_};
 ghost use lib.Dec.{T};
 ghost use lib.ListN.{length};
-ghost use Rattle.base.specs.Search.{anyBelow};
+ghost use Rattle.base.specs.Steps.{anyBelow};
 ghost use Rattle.tables.specs.Rows.{Picture};
 ghost use Rattle.boxsets.specs.Sets.{isIn, has};
 ghost use Rattle.mode_sets.specs.Steps.{ModeSets};

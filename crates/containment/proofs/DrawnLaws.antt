@@ -5,7 +5,7 @@ use mathlib.Core.Bool.{Bool, true, false, not, cond}
 use mathlib.Core.List.{List}
 use Prim.Native.Nat.{ℕ, _*_, _/_, _%_}
 use lib.Dec.{T, eqb}
-use Rattle.base.specs.Search.{bit}
+use Rattle.base.specs.Steps.{bit}
 use Rattle.containment.specs.Contains.{Row, Chain, one, direct, contains}
 use Rattle.containment.specs.Scratch.{Drawn, directly, through-others, otherwise, drawn, filled}
 use Rattle.containment.specs.Steps.{over}

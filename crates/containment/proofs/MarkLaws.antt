@@ -9,7 +9,7 @@ use borrow.Author.Tests.{eq-eqb}
 use lib.Dec.{T, eqb, eqb→eq}
 use lib.ListN.{length, getD, set, drop, length-set}
 use lib.Seq.{getD-set-same, getD-set-other}
-use Rattle.base.specs.Search.{bit}
+use Rattle.base.specs.Steps.{bit}
 use Rattle.base.proofs.Index.{in-table, same-row, same-col}
 use Rattle.base.proofs.Tests.{and-T, not-false}
 use Rattle.tables.specs.Rows.{rowCount, rowAt}

@@ -6,7 +6,7 @@ use Prim.Native.Nat.{ℕ, _+_, _-_, _*_, _<_, _≤_}
 use native.Mathlib.Omega.{arith}
 use borrow.Author.Count.{below-more}
 use lib.ListN.{length, getD}
-use Rattle.base.specs.Search.{bit}
+use Rattle.base.specs.Steps.{bit}
 use Rattle.base.specs.Buffers.{written, zeros}
 use Rattle.base.proofs.Bits.{bit-is}
 use Rattle.base.proofs.BufferLaws.{written-length, written-at, written-rest, zeros-length, zeros-at}

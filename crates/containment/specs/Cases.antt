@@ -5,7 +5,8 @@ use mathlib.Core.List.{List, [], _∷_, map}
 use mathlib.Core.Option.{Option, none, some}
 use Prim.Native.Nat.{ℕ, _+_, _*_}
 use lib.ListN.{replicate}
-use Rattle.base.specs.Search.{bit, orElse, given, first}
+use Rattle.base.specs.Search.{orElse, given, first}
+use Rattle.base.specs.Steps.{bit}
 use Rattle.base.specs.Buffers.{build, written}
 use Rattle.tables.specs.Refusals.{inItself}
 use Rattle.tables.specs.declared.Refusal.{Refusal}

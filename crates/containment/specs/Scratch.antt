@@ -5,7 +5,8 @@ use mathlib.Core.List.{List}
 use mathlib.Core.Option.{Option}
 use Prim.Native.Nat.{ℕ, _+_, _*_, _/_, _%_}
 use lib.ListN.{length}
-use Rattle.base.specs.Search.{bit, orElse}
+use Rattle.base.specs.Search.{orElse}
+use Rattle.base.specs.Steps.{bit}
 use Rattle.base.specs.Buffers.{build, written}
 use Rattle.tables.specs.Rows.{Picture}
 use Rattle.tables.specs.Refusals.{unlessRefused}

@@ -6,7 +6,8 @@ use mathlib.Core.Option.{Option}
 use Prim.Native.Nat.{ℕ, zero, suc, _+_, _*_, _%_, _<_, _≤_}
 use lib.Dec.{T, eqb}
 use lib.ListN.{length, getD}
-use Rattle.base.specs.Search.{bit, first, given}
+use Rattle.base.specs.Search.{first, given}
+use Rattle.base.specs.Steps.{bit}
 use Rattle.tables.specs.Refusals.{inItself}
 use Rattle.tables.specs.Rows.{rowCount, rowAt}
 use Rattle.tables.specs.declared.Refusal.{Refusal}

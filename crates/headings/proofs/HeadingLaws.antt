@@ -8,7 +8,8 @@ use Rattle.base.specs.Buffers.{written}
 use Rattle.tables.specs.Rows.{picture, user, file}
 use Rattle.tables.specs.Atoms.{atoms}
 use Rattle.tables.specs.Faults.{tableFault, roomFault}
-use Rattle.tables.specs.Refusals.{verdictOf, unlessRefused, either}
+use Rattle.tables.specs.Refusals.{verdictOf, unlessRefused}
+use Rattle.tables.specs.Steps.{either}
 use Rattle.tables.specs.declared.Refusal.{Refusal}
 use Rattle.tables.specs.declared.Verdict.the-variants.{Passed, Refused as Stopped}
 use Rattle.tables.proofs.TableLaws.{both-none, room-passed}

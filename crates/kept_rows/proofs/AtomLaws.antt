@@ -10,9 +10,8 @@ use Rattle.base.proofs.Tests.{T-same}
 use Rattle.base.proofs.PartLaws.{Wrote, part-is, part-length, part-within}
 use Rattle.tables.specs.Atoms.{atom, atoms}
 use Rattle.tables.proofs.AtomPlaces.{atom-there, atoms-found, atoms-has, atoms-most}
-use Rattle.boxsets.specs.Sets.{among}
+use Rattle.boxsets.specs.Sets.{among, Boxes}
 use Rattle.boxsets.proofs.AmongLaws.{among-is, among-found}
-use Rattle.kept_rows.specs.Steps.{Boxes}
 use Rattle.kept_rows.proofs.TakenLaws.{room}
 
 -- the first `count` places of `out` are lent on: they hold the atomic boxes

@@ -14,10 +14,6 @@ use Rattle.mode_sets.specs.Mode.{tailsBelow}
 use Rattle.user_rows.specs.Steps.{Sorts}
 use Rattle.kept_rows.specs.declared.Kept.{Kept}
 
--- each is the number of a box
-abbrev pub Boxes : (numbers : List ℕ) → Type 0
-Boxes numbers = (i : ℕ) → i < length numbers → getD numbers i 0 < 256
-
 module _ (pic : Picture) (mode : ℕ) where
   -- the tails of the mode's arrows around user u
   pub record TailsNear (u : ℕ) (tails : Set) : Type 0 where

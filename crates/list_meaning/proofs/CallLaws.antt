@@ -10,7 +10,8 @@ use Rattle.base.specs.Buffers.{written, zeros}
 use Rattle.base.proofs.Options.{past, stop, orElse-assoc}
 use Rattle.base.proofs.BufferLaws.{written-over}
 use Rattle.tables.specs.Rows.{Picture}
-use Rattle.tables.specs.Refusals.{verdictOf, either}
+use Rattle.tables.specs.Refusals.{verdictOf}
+use Rattle.tables.specs.Steps.{either}
 use Rattle.tables.specs.Faults.{tableFault, modeFault, roomFault}
 use Rattle.tables.specs.declared.Refusal.{Refusal}
 use Rattle.tables.specs.declared.Verdict.the-variants.{Passed, Refused as VerdictRefused}

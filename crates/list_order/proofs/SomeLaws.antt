@@ -6,7 +6,8 @@ use mathlib.Core.Option.{some}
 use Prim.Native.Nat.{ℕ, _+_, _*_, _<_}
 use native.Mathlib.Omega.{arith}
 use lib.Dec.{T, eqb}
-use Rattle.base.specs.Search.{anyBelow, lowest}
+use Rattle.base.specs.Search.{lowest}
+use Rattle.base.specs.Steps.{anyBelow}
 use Rattle.base.proofs.SearchLaws.{lowest-some}
 use Rattle.base.proofs.Tests.{and-T, T-and, T-true, not-false, false-not}
 use Rattle.base.proofs.AnyLaws.{any-found, any-is, any-same, any-or, any-take}

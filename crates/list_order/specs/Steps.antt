@@ -6,7 +6,7 @@ use mathlib.Core.Option.{none}
 use Prim.Native.Nat.{ℕ, _<_, _≤_}
 use lib.Dec.{eqb}
 use lib.ListN.{length, getD}
-use Rattle.base.specs.Search.{anyBelow}
+use Rattle.base.specs.Steps.{anyBelow}
 use Rattle.base.specs.Buffers.{written}
 use Rattle.tables.specs.Rows.{Picture, user, file, arrowAt}
 use Rattle.tables.specs.Atoms.{atom}

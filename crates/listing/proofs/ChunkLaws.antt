@@ -5,13 +5,13 @@ use Prim.Native.Nat.{ℕ, _+_, _-_, _*_, _/_, _%_, _<_, _≤_}
 use native.Mathlib.Omega.{arith}
 use lib.ListN.{length, getD}
 use Rattle.tables.specs.Rows.{Picture}
-use Rattle.tables.specs.Refusals.{either}
+use Rattle.tables.specs.Steps.{either}
 use Rattle.meaning.specs.Pairs.{users, files}
 use Rattle.blocks.proofs.JoinedLaws.{joined-none}
 use Rattle.lines.specs.Lines.{lineText}
 use Rattle.listing.specs.Numbered.{usedModes, lineRows, lineAt, linesFrom}
 use Rattle.lines.specs.Steps.{Put}
-use Rattle.listing.specs.Steps.{Ready, Stands, RowPut, Filled, rowText}
+use Rattle.listing.specs.Steps.{Prepared, Stands, RowPut, Filled, rowText}
 use Rattle.lines.specs.declared.Line.{Line}
 use Rattle.listing.specs.declared.Place.{Place}
 use Rattle.listing.specs.declared.Told.{Told}
@@ -45,7 +45,7 @@ module _ {pic : Picture} {old : List ℕ} where
       }
 
   -- one row more, where there is room for it
-  module _ {closure arrows us fs : List ℕ} (d : Ready pic closure arrows us fs) {from p : Place} {out : List ℕ} {at : ℕ}
+  module _ {closure arrows us fs : List ℕ} (d : Prepared pic closure arrows us fs) {from p : Place} {out : List ℕ} {at : ℕ}
       (w : Filling pic from old out at p) (l : p .row < lineRows pic) {m u : ℕ} {new : List ℕ} {t : Told}
       (em : m ≡ getD (p .modes) (p .row / length us) 0) (eu : u ≡ getD us (p .row % length us) 0) (r : RowPut pic m u fs out at new t) where
     abbrev mode : ℕ

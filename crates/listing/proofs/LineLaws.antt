@@ -13,7 +13,8 @@ use Rattle.base.proofs.FoldLaws.{fold-add, first-fold, orElse-chains}
 use Rattle.base.proofs.Index.{at-div, at-mod, in-table, place, next-row}
 use Rattle.base.proofs.SearchLaws.{first-zero, first-same}
 use Rattle.tables.specs.Rows.{Picture}
-use Rattle.tables.specs.Refusals.{verdictOf, either}
+use Rattle.tables.specs.Refusals.{verdictOf}
+use Rattle.tables.specs.Steps.{either}
 use Rattle.tables.specs.declared.Refusal.{Refusal}
 use Rattle.tables.specs.declared.Verdict.the-variants.{Passed}
 use Rattle.tables.proofs.Verdicts.{either-verdict}

@@ -9,7 +9,8 @@ use lib.Seq.{getD-take}
 use Rattle.base.specs.Search.{first}
 use Rattle.base.proofs.Index.{next-row}
 use Rattle.tables.specs.Rows.{Picture, user, file}
-use Rattle.tables.specs.Refusals.{verdictOf, either}
+use Rattle.tables.specs.Refusals.{verdictOf}
+use Rattle.tables.specs.Steps.{either}
 use Rattle.tables.specs.declared.Verdict.{Verdict}
 use Rattle.tables.specs.declared.Verdict.the-variants.{Passed}
 use Rattle.tables.specs.Atoms.{atoms}
@@ -18,7 +19,7 @@ use Rattle.meaning.specs.Pairs.{users, files}
 use Rattle.meaning.proofs.PairLaws.{place-in}
 use Rattle.mode_sets.proofs.CallerLaws.{small-arrows}
 use Rattle.listing.specs.Numbered.{usedModes, lineRows, rowStart}
-use Rattle.listing.specs.Steps.{Sized, Fits, Ready, Stands, userUnclear}
+use Rattle.listing.specs.Steps.{InRange, Fits, Prepared, Stands, userUnclear}
 use Rattle.listing.specs.declared.Place.{Place}
 use Rattle.listing.proofs.LineLaws.{row-next, row-seen, seen-none}
 use Rattle.listing.proofs.ModeLaws.{few-modes}
@@ -59,8 +60,8 @@ pub atom-in : (pic : Picture) (side : ℕ) {xs : List ℕ} → xs ≡ atoms (pic
     → getD xs i 0 < length (pic .boxes)
 atom-in pic side e i l = rw e (atom-there (pic .boxes) (pic .rows) side _ (atoms-found (pic .boxes) (pic .rows) side i (rw e at l)))
 
-pub ready-sized : {pic : Picture} {closure arrows us fs : List ℕ} → Ready pic closure arrows us fs → Sized closure arrows us fs
-ready-sized {pic} {closure} {arrows} {us} {fs} d =
+pub prepared-in-range : {pic : Picture} {closure arrows us fs : List ℕ} → Prepared pic closure arrows us fs → InRange closure arrows us fs
+prepared-in-range {pic} {closure} {arrows} {us} {fs} d =
     let few = d .drawn .rows-sound .few-boxes in
     record {
       closure-len = d .drawn .closed .len;
@@ -73,7 +74,7 @@ ready-sized {pic} {closure} {arrows} {us} {fs} d =
 
 -- ---- a place in it
 
-module _ {pic : Picture} {closure arrows us fs : List ℕ} (d : Ready pic closure arrows us fs) {p : Place} (s : Stands pic p) where
+module _ {pic : Picture} {closure arrows us fs : List ℕ} (d : Prepared pic closure arrows us fs) {p : Place} (s : Stands pic p) where
   pub rows-are : lineRows pic ≡ p .used * length us
   unfolding lineRows
   rows-are = rw (d .users-are, s .used-are)

@@ -10,6 +10,7 @@ use Rattle.tables.specs.Refusals.{unclearPair, verdictOf}
 use Rattle.tables.specs.declared.Refusal.{Refusal}
 use Rattle.meaning.specs.Meaning.{answer, isUnclear}
 use Rattle.meaning.specs.Pairs.{users, files}
+use Rattle.boxsets.specs.Sets.{Boxes}
 use Rattle.mode_sets.specs.Steps.{Small}
 use Rattle.certificates.specs.Steps.{Drawn}
 use Rattle.blocks.specs.Blocks.{joined}
@@ -25,16 +26,12 @@ use Rattle.listing.specs.declared.Chunk.{Chunk}
 
 -- ---- what keeps every index in range
 
--- each number is below 256
-abbrev pub Bytes : (xs : List ℕ) → Type 0
-Bytes xs = (i : ℕ) → i < length xs → getD xs i 0 < 256
-
 -- the tables that rows are made from
-pub record Sized (closure arrows us fs : List ℕ) : Type 0 where
+pub record InRange (closure arrows us fs : List ℕ) : Type 0 where
   pub closure-len : length closure ≡ 2048
   pub small : Small arrows
-  pub users-small : Bytes us
-  pub files-small : Bytes fs
+  pub users-small : Boxes us
+  pub files-small : Boxes fs
   pub few-users : length us ≤ 256
   pub few-files : length fs ≤ 256
 
@@ -47,7 +44,7 @@ pub record Fits (us fs : List ℕ) (p : Place) : Type 0 where
 -- ---- what is said of a picture
 
 -- a picture without faults, and the tables made of it
-pub record Ready (pic : Picture) (closure arrows us fs : List ℕ) : Type 0 where
+pub record Prepared (pic : Picture) (closure arrows us fs : List ℕ) : Type 0 where
   pub drawn : Drawn pic closure
   pub arrows-are : arrows ≡ pic .arrows
   pub users-are : us ≡ users pic

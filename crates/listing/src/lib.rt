@@ -6,13 +6,13 @@ ghost use mathlib.Core.Path.{_≡_};
 ghost use Prim.Native.Nat.{_+_, _*_, _<_, _≤_};
 ghost use lib.ListN.{length};
 ghost use Rattle.base.specs.Buffers.{written};
-ghost use Rattle.tables.specs.Refusals.{either};
+ghost use Rattle.tables.specs.Steps.{either};
 ghost use Rattle.tables.specs.Rows.{Picture};
 ghost use Rattle.lines.specs.Lines.{lineText};
 ghost use Rattle.listing.specs.Listing.{used};
 ghost use Rattle.listing.specs.Numbered.{usedModes};
 ghost use Rattle.lines.specs.Steps.{Holds};
-ghost use Rattle.listing.specs.Steps.{Sized, Fits, Ready, Stands, Filled};
+ghost use Rattle.listing.specs.Steps.{InRange, Fits, Prepared, Stands, Filled};
 use lines::Line;
 use lines::put_line;
 use row::put_row;
@@ -162,10 +162,10 @@ pub fn fill(
     from: Place,
     out: &mut [u8],
 ) -> Chunk
-    requires { ⌜ Sized (now closure) (now arrows) (now users) (now files) × Fits (now users) (now files) from ⌝ }
+    requires { ⌜ InRange (now closure) (now arrows) (now users) (now files) × Fits (now users) (now files) from ⌝ }
     requires { ⌜ length (now files) * 111 ≤ length (now out) ⌝ }
     ensures { λ r. ⌜ ((pic : Picture)
-        → Ready pic (now (closure .entry)) (now (arrows .entry)) (now (users .entry)) (now (files .entry))
+        → Prepared pic (now (closure .entry)) (now (arrows .entry)) (now (users .entry)) (now (files .entry))
         → Stands pic from → Filled pic from (now (out .entry)) (now (out .exit)) r) ⌝ }
 {
     let count = row_count(users, from);

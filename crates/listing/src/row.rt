@@ -5,11 +5,11 @@ ghost use lib.ListN.{length, getD};
 ghost use Rattle.tables.specs.Rows.{Picture};
 ghost use Rattle.meaning.specs.Meaning.{answer, numberOf};
 ghost use Rattle.meaning.specs.Pairs.{files as filesOf};
-ghost use Rattle.boxsets.specs.Sets.{among};
+ghost use Rattle.boxsets.specs.Sets.{Boxes, among};
 ghost use Rattle.mode_sets.specs.Steps.{Small};
 ghost use Rattle.certificates.specs.Steps.{Drawn};
 ghost use Rattle.user_rows.specs.Steps.{Sorts, blankRow};
-ghost use Rattle.listing.specs.Steps.{Bytes, RowPut};
+ghost use Rattle.listing.specs.Steps.{RowPut};
 use super::Told;
 use base::wide;
 use lines::Line;
@@ -28,7 +28,7 @@ fn answers_of(
     numbers: &mut [u16],
 ) -> Row
     requires { ⌜ (length (now closure) ≡ 2048) × Small (now arrows) × (user < 256)
-        × Bytes (now files) × (now numbers ≡ blankRow) ⌝ }
+        × Boxes (now files) × (now numbers ≡ blankRow) ⌝ }
     ensures { λ r. ⌜ ((pic : Picture) → Drawn pic (now (closure .entry)) → now (arrows .entry) ≡ pic .arrows
         → user < length (pic .boxes) → Sorts pic mode user (among (now (files .entry))) r
         × ((i : ℕ) → i < length (now (files .entry)) → getD (now (numbers .exit)) (getD (now (files .entry)) i 0) 0
@@ -51,7 +51,7 @@ pub fn put_row(
     out: &mut [u8],
     at: usize,
 ) -> Told
-    requires { ⌜ (length (now closure) ≡ 2048) × Small (now arrows) × (user < 256) × Bytes (now files) ⌝ }
+    requires { ⌜ (length (now closure) ≡ 2048) × Small (now arrows) × (user < 256) × Boxes (now files) ⌝ }
     requires { ⌜ at + length (now files) * 111 ≤ length (now out) ⌝ }
     ensures { λ _. ⌜ length (now (out .exit)) ≡ length (now (out .entry)) ⌝ }
     ensures { λ r. ⌜ ((pic : Picture) → Drawn pic (now (closure .entry)) → now (arrows .entry) ≡ pic .arrows

@@ -9,7 +9,7 @@ use borrow.Author.Count.{below-more}
 use borrow.Author.Tests.{eq-eqb, ne-eqb}
 use lib.Dec.{T, eqb, eqb→eq}
 use lib.ListN.{length, getD}
-use Rattle.base.specs.Search.{anyBelow}
+use Rattle.base.specs.Steps.{anyBelow}
 use Rattle.base.specs.Buffers.{zeros}
 use Rattle.base.proofs.Tests.{and-T, T-and, T-eqb, T-same, T-true, false-not}
 use Rattle.base.proofs.AnyLaws.{any-zero, any-more, any-found, any-is}

@@ -9,7 +9,7 @@ ghost use Rattle.tables.specs.Rows.{Picture};
 ghost use Rattle.mode_sets.specs.Mode.{ownArrows};
 ghost use Rattle.mode_sets.specs.Steps.{Small};
 ghost use Rattle.user_rows.specs.Steps.{Sized, Moded, Ready};
-ghost use Rattle.kept_rows.specs.Steps.{Boxes};
+ghost use Rattle.boxsets.specs.Sets.{Boxes};
 ghost use Rattle.list_meaning.specs.Greedy.{greedy, orderFault};
 ghost use Rattle.list_order.specs.Steps.{Table, unreached, grantedTo};
 ghost use Rattle.lists.specs.Steps.{Check12};

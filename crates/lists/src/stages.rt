@@ -11,7 +11,7 @@ ghost use Rattle.meaning.specs.Meaning.{modeArrows};
 ghost use Rattle.meaning.specs.Pairs.{pairs};
 ghost use Rattle.mode_sets.specs.Steps.{Small, Numbers};
 ghost use Rattle.user_rows.specs.Steps.{Ready};
-ghost use Rattle.kept_rows.specs.Steps.{Boxes};
+ghost use Rattle.boxsets.specs.Sets.{Boxes};
 ghost use Rattle.list_meaning.specs.Greedy.{greedy, orderFault};
 ghost use Rattle.list_meaning.specs.Calls.{listRoom, listAnswer, listAfter, Listing};
 ghost use Rattle.list_order.specs.Steps.{Clear};

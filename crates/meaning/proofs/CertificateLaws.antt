@@ -4,7 +4,8 @@ use mathlib.Core.Path.{_≡_, refl, ap, _∙_}
 use mathlib.Core.Bool.{Bool, true, false, not, _&&_, _||_}
 use Prim.Native.Nat.{ℕ}
 use lib.Dec.{eqb}
-use Rattle.base.specs.Search.{every, anyBelow}
+use Rattle.base.specs.Search.{every}
+use Rattle.base.specs.Steps.{anyBelow}
 use Rattle.base.proofs.SearchLaws.{every-same}
 use Rattle.base.proofs.AnyLaws.{not-any}
 use Rattle.tables.specs.Rows.{Picture, arrowCount, arrowAt}

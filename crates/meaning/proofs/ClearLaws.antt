@@ -13,7 +13,7 @@ use Rattle.tables.specs.Refusals.{unclearPair}
 use Rattle.base.proofs.Tests.{T-eqb}
 use Rattle.base.proofs.SearchLaws.{first-nothing}
 use Rattle.base.proofs.SelectLaws.{select-has}
-use Rattle.meaning.specs.Meaning.{hasMode, modeArrows, answer, isUnclear}
+use Rattle.meaning.specs.Meaning.{hasMode, modeArrows, answer, isUnclear, byteOf}
 use Rattle.meaning.specs.Pairs.{pairs, userAt, fileAt, unclearFault, anyUnclear}
 use Rattle.meaning.proofs.AnswerLaws.{unreached-default}
 use Rattle.meaning.proofs.PairLaws.{unclearAt, unclear-is, unclear-none}
@@ -42,7 +42,7 @@ module _ (pic : Picture) where
 
     -- no pair is unclear in a mode without an arrow
     pub unused-clear : length (modeArrows (pic .arrows) m) ≤ 0 → unclearFault pic m ≡ none
-    unfolding isUnclear
+    unfolding isUnclear byteOf
     unused-clear few =
         unclear-is pic m
         ∙ first-nothing (unclearAt pic m) (pairs pic)

@@ -8,12 +8,12 @@ use borrow.Author.Tests.{lt-ltb}
 use lib.Dec.{ltb}
 use Rattle.tables.specs.Rows.{Picture, arrowCount}
 use Rattle.base.proofs.SearchLaws.{lowest-some}
-use Rattle.meaning.specs.Meaning.{settle, answer, isGranted, grantingOf}
+use Rattle.meaning.specs.Meaning.{settle, answer, isGranted, grantingOf, byteOf, numberOf}
 use Rattle.meaning.specs.Pairs.{answerAt}
 
 -- where the certificates are numbers of arrows
 settled : (c d p n : Option ℕ) → ((k : ℕ) → c ≡ some k → k < 65535) → isGranted (settle c d p n) ≡ ltb (grantingOf (settle c d p n)) 65535
-unfolding settle isGranted grantingOf
+unfolding settle isGranted grantingOf numberOf byteOf
 settled (some k) d p n h = sym (lt-ltb k 65535 (h k refl))
 settled none (some k) p n h = refl
 settled none none (some p) (some n) h = refl

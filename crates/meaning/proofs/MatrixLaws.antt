@@ -15,7 +15,8 @@ use Rattle.tables.specs.Refusals.{unclearPair}
 use Rattle.tables.specs.declared.Refusal.{Refusal}
 use Rattle.tables.proofs.AtomPlaces.{pairCount-is}
 use Rattle.meaning.specs.Meaning.{answer, byteOf, numberOf, isGranted, isUnclear}
-use Rattle.meaning.specs.Pairs.{users, files, pairs, userAt, fileAt, firstPair, byteAt, numberAt, matrixBytes, matrixNumbers, unclearFault}
+use Rattle.meaning.specs.Pairs.{users, files, pairs, userAt, fileAt, firstPair, matrixBytes, matrixNumbers, unclearFault}
+use Rattle.meaning.specs.Steps.{byteAt, numberAt}
 use Rattle.meaning.specs.declared.Entry.{Entry}
 use Rattle.meaning.specs.declared.Entry.the-variants.{Granted, Denied, Default, Unclear}
 use Rattle.meaning.proofs.PairLaws.{firstPair-none}
@@ -45,11 +46,11 @@ module _ (pic : Picture) (m : ℕ) where
 
   -- a place for each user and file
   pub bytes-are : matrixBytes pic m ≡ build (byteAt pic m) (length (users pic) * length (files pic))
-  unfolding matrixBytes
+  unfolding matrixBytes byteAt
   bytes-are = rw pairCount-is
 
   pub numbers-are : matrixNumbers pic m ≡ build (numberAt pic m) (length (users pic) * length (files pic))
-  unfolding matrixNumbers
+  unfolding matrixNumbers numberAt
   numbers-are = rw pairCount-is
 
 -- ---- the search for a pair, place by place

@@ -15,7 +15,8 @@ use Rattle.tables.proofs.GroupLaws.{SameBoxes, atoms-by-bytes}
 use Rattle.containment.specs.Contains.{Row, contains}
 use Rattle.containment.proofs.ContainsLaws.{around-test, same-contains, same-outer}
 use Rattle.meaning.specs.Meaning.{positive, negative, reaches, nests, level, overrides, hits, certifies, answer, byteOf, numberOf}
-use Rattle.meaning.specs.Pairs.{pairs, userAt, fileAt, firstPair, answerAt, byteAt, numberAt, matrixBytes, matrixNumbers, unclearFault, anyUnclear}
+use Rattle.meaning.specs.Pairs.{pairs, userAt, fileAt, firstPair, answerAt, matrixBytes, matrixNumbers, unclearFault, anyUnclear}
+use Rattle.meaning.specs.Steps.{byteAt, numberAt}
 
 -- two pictures with the same arrows have the same pairs, with the same answers
 pub record SameAnswers (one other : Picture) : Type 0 where

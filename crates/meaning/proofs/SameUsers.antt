@@ -9,7 +9,7 @@ use Rattle.base.proofs.Tests.{and-T, T-eqb, false-not}
 use Rattle.base.proofs.SearchLaws.{lowest-same, every-same}
 use Rattle.tables.specs.Rows.{Picture, arrowCount, arrowAt}
 use Rattle.containment.specs.Contains.{around}
-use Rattle.meaning.specs.Meaning.{positive, negative, hasMode, reaches, overrides, hits, certifies, answer, numberOf, isGranted, isUnclear}
+use Rattle.meaning.specs.Meaning.{positive, negative, hasMode, reaches, overrides, hits, certifies, answer, numberOf, isGranted, isUnclear, byteOf}
 use Rattle.meaning.specs.declared.Entry.the-variants.{Default}
 use Rattle.meaning.proofs.AnswerLaws.{unreached-default}
 
@@ -62,11 +62,11 @@ module _ (pic : Picture) (m : ℕ) where
         (and-T (around (pic .rows) (arrowAt (pic .arrows) k .tail) u) (around (pic .rows) (arrowAt (pic .arrows) k .head) f) t .0))
 
     pub not-granted : isGranted (answer pic m u f) ≡ false
-    unfolding isGranted
+    unfolding isGranted byteOf
     not-granted = ap isGranted none-reaches
 
     pub not-unclear : isUnclear (answer pic m u f) ≡ false
-    unfolding isUnclear
+    unfolding isUnclear byteOf
     not-unclear = ap isUnclear none-reaches
 
     pub no-number : numberOf (answer pic m u f) ≡ 65535

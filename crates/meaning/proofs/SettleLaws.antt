@@ -11,7 +11,7 @@ use Rattle.base.specs.Search.{lowest}
 use Rattle.base.proofs.SearchLaws.{lowest-some}
 use Rattle.base.proofs.SelectLaws.{lowest-nothing}
 use Rattle.tables.specs.Rows.{Picture, arrowCount}
-use Rattle.meaning.specs.Meaning.{positive, negative, settle, hits, certifies, answer, isGranted, isUnclear, numberOf}
+use Rattle.meaning.specs.Meaning.{positive, negative, settle, hits, certifies, answer, isGranted, isUnclear, numberOf, byteOf}
 use Rattle.meaning.specs.declared.Entry.{Entry}
 use Rattle.meaning.specs.declared.Entry.the-variants.{Granted, Denied, Default, Unclear}
 use Rattle.meaning.proofs.AnswerLaws.{one-sign}
@@ -23,24 +23,24 @@ abbrev pub Tells : Entry → Bool → Bool → ℕ → Type 0
 Tells e granted unclear number = (isGranted e ≡ granted) × (isUnclear e ≡ unclear) × (numberOf e ≡ number)
 
 pub granted-tells : (k : ℕ) → Tells (Granted k) true false k
-unfolding isGranted isUnclear numberOf
+unfolding isGranted isUnclear numberOf byteOf
 granted-tells k = (refl, refl, refl)
 
 pub denied-tells : (k : ℕ) → Tells (Denied k) false false k
-unfolding isGranted isUnclear numberOf
+unfolding isGranted isUnclear numberOf byteOf
 denied-tells k = (refl, refl, refl)
 
 pub default-tells : Tells Default false false 65535
-unfolding isGranted isUnclear numberOf
+unfolding isGranted isUnclear numberOf byteOf
 default-tells = (refl, refl, refl)
 
 pub unclear-tells : (p n : ℕ) → Tells (Unclear p n) false true 65535
-unfolding isGranted isUnclear numberOf
+unfolding isGranted isUnclear numberOf byteOf
 unclear-tells p n = (refl, refl, refl)
 
 -- an answer that grants does so with its number
 pub granted-number : (e : Entry) → T (isGranted e) → Granted (numberOf e) ≡ e
-unfolding isGranted numberOf
+unfolding isGranted numberOf byteOf
 granted-number (Granted k) t = refl
 granted-number (Denied k) t = absurd t
 granted-number Default t = absurd t
@@ -72,7 +72,7 @@ module _ (pic : Picture) (m u f : ℕ) where
   pub unclear-names : T (isUnclear (answer pic m u f))
       → (p n : ℕ) × (lowest (hits pic m positive u f) count ≡ some p) × (lowest (hits pic m negative u f) count ≡ some n)
       × (answer pic m u f ≡ Unclear p n)
-  unfolding answer settle isUnclear
+  unfolding answer settle isUnclear byteOf
   unclear-names t =
       go (lowest (certifies pic m positive negative u f) count) (lowest (certifies pic m negative positive u f) count)
       (lowest (hits pic m positive u f) count) (lowest (hits pic m negative u f) count) t
@@ -102,7 +102,7 @@ module _ (pic : Picture) (m u f : ℕ) where
   pub denied-number : count ≤ 512 → (T (isGranted (answer pic m u f)) → ⊥) → (T (isUnclear (answer pic m u f)) → ⊥)
       → (numberOf (answer pic m u f) < 65535 → Denied (numberOf (answer pic m u f)) ≡ answer pic m u f)
       × (65535 ≤ numberOf (answer pic m u f) → Default ≡ answer pic m u f)
-  unfolding answer settle isUnclear isGranted numberOf
+  unfolding answer settle isUnclear isGranted numberOf byteOf
   denied-number few g n =
       go (lowest (certifies pic m positive negative u f) count) (lowest (certifies pic m negative positive u f) count) refl
       (lowest (hits pic m positive u f) count) (lowest (hits pic m negative u f) count) g n

@@ -1,3 +1,4 @@
 pub mod Meaning
 pub mod Pairs
+pub mod Steps
 pub mod Cases

@@ -1,5 +1,5 @@
 -- What a picture says of a pair (document 01, "Meaning"; source 002, section 4). Assumes nothing.
-use mathlib.Core.Bool.{Bool, true, false, not, _&&_, _||_}
+use mathlib.Core.Bool.{Bool, not, cond, _&&_, _||_}
 use mathlib.Core.List.{List}
 use mathlib.Core.Option.{Option, none, some}
 use Prim.Native.Nat.{ℕ}
@@ -50,10 +50,7 @@ module _ (pic : Picture) where
   -- p overrides n unless p's tail contains n's tail, or p's head contains n's head, or the tails are level and the heads are level
   unfoldable pub overrides : (p n : Arrow) → Bool
   overrides p n =
-      not
-      (nests (p .tail) (n .tail)
-      || nests (p .head) (n .head)
-      || level (p .tail) (n .tail) && level (p .head) (n .head))
+      not (nests (p .tail) (n .tail) || nests (p .head) (n .head) || level (p .tail) (n .tail) && level (p .head) (n .head))
 
   module _ (mode : ℕ) where
     -- arrow k has the mode and the sign, and reaches the pair
@@ -89,21 +86,12 @@ numberOf (Denied k) = k
 numberOf Default = noArrow
 numberOf (Unclear p n) = noArrow
 
+unfoldable pub isGranted : (e : Entry) → Bool
+isGranted e = eqb (byteOf e) 1
+
+unfoldable pub isUnclear : (e : Entry) → Bool
+isUnclear e = eqb (byteOf e) 2
+
 -- the granting arrow, or 65,535
-unfoldable pub grantingOf : Entry → ℕ
-grantingOf (Granted k) = k
-grantingOf (Denied k) = noArrow
-grantingOf Default = noArrow
-grantingOf (Unclear p n) = noArrow
-
-unfoldable pub isGranted : Entry → Bool
-isGranted (Granted k) = true
-isGranted (Denied k) = false
-isGranted Default = false
-isGranted (Unclear p n) = false
-
-unfoldable pub isUnclear : Entry → Bool
-isUnclear (Granted k) = false
-isUnclear (Denied k) = false
-isUnclear Default = false
-isUnclear (Unclear p n) = true
+unfoldable pub grantingOf : (e : Entry) → ℕ
+grantingOf e = cond (isGranted e) (numberOf e) noArrow

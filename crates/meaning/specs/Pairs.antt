@@ -46,17 +46,11 @@ module _ (pic : Picture) where
   answerAt mode place = answer pic mode (userAt place) (fileAt place)
 
   -- the matrix of a mode: a byte and a number for each pair
-  unfoldable pub byteAt : (mode place : ℕ) → ℕ
-  byteAt mode place = byteOf (answerAt mode place)
-
-  unfoldable pub numberAt : (mode place : ℕ) → ℕ
-  numberAt mode place = numberOf (answerAt mode place)
-
   unfoldable pub matrixBytes : (mode : ℕ) → List ℕ
-  matrixBytes mode = build (byteAt mode) pairs
+  matrixBytes mode = build (λ p. byteOf (answerAt mode p)) pairs
 
   unfoldable pub matrixNumbers : (mode : ℕ) → List ℕ
-  matrixNumbers mode = build (numberAt mode) pairs
+  matrixNumbers mode = build (λ p. numberOf (answerAt mode p)) pairs
 
   -- 12: the mode has an unclear pair; the first, by user, then file
   unfoldable pub unclearFault : (mode : ℕ) → Option Refusal

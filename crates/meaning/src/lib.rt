@@ -24,15 +24,3 @@ pub fn granting(e: Entry) -> u16
     };
     k
 }
-
-// Whether an answer is unclear.
-pub fn is_unclear(e: Entry) -> bool
-    ensures { λ r. ⌜ r ≡ isUnclear e ⌝ }
-{
-    match e {
-        Entry::Granted(_) => false,
-        Entry::Denied(_) => false,
-        Entry::Default => false,
-        Entry::Unclear(_, _) => true,
-    }
-}

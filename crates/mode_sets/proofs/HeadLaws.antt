@@ -5,7 +5,7 @@ use mathlib.Core.List.{List}
 use Prim.Native.Nat.{ℕ, _<_}
 use lib.Dec.{T, eqb, eqb→eq}
 use lib.ListN.{length}
-use Rattle.base.specs.Search.{anyBelow}
+use Rattle.base.specs.Steps.{anyBelow}
 use Rattle.base.proofs.Tests.{and-T, T-and, T-eqb}
 use Rattle.base.proofs.AnyLaws.{any-found, any-is, any-same, any-and, any-image}
 use Rattle.tables.specs.Rows.{Picture, user, file, arrowCount, arrowAt}

@@ -9,7 +9,7 @@ use native.Mathlib.Omega.{arith}
 use borrow.Author.Tests.{ne-eqb}
 use lib.Dec.{T, eqb, eqb→eq}
 use lib.ListN.{length, set}
-use Rattle.base.specs.Search.{anyBelow}
+use Rattle.base.specs.Steps.{anyBelow}
 use Rattle.base.specs.Buffers.{zeros}
 use Rattle.base.proofs.Tests.{T?, or-T, T-or₁, and-T, T-and, T-eqb, T-same, T-true, true-T, not-false, false-not}
 use Rattle.base.proofs.AnyLaws.{any-zero, any-more, any-found, any-is}

@@ -7,7 +7,8 @@ use mathlib.Core.Option.{Option, none, some}
 use Prim.Native.Nat.{ℕ, _<_, _≤_}
 use lib.Dec.{T, not-T}
 use lib.ListN.{length, getD}
-use Rattle.base.specs.Search.{anyBelow, lowest, select}
+use Rattle.base.specs.Search.{lowest, select}
+use Rattle.base.specs.Steps.{anyBelow}
 use Rattle.base.proofs.Tests.{and-T, T-and}
 use Rattle.base.proofs.SearchLaws.{lowest-some, lowest-none}
 use Rattle.base.proofs.SelectLaws.{select-found, select-within, selected-lowest, selected-nothing, lowest-is, lowest-nothing}

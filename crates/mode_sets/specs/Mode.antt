@@ -4,7 +4,8 @@ use mathlib.Core.Bool.{Bool, not, _&&_}
 use mathlib.Core.List.{List}
 use Prim.Native.Nat.{ℕ}
 use lib.Dec.{eqb}
-use Rattle.base.specs.Search.{anyBelow, select}
+use Rattle.base.specs.Search.{select}
+use Rattle.base.specs.Steps.{anyBelow}
 use Rattle.tables.specs.Rows.{arrowCount, arrowAt}
 use Rattle.meaning.specs.Meaning.{hasMode}
 

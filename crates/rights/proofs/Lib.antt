@@ -1,1 +1,1 @@
-mod Ready
+mod Prepared

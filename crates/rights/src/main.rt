@@ -10,7 +10,7 @@ ghost use Rattle.certificates.specs.Steps.{Drawn};
 ghost use Rattle.listing.specs.Files.{filePicture, fileRefusal};
 ghost use Rattle.listing.specs.Listing.{countsLine};
 ghost use Rattle.listing.specs.Numbered.{fileLineCount, fileLine, linesFrom};
-ghost use Rattle.listing.specs.Steps.{Ready, Read, Good};
+ghost use Rattle.listing.specs.Steps.{Prepared, Read, Good};
 ghost use Rattle.lines.specs.declared.Line.the-variants.{Counts as CountsLine};
 ghost use Rattle.rights.specs.Steps.{GotMost, SentAll, RowsSent};
 use blocks::Counts;
@@ -92,7 +92,7 @@ struct Reached {
 // The pair lines, a buffer of whole rows at a time.
 fn send_rows(file: &[u8], closure: &[u64], arrows: &[u16], users: &[u16], files: &[u16]) -> Reached
     requires { ⌜ Good (now file) (filePicture (now file)) ⌝ }
-    requires { ⌜ Ready (filePicture (now file)) (now closure) (now arrows) (now users) (now files) ⌝ }
+    requires { ⌜ Prepared (filePicture (now file)) (now closure) (now arrows) (now users) (now files) ⌝ }
     ensures { λ r. ⌜ RowsSent (filePicture (now (file .entry))) r ⌝ }
 {
     let mut out = io::large_buffer();
@@ -127,7 +127,7 @@ fn send_lines(
     files: &[u16],
 ) -> Sent
     requires { ⌜ Good (now file) (filePicture (now file)) ⌝ }
-    requires { ⌜ Ready (filePicture (now file)) (now closure) (now arrows) (now users) (now files) ⌝ }
+    requires { ⌜ Prepared (filePicture (now file)) (now closure) (now arrows) (now users) (now files) ⌝ }
     requires { ⌜ countsLine (filePicture (now file)) ≡ CountsLine boxes rows (arrowCount (now arrows)) ⌝ }
     ensures { λ s. ⌜ SentAll (fileLineCount (now (file .entry))) s ⌝ }
 {

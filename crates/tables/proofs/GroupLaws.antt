@@ -8,18 +8,18 @@ use native.Mathlib.Omega.{arith}
 use lib.Dec.{T, T-not, not-T, eqb, ltb, eqb→eq, ltb→lt}
 use lib.ListN.{length, getD}
 use Rattle.base.specs.Search.{select}
-use Rattle.tables.specs.Rows.{picture, user, file, userGroup, folder, sideOf, isGroup, onSide}
+use Rattle.tables.specs.Rows.{picture, user, file, sideOf, isGroup, onSide}
 use Rattle.tables.specs.Atoms.{outer, atom, atoms}
 use Rattle.tables.specs.Faults.{byteFault, namesNoBox, acrossSides, wrongEnds, tableFault}
 use Rattle.base.proofs.Tests.{and-T, T-and, T?, T-true, not-false}
 
 -- 0 and 2 are on the user side, 1 and 3 on the file side
-pub sides : (sideOf user ≡ user) × (sideOf userGroup ≡ user) × (sideOf file ≡ file) × (sideOf folder ≡ file)
+pub sides : (sideOf user ≡ user) × (sideOf 2 ≡ user) × (sideOf file ≡ file) × (sideOf 3 ≡ file)
 unfolding sideOf
 sides = (refl, refl, refl, refl)
 
 -- 2 and 3 are the bytes of groups and folders
-pub groups : (isGroup user ≡ false) × (isGroup file ≡ false) × (isGroup userGroup ≡ true) × (isGroup folder ≡ true)
+pub groups : (isGroup user ≡ false) × (isGroup file ≡ false) × (isGroup 2 ≡ true) × (isGroup 3 ≡ true)
 unfolding isGroup
 groups = (refl, refl, refl, refl)
 

@@ -10,7 +10,8 @@ use borrow.Author.Tests.{eq-eqb, ne-eqb}
 use lib.Dec.{eqb}
 use lib.ListN.{length, getD, set, drop, length-set}
 use lib.Seq.{drop-cons, drop-length, getD-set-same, getD-set-other}
-use Rattle.base.specs.Search.{bit, select}
+use Rattle.base.specs.Search.{select}
+use Rattle.base.specs.Steps.{bit}
 use Rattle.base.proofs.Bits.{bit-is, bit-none}
 use Rattle.base.proofs.SelectLaws.{select-alike}
 use Rattle.tables.specs.Rows.{rowCount, rowAt}

@@ -5,7 +5,8 @@ use Prim.Native.Nat.{ℕ}
 use native.Mathlib.Omega.{arith}
 use Rattle.base.specs.Search.{orElse}
 use Rattle.base.proofs.Options.{past, stop, orElse-assoc}
-use Rattle.tables.specs.Refusals.{verdictOf, either}
+use Rattle.tables.specs.Refusals.{verdictOf}
+use Rattle.tables.specs.Steps.{either}
 use Rattle.tables.specs.declared.Refusal.{Refusal}
 use Rattle.tables.specs.declared.Verdict.the-variants.{Passed, Refused}
 

@@ -68,8 +68,3 @@ verdictOf (some r) = Refused r
 abbrev pub unlessRefused : Option Refusal → List ℕ → List ℕ → List ℕ
 unlessRefused none new old = new
 unlessRefused (some r) new old = old
-
--- the first of two verdicts that refuses
-abbrev pub either : Verdict → Verdict → Verdict
-either (Refused r) v = Refused r
-either Passed v = v

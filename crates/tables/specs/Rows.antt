@@ -24,20 +24,13 @@ user = 0
 abbrev pub file : ℕ
 file = 1
 
--- the bytes of a user group and of a folder
-abbrev pub userGroup : ℕ
-userGroup = 2
-
-abbrev pub folder : ℕ
-folder = 3
-
 -- the side that a box's byte puts it on: 2 counts as user, 3 as file
 unfoldable pub sideOf : (byte : ℕ) → ℕ
 sideOf byte = byte % 2
 
--- the byte is that of a user group or a folder; one above 3 is refused
+-- the byte is that of a user group, 2, or a folder, 3; one above 3 is refused
 unfoldable pub isGroup : (byte : ℕ) → Bool
-isGroup byte = leb userGroup byte
+isGroup byte = leb 2 byte
 
 -- b is a box of side s
 unfoldable pub onSide : (boxes : List ℕ) (s b : ℕ) → Bool

@@ -5,8 +5,10 @@ use mathlib.Core.List.{List}
 use Prim.Native.Nat.{ℕ, _%_, _<_, _≤_}
 use lib.Dec.{T, eqb, ltb}
 use lib.ListN.{length, getD}
-use Rattle.base.specs.Search.{bit}
+use Rattle.base.specs.Steps.{bit}
 use Rattle.tables.specs.Rows.{user, file, sideOf, isGroup, onSide, rowCount, rowAt, arrowCount, arrowAt}
+use Rattle.tables.specs.declared.Verdict.{Verdict}
+use Rattle.tables.specs.declared.Verdict.the-variants.{Passed, Refused}
 use Rattle.tables.specs.Faults.{namesNoBox, acrossSides, wrongEnds, wrongMode}
 
 -- what holds of boxes and containments that pass checks 1 to 7 (`sound-rows`)
@@ -47,3 +49,8 @@ unmarked boxes side marks b = onSide boxes side b && not (isGroup (getD boxes b 
 -- byte b is 1 if f b, else 0: how outer boxes are marked while atomic ones are looked for
 abbrev pub Marks : (f : ℕ → Bool) (marks : List ℕ) → Type 0
 Marks f marks = (b : ℕ) → b < length marks → getD marks b 0 ≡ bit (f b)
+
+-- the first of two verdicts that refuses
+abbrev pub either : Verdict → Verdict → Verdict
+either (Refused r) v = Refused r
+either Passed v = v

@@ -5,7 +5,7 @@ use mathlib.Core.Bool.{Bool, _&&_, _||_}
 use Prim.Native.Nat.{ℕ, _+_, _*_, _-_, _<_}
 use native.Mathlib.Omega.{arith}
 use borrow.Author.Needs.{needs}
-use Rattle.base.specs.Search.{anyBelow}
+use Rattle.base.specs.Steps.{anyBelow}
 use Rattle.boxsets.specs.Sets.{isIn, has, low}
 use Rattle.boxsets.specs.declared.Set.{Set}
 use Rattle.boxsets.proofs.TableLaws.{has-in}

@@ -8,7 +8,7 @@ use native.Mathlib.Nat.{eq-or-lt-of-le}
 use borrow.Author.Tests.{leb-true, leb-false}
 use lib.ListN.{length}
 use Rattle.tables.specs.Rows.{Picture, user}
-use Rattle.listing.specs.Steps.{Fits, Ready, Stands}
+use Rattle.listing.specs.Steps.{Fits, Prepared, Stands}
 use Rattle.listing.specs.declared.Place.{Place}
 use Rattle.listing.proofs.ChunkLaws.{Filling, filling-none, filling-more, filling-done}
 use Rattle.listing.proofs.StandLaws.{row-there, fits-next, fits-small, rows-are, atom-in}
@@ -19,7 +19,7 @@ use Rattle.listing.proofs.fill.Tie as tie
 abbrev Inv-loop : tie.InvT-loop
 Inv-loop closure arrows users files out₀ count most at₀ place₀ out at place =
     Fits users files place × (count ≡ place .used * length users) × (length out ≡ length out₀)
-    × ((pic : Picture) → Ready pic closure arrows users files → Stands pic place₀ → Filling pic place₀ out₀ out at place)
+    × ((pic : Picture) → Prepared pic closure arrows users files → Stands pic place₀ → Filling pic place₀ out₀ out at place)
 
 abbrev μ-loop : tie.MeasureT-loop
 μ-loop closure arrows users files out₀ count most at₀ place₀ out at place = count - place .row

@@ -8,18 +8,18 @@ use denote.Enum.Declared.{tagOf}
 use types.Run.{OneOf}
 use Rattle.meaning.specs.declared.Entry.the-variants.{Granted, Denied, Default, Unclear}
 use Rattle.meaning.specs.declared.Entry.{Entry}
-use Rattle.meaning.specs.Meaning.{grantingOf}
+use Rattle.meaning.specs.Meaning.{grantingOf, byteOf, isGranted, numberOf}
 use Rattle.meaning.proofs.Entry.{the-type}
 use Rattle.meaning.proofs.granting.Statement.{statement}
 use Rattle.meaning.proofs.granting.Tie as tie
 
 returns-2 : tie.Need-returns-2
-unfolding grantingOf
+unfolding grantingOf isGranted numberOf byteOf
 returns-2 c = rw (c .before .e .given .1)
 
 -- an entry whose tag is not that of the first variant grants nothing
 others : (e : Entry) → OneOf (1 ∷ 2 ∷ 3 ∷ []) (tagOf the-type e) → 65535 ≡ grantingOf e
-unfolding grantingOf
+unfolding grantingOf isGranted numberOf byteOf
 others (Granted k) h = ⊎-elim (λ z. omega arith) (λ w. ⊎-elim (λ z. omega arith) (λ z. omega arith) w) h
 others (Denied k) h = refl
 others Default h = refl

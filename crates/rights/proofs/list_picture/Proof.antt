@@ -2,7 +2,7 @@
 use mathlib.Core.Path.{refl}
 use Rattle.tables.specs.Rows.{user, file}
 use Rattle.listing.proofs.FileLaws.{counts-are}
-use Rattle.rights.proofs.Ready.{atoms-there, atoms-length, atoms-part, ready}
+use Rattle.rights.proofs.Prepared.{atoms-there, atoms-length, atoms-part, ready}
 use borrow.Author.Needs.{needs}
 use Rattle.rights.proofs.list_picture.Statement.{statement}
 use Rattle.rights.proofs.list_picture.Tie as tie

@@ -4,7 +4,7 @@ use Rattle.tables.specs.Rows.{picture}
 use Rattle.tables.specs.Refusals.{verdictOf}
 use Rattle.containment.specs.Scratch.{earlyFault, pictureFault}
 use Rattle.listing.proofs.FileLaws.{picture-refused, picture-good}
-use Rattle.rights.proofs.Ready.{early-passed, stages-are, drawn}
+use Rattle.rights.proofs.Prepared.{early-passed, stages-are, drawn}
 use borrow.Author.Needs.{needs}
 use Rattle.rights.proofs.list_tables.Statement.{statement}
 use Rattle.rights.proofs.list_tables.Tie as tie

@@ -5,7 +5,7 @@ use native.Mathlib.Omega.{arith}
 use Rattle.listing.specs.Files.{filePicture}
 use Rattle.listing.specs.Numbered.{lineRows}
 use Rattle.listing.proofs.FileLaws.{good-first, good-last, good-end}
-use Rattle.listing.proofs.StandLaws.{ready-sized, stands-fit, fits-small}
+use Rattle.listing.proofs.StandLaws.{prepared-in-range, stands-fit, fits-small}
 use borrow.Author.Needs.{needs}
 use Rattle.rights.proofs.send_lines.Statement.{statement}
 use Rattle.rights.proofs.send_lines.Tie as tie
@@ -44,7 +44,7 @@ add-t16 : tie.Need-add-t16
 add-t16 c =
     let sent = c .before .before .before .before .before .before in
     let d = start (rows sent .before .before .before .before .before) .pre .1 .0 in
-    let sized = ready-sized d in
+    let sized = prepared-in-range d in
     omega (arith, fits-small (stands-fit d (rows sent .send-rows .ensures .stands)) (sized .few-users) (sized .few-files))
 
 returns-3 : tie.Need-returns-3

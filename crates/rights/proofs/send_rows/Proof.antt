@@ -6,7 +6,7 @@ use lib.ListN.{length}
 use Rattle.listing.specs.Files.{filePicture}
 use Rattle.listing.specs.Numbered.{lineRows}
 use Rattle.listing.specs.Steps.{Stands, Filled}
-use Rattle.listing.proofs.StandLaws.{ready-sized, stands-fit, rows-are}
+use Rattle.listing.proofs.StandLaws.{prepared-in-range, stands-fit, rows-are}
 use Rattle.listing.proofs.FileLaws.{good-chunk}
 use borrow.Author.Needs.{needs}
 use Rattle.rights.proofs.send_rows.Statement.{statement}
@@ -23,7 +23,7 @@ row-count-requires : tie.Need-row-count-requires Inv-loop μ-loop
 row-count-requires c κs =
     let start = c .before .before .before .before .before .before .before in
     let d = start .pre .1 in
-    (ready-sized d .few-users, stands-fit d (c .start .ensures (filePicture (start .args .file .now)) (d .arrows-are)) .few-used)
+    (prepared-in-range d .few-users, stands-fit d (c .start .ensures (filePicture (start .args .file .now)) (d .arrows-are)) .few-used)
 
 loop-holds : tie.Need-loop-holds Inv-loop μ-loop
 loop-holds c =
@@ -41,7 +41,7 @@ fill-requires : tie.Need-fill-requires Inv-loop μ-loop
 fill-requires c κs =
     let at-loop = c .before .before .before in
     let d = start at-loop .pre .1 in
-    let sized = ready-sized d in
+    let sized = prepared-in-range d in
     ((sized, stands-fit d (at-loop .loop .inv .0)), omega (arith, sized .few-files, at-loop .loop .inv .2))
 
 -- what a buffer holds

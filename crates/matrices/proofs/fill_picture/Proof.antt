@@ -1,4 +1,4 @@
--- `cells::fill_picture` meets its contract: the local arrays hold the atomic users and files. Assumes nothing.
+-- `matrices::fill_picture` meets its contract: the local arrays hold the atomic users and files. Assumes nothing.
 use mathlib.Core.Path.{refl}
 use borrow.Author.Needs.{needs}
 use Rattle.tables.specs.Rows.{picture, user, file}
@@ -6,8 +6,8 @@ use Rattle.tables.proofs.AtomPlaces.{pairCount-is}
 use Rattle.mode_sets.proofs.CallerLaws.{small-arrows}
 use Rattle.kept_rows.proofs.TakenLaws.{room}
 use Rattle.kept_rows.proofs.AtomLaws.{Listed, listed}
-use Rattle.cells.proofs.fill_picture.Statement.{statement}
-use Rattle.cells.proofs.fill_picture.Tie as tie
+use Rattle.matrices.proofs.fill_picture.Statement.{statement}
+use Rattle.matrices.proofs.fill_picture.Tie as tie
 
 atoms-of-requires : tie.Need-atoms-of-requires
 atoms-of-requires c κs =

@@ -1,4 +1,4 @@
--- `cells::fill_matrix` meets its contract: the rows of the users before i are written. Assumes nothing.
+-- `matrices::fill_matrix` meets its contract: the rows of the users before i are written. Assumes nothing.
 use mathlib.Core.Path.{_≡_, refl, sym, ap, subst, _∙_}
 use Prim.Native.Nat.{ℕ, _+_, _*_, _-_, _<_, _≤_}
 use native.Mathlib.Omega.{arith}
@@ -18,9 +18,9 @@ use Rattle.user_rows.proofs.BlankLaws.{blank-length}
 use Rattle.kept_rows.specs.Steps.{Keeps, KeepsNumbers}
 use Rattle.kept_rows.proofs.AtomLaws.{listed-at}
 use Rattle.kept_rows.proofs.TakenLaws.{Taken, taken}
-use Rattle.cells.proofs.CellLaws.{Filled, filled-none, filled-row, filled-all}
-use Rattle.cells.proofs.fill_matrix.Statement.{statement}
-use Rattle.cells.proofs.fill_matrix.Tie as tie
+use Rattle.matrices.proofs.FillLaws.{Filled, filled-none, filled-row, filled-all}
+use Rattle.matrices.proofs.fill_matrix.Statement.{statement}
+use Rattle.matrices.proofs.fill_matrix.Tie as tie
 
 abbrev Inv-loop : tie.InvT-loop
 Inv-loop closure arrows mode users files bytes₀ numbers₀ own heads count found₀ last₀ i₀ i-end bytes numbers found last i =
