@@ -41,9 +41,6 @@ any-is p (suc n) k l t =
 pub any-none : (p : ℕ → Bool) (n : ℕ) → lowest p n ≡ none → anyBelow p n ≡ false
 any-none p n e = not-false (anyBelow p n) (λ t. let r = any-found p n t in lowest-none p n e (r .0) (r .1) (r .2))
 
-pub any-some : (p : ℕ → Bool) (n k : ℕ) → lowest p n ≡ some k → anyBelow p n ≡ true
-any-some p n k e = let g = lowest-some p n k e in T-true (anyBelow p n) (any-is p n k (g .0) (g .1))
-
 -- ---- one test by others
 
 -- two tests that agree at each number below n

@@ -105,11 +105,6 @@ unfolding build
 build-same g h zero e = refl
 build-same g h (suc n) e = rw (build-same g h n (λ k l. e k (omega arith)), e n (omega arith))
 
--- eight values, one by one
-pub build-eight : (g : ℕ → ℕ) → build g 8 ≡ g 0 ∷ g 1 ∷ g 2 ∷ g 3 ∷ g 4 ∷ g 5 ∷ g 6 ∷ g 7 ∷ []
-unfolding build
-build-eight g = refl
-
 -- place n of a buffer that a loop fills by g
 pub written-build : (g : ℕ → ℕ) (n : ℕ) (old : List ℕ) → n < length old → set (written (build g n) old) n (g n) ≡ written (build g (n + 1)) old
 written-build g n old h =

@@ -82,11 +82,6 @@ unfolding first fold
 first-fold g zero = refl
 first-fold g (suc n) = ap (λ (x : Option _). orElse x (g n)) (first-fold g n)
 
--- one number more
-pub first-suc : {A : Type 0} (g : ℕ → Option A) (n : ℕ) → first g (suc n) ≡ orElse (first g n) (g n)
-unfolding first
-first-suc g n = refl
-
 pub orElse-chains : {A : Type 0} → Chains {A = Option A} none orElse
 unfolding orElse
 orElse-chains {A} = record { assoc = orElse-assoc; left = λ a. refl; right = right }

@@ -32,8 +32,5 @@ unfolding build
 built-none g old = sym (written-none old)
 
 module _ (g : ℕ → ℕ) (old : List ℕ) (p : ℕ) (out : List ℕ) (w : out ≡ written (build g p) old) where
-  pub built-length : p ≤ length old → length out ≡ length old
-  built-length h = ap length w ∙ written-length (build g p) old (rw build-length h)
-
   pub built-more : (v : ℕ) → p < length old → v ≡ g p → set out p v ≡ written (build g (p + 1)) old
   built-more v h e = rw (w, e) (written-build g p old h)

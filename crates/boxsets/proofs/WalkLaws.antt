@@ -56,13 +56,5 @@ module _ (x y : Set) (drop : (k : ℕ) → isIn y k ≡ (isIn x k && not (eqb k 
       go (yes e) = rw (eq-eqb k (low x) e) (T-true (isIn x k) (subst (λ (j : ℕ). T (isIn x j)) (sym e) (low-in x there)))
       go (no n) = rw (ne-eqb k (low x) n) (and-yes (isIn x k) ∙ sym (rw (ne-eqb k (low x) n) at (drop k)))
 
-  -- the lowest is not left
-  pub walk-gone : isIn y (low x) ≡ false
-  walk-gone = drop (low x) ∙ rw (eq-eqb (low x) (low x) refl) (no-and (isIn x (low x)))
-    where
-      no-and : (b : Bool) → (b && false) ≡ false
-      no-and true = refl
-      no-and false = refl
-
   pub walk-less : 256 - low y < 256 - low x
   walk-less = omega (arith, low-rises x y drop there)

@@ -21,7 +21,6 @@ use Rattle.meaning.specs.Pairs.{users, unclearFault}
 use Rattle.meaning.proofs.MatrixLaws.{unclear-first}
 use Rattle.meaning.proofs.RowPairs.{RowsClear, rows-more, rows-found, rows-end}
 use Rattle.mode_sets.specs.Steps.{ModeSets}
-use Rattle.mode_sets.proofs.CallerLaws.{no-tails-clear}
 use Rattle.user_rows.specs.Steps.{Sorts}
 use Rattle.user_rows.specs.declared.Row.{Row}
 
@@ -57,9 +56,3 @@ module _ (pic : Picture) (m : ℕ) where
 
   pub clear-end : Clear (length (users pic)) → unclearFault pic m ≡ none
   clear-end c = unclear-first pic m ∙ rows-end pic unclear (unclearPair m) c
-
-  -- a mode that has no arrow of a sign has no unclear pair
-  pub no-sign : (heads : List ℕ) → ModeSets (pic .arrows) m heads → (s : ℕ) → s ≤ 1 → eqb (low (setAt heads (512 + s))) 256 ≡ true
-      → unclearFault pic m ≡ none
-  no-sign heads sets s most e =
-      no-tails-clear pic m heads sets s most (λ t. has-in heads (512 + s) t ∙ empty-none (setAt heads (512 + s)) e t)

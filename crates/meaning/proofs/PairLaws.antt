@@ -64,14 +64,8 @@ module _ (pic : Picture) where
 
   -- a pair read out of the two lists by its place
   module _ (us fs : List ℕ) (eu : us ≡ users pic) (ef : fs ≡ files pic) (p : ℕ) where
-    pub place-there : p < pairs pic → (p / length fs < length us) × (p % length fs < length fs)
-    place-there h = rw (eu, ef) (pair-in p h)
-
     pub pairs-are : length us * length fs ≡ pairs pic
     pairs-are = rw (eu, ef, pairCount-is)
-
-    pub pairs-fit : length (pic .boxes) ≤ 256 → length us * length fs ≤ 65536
-    pairs-fit h = rw (eu, ef) (few-pairs (pic .boxes) (pic .rows) h)
 
     pub user-read : getD us (p / length fs) 0 ≡ userAt pic p
     unfolding userAt
@@ -139,10 +133,6 @@ module _ (pic : Picture) (m : ℕ) where
 
   pub unclear-none : (p : ℕ) → isUnclear (answerAt pic m p) ≡ false → unclearAt p ≡ none
   unclear-none p e = given-false _ _ e
-
-  pub unclear-some : (p : ℕ) → isUnclear (answerAt pic m p) ≡ true
-      → unclearAt p ≡ some (unclearPair m (userAt pic p) (fileAt pic p))
-  unclear-some p e = given-true _ _ e
 
   pub unclear-is : unclearFault pic m ≡ first unclearAt (pairs pic)
   unfolding unclearFault firstPair answerAt
