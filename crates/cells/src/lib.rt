@@ -10,6 +10,8 @@ ghost use Rattle.mode_sets.specs.Steps.{Small};
 ghost use Rattle.certificates.specs.Steps.{Drawn};
 ghost use Rattle.kept_rows.specs.Steps.{Boxes};
 ghost use Rattle.cells.specs.Steps.{byteIn, Emitted};
+use atoms::atoms_of;
+use atoms::no_boxes;
 use base::wide;
 use boxsets::is_in;
 use boxsets::set_of;
@@ -19,8 +21,6 @@ use mode_sets::no_heads;
 use mode_sets::no_numbers;
 use mode_sets::take_mode;
 use tables::BoxRow;
-use tables::atoms_of;
-use tables::no_boxes;
 use user_rows::Row;
 use user_rows::no_row;
 

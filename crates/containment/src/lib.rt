@@ -67,7 +67,7 @@ pub fn check_scratch(boxes: &[u8], scratch: &[u8]) -> Verdict
     ensures { λ r. ⌜ r ≡ verdictOf (scratchFault (length (now (boxes .entry))) (now (scratch .entry))) ⌝ }
 {
     let n = boxes.len();
-    tables::check_room(0, scratch.len(), n * n)
+    checks::check_room(0, scratch.len(), n * n)
 }
 
 // What comes before the stage below where a call has no other checks: checks 1 to 7 of a picture, 9 for the scratch.
@@ -75,7 +75,7 @@ pub fn early_picture(boxes: &[u8], rows: &[u16], arrows: &[u16], scratch: &[u8])
     ensures { λ r. ⌜ r ≡ verdictOf (earlyFault (picture (now (boxes .entry)) (now (rows .entry)) (now (arrows .entry)))
         (now (scratch .entry))) ⌝ }
 {
-    let tables = tables::check(boxes, rows, arrows);
+    let tables = checks::check(boxes, rows, arrows);
     if let Verdict::Refused(r) = tables {
         return Verdict::Refused(r);
     }

@@ -162,10 +162,10 @@ fn list_picture(file: &[u8], boxes: &[u8], rows: &[u16], arrows: &[u16], closure
     requires { ⌜ Drawn (picture (now boxes) (now rows) (now arrows)) (now closure) ⌝ }
     ensures { λ s. ⌜ SentAll (fileLineCount (now (file .entry))) s ⌝ }
 {
-    let mut u = tables::no_boxes();
-    let mut f = tables::no_boxes();
-    let users = tables::atoms_of(boxes, rows, BoxRow::USER, &mut u);
-    let files = tables::atoms_of(boxes, rows, BoxRow::FILE, &mut f);
+    let mut u = atoms::no_boxes();
+    let mut f = atoms::no_boxes();
+    let users = atoms::atoms_of(boxes, rows, BoxRow::USER, &mut u);
+    let files = atoms::atoms_of(boxes, rows, BoxRow::FILE, &mut f);
     send_lines(
         file,
         boxes.len(),
