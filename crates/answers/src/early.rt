@@ -6,7 +6,7 @@ ghost use Rattle.answers.specs.Calls.{entryEarly, matrixEarly};
 use atoms::pair_count;
 use checks::check_mode;
 use checks::check_room;
-use containment::check_scratch;
+use scratch::check_scratch;
 use tables::Verdict;
 
 // Of one entry: 1 to 9.

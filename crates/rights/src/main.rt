@@ -184,8 +184,8 @@ fn list_tables(file: &[u8], boxes: &[u8], rows: &[u16], arrows: &[u16]) -> Sent
 {
     let mut scratch = io::large_buffer();
     let mut closure = containment::no_closure();
-    let early = containment::early_picture(boxes, rows, arrows, &scratch);
-    let v = containment::prepare(early, boxes, rows, &mut scratch, &mut closure);
+    let early = scratch::early_picture(boxes, rows, arrows, &scratch);
+    let v = scratch::prepare(early, boxes, rows, &mut scratch, &mut closure);
     if let Verdict::Refused(r) = v {
         return send_stopped(file, r);
     }
