@@ -2,7 +2,7 @@
 use mathlib.Core.Path.{_≡_, sym, ap, subst, _∙_}
 use mathlib.Core.Bool.{_&&_, _||_, cond}
 use mathlib.Core.List.{List, _∷_}
-use Prim.Native.Nat.{ℕ, suc, _+_, _*_, _-_, _<_, _≤_}
+use Prim.Native.Nat.{ℕ, _+_, _*_, _-_, _<_, _≤_}
 use native.Mathlib.Decide.{ℕ-discrete}
 use native.Mathlib.Omega.{arith}
 use borrow.Author.Tests.{eq-eqb}
@@ -12,10 +12,9 @@ use lib.Seq.{getD-set-same, getD-set-other}
 use Rattle.base.specs.Search.{bit}
 use Rattle.base.proofs.Index.{in-table, same-row, same-col}
 use Rattle.base.proofs.Tests.{and-T, not-false}
-use Rattle.tables.specs.Rows.{rowCount, rowAt}
 use Rattle.tables.proofs.RowLaws.{rows-from}
 use Rattle.boxsets.specs.Sets.{has}
-use Rattle.containment.specs.Contains.{Row, here, later, Chain, one, more, direct, contains}
+use Rattle.containment.specs.Contains.{direct, contains}
 use Rattle.scratch.specs.Scratch.{filled}
 use Rattle.containment.specs.Steps.{RowsBelow, Both}
 use Rattle.scratch.specs.Steps.{Bytes, Cells, over, SameFrom, Square}
