@@ -23,10 +23,10 @@ use Rattle.tables.proofs.TableLaws.{both-none, not-not, room-passed, sound-rows
 use Rattle.tables.proofs.AtomPlaces.{atom-there}
 use Rattle.tables.proofs.Verdicts.{passed, refused, either-verdict}
 use Rattle.containment.specs.Contains.{loopFault}
-use Rattle.containment.specs.Scratch.{scratchFault, earlyFault}
+use Rattle.scratch.specs.Scratch.{scratchFault, earlyFault}
 use Rattle.containment.specs.Steps.{Closure}
-use Rattle.containment.proofs.ScratchLaws.{scratch-room}
-use Rattle.containment.proofs.PictureLaws.{early-parts}
+use Rattle.scratch.proofs.ScratchLaws.{scratch-room}
+use Rattle.scratch.proofs.PictureLaws.{early-parts}
 use Rattle.meaning.specs.Pairs.{matrixBytes, matrixNumbers}
 use Rattle.meaning.specs.declared.Entry.{Entry}
 use Rattle.certificates.specs.Steps.{Drawn}

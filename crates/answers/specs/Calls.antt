@@ -12,7 +12,7 @@ use Rattle.tables.specs.Refusals.{notAtomic, unlessRefused}
 use Rattle.tables.specs.Faults.{tableFault, modeFault, roomFault}
 use Rattle.tables.specs.declared.Refusal.{Refusal}
 use Rattle.containment.specs.Contains.{loopFault}
-use Rattle.containment.specs.Scratch.{scratchFault, pictureFault}
+use Rattle.scratch.specs.Scratch.{scratchFault, pictureFault}
 use Rattle.meaning.specs.Pairs.{matrixBytes, matrixNumbers, anyUnclear}
 use Rattle.meaning.specs.declared.Entry.{Entry}
 use Rattle.answers.specs.declared.EntryReply.{EntryReply}

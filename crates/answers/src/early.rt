@@ -3,18 +3,18 @@ ghost use mathlib.Core.Path.{_≡_};
 ghost use Rattle.tables.specs.Rows.{picture};
 ghost use Rattle.tables.specs.Refusals.{verdictOf};
 ghost use Rattle.answers.specs.Calls.{entryEarly, matrixEarly};
-use containment::check_scratch;
+use atoms::pair_count;
+use checks::check_mode;
+use checks::check_room;
+use scratch::check_scratch;
 use tables::Verdict;
-use tables::check_mode;
-use tables::check_room;
-use tables::pair_count;
 
 // Of one entry: 1 to 9.
 pub fn early_entry(boxes: &[u8], rows: &[u16], arrows: &[u16], scratch: &[u8], mode: u16) -> Verdict
     ensures { λ r. ⌜ r ≡ verdictOf (entryEarly (picture (now (boxes .entry)) (now (rows .entry)) (now (arrows .entry)))
         (now (scratch .entry)) mode) ⌝ }
 {
-    let tables = tables::check(boxes, rows, arrows);
+    let tables = checks::check(boxes, rows, arrows);
     if let Verdict::Refused(r) = tables {
         return Verdict::Refused(r);
     }
@@ -34,7 +34,7 @@ pub fn early_matrix(
     ensures { λ r. ⌜ r ≡ verdictOf (matrixEarly (picture (now (boxes .entry)) (now (rows .entry)) (now (arrows .entry)))
         (now (scratch .entry)) mode (now (bytes .entry)) (now (numbers .entry))) ⌝ }
 {
-    let tables = tables::check(boxes, rows, arrows);
+    let tables = checks::check(boxes, rows, arrows);
     if let Verdict::Refused(r) = tables {
         return Verdict::Refused(r);
     }

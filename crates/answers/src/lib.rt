@@ -1,4 +1,4 @@
-// The calls on a picture: one entry, the judge, the matrix of a mode. Each makes its early checks, then `containment::prepare`, which fills
+// The calls on a picture: one entry, the judge, the matrix of a mode. Each makes its early checks, then `scratch::prepare`, which fills
 // the scratch and makes the closure that the answers go by.
 mod early;
 mod pair;
@@ -6,14 +6,12 @@ mod pair;
 ghost use mathlib.Core.Path.{_≡_};
 ghost use Rattle.tables.specs.Rows.{picture};
 ghost use Rattle.tables.specs.Refusals.{verdictOf};
-ghost use Rattle.containment.specs.Scratch.{scratchAfter, earlyFault};
+ghost use Rattle.scratch.specs.Scratch.{scratchAfter, earlyFault};
 ghost use Rattle.meaning.specs.Meaning.{answer};
 ghost use Rattle.answers.specs.Calls.{replyOf, entryEarly, entryFault, judgeFault};
 ghost use Rattle.answers.specs.Calls.{matrixEarly, matrixFault, bytesAfter, numbersAfter};
 use base::wide;
-use containment::early_picture;
 use containment::no_closure;
-use containment::prepare;
 use early::early_entry;
 use early::early_matrix;
 use judging::judge_picture;
@@ -21,6 +19,8 @@ use matrices::fill_picture;
 pub use meaning::Entry;
 pub use pair::answer_pair;
 use pair::check_asked;
+use scratch::early_picture;
+use scratch::prepare;
 use tables::Refusal;
 use tables::Verdict;
 

@@ -55,13 +55,13 @@ fn check_blocks(file: &[u8]) -> Reading
 fn check_tables(counts: Counts, boxes: usize, rows: usize, arrows: usize) -> Verdict
     ensures { λ r. ⌜ r ≡ verdictOf (tablesFault counts boxes rows arrows) ⌝ }
 {
-    let many = tables::check_counts(counts.boxes, counts.containments, counts.arrows);
+    let many = checks::check_counts(counts.boxes, counts.containments, counts.arrows);
     if let Verdict::Refused(r) = many {
         return Verdict::Refused(r);
     }
-    tables::check_room(5, boxes, counts.boxes)
-        .or_else(tables::check_room(6, rows, 2 * counts.containments))
-        .or_else(tables::check_room(7, arrows, 4 * counts.arrows))
+    checks::check_room(5, boxes, counts.boxes)
+        .or_else(checks::check_room(6, rows, 2 * counts.containments))
+        .or_else(checks::check_room(7, arrows, 4 * counts.arrows))
 }
 
 // Writes a block's boxes from row `at` on.

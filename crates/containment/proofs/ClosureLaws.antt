@@ -3,23 +3,24 @@ use mathlib.Core.Path.{_≡_, sym, ap, _∙_}
 use mathlib.Core.Logic.{inl, inr}
 use mathlib.Core.Bool.{Bool}
 use mathlib.Core.List.{List}
-use Prim.Native.Nat.{ℕ, _+_, _<_, _≤_}
+use Prim.Native.Nat.{ℕ, suc, _+_, _*_, _<_, _≤_}
 use native.Mathlib.Omega.{arith}
+use lib.Dec.{T}
 use lib.ListN.{length}
 use Rattle.base.specs.Search.{given}
 use Rattle.base.proofs.SearchLaws.{first-same}
+use Rattle.tables.specs.Rows.{rowCount, rowAt}
 use Rattle.tables.specs.Refusals.{inItself}
 use Rattle.tables.specs.declared.Refusal.{Refusal}
 use Rattle.tables.specs.Steps.{SoundRows}
 use Rattle.boxsets.specs.Sets.{isIn, setAt, has}
 use Rattle.boxsets.proofs.TableLaws.{has-in}
-use Rattle.containment.specs.Contains.{direct, contains, around, loopFault}
+use Rattle.containment.specs.Contains.{Row, here, later, Chain, one, more, direct, contains, around, loopFault}
 use Rattle.containment.specs.Steps.{RowsBelow, Both, Closure, Turns, rounds, selves, ownFault}
-use Rattle.containment.proofs.ContainsLaws.{around-test}
+use Rattle.containment.proofs.ContainsLaws.{around-test, contains-chain}
 use Rattle.containment.proofs.Rounds.{rounds-all}
 use Rattle.containment.proofs.ClosingLaws.{both-same}
 use Rattle.containment.proofs.SelvesLaws.{selves-all}
-use Rattle.containment.proofs.MarkLaws.{row-below}
 
 -- ---- its sets
 
@@ -30,6 +31,21 @@ within-in n rows t s a b l = sym (has-in t a b) ∙ s .down a b l
 -- set 256 + b: what is b or contains it
 pub above-in : (n : ℕ) (rows t : List ℕ) → Closure n rows t → (a b : ℕ) → b < n → isIn (setAt t (256 + b)) a ≡ around rows a b
 above-in n rows t s a b l = sym (has-in t (256 + b) a) ∙ s .up a b l
+
+-- ---- what a box contains is among the boxes of the rows
+
+-- the inner box of a row is below what those of each place in the table are below
+row-below : {rows : List ℕ} {a b : ℕ} (n : ℕ) → Row rows a b → ((k : ℕ) → k < rowCount rows → rowAt rows k .inner < n) → b < n
+row-below n here h = h 0 (omega arith)
+row-below n (later {x = x} {y = y} {rows = rows} r) h =
+    row-below n r (λ k l. let e : 2 * (k + 1) + 1 ≡ suc (suc (2 * k + 1)) = omega arith in rw e at (h (k + 1) (omega arith)))
+
+chain-below : {rows : List ℕ} {a b : ℕ} (n : ℕ) → Chain rows a b → ((k : ℕ) → k < rowCount rows → rowAt rows k .inner < n) → b < n
+chain-below n (one r) h = row-below n r h
+chain-below n (more r c) h = chain-below n c h
+
+pub contains-below : (n : ℕ) (rows : List ℕ) → RowsBelow n rows → (a b : ℕ) → T (contains rows a b) → b < n
+contains-below n rows below a b t = chain-below n (contains-chain rows a b t) (below .inner-below)
 
 -- ---- how it is filled
 

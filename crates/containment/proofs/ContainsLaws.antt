@@ -21,6 +21,15 @@ use Rattle.tables.proofs.GroupLaws.{atom-iff}
 
 -- ---- a row as a test
 
+-- of no row, and of one row more
+pub direct-none : (a b : ℕ) → direct [] a b ≡ false
+unfolding direct
+direct-none a b = refl
+
+pub direct-more : (x y : ℕ) (rows : List ℕ) (a b : ℕ) → direct (x ∷ y ∷ rows) a b ≡ (eqb x a && eqb y b || direct rows a b)
+unfolding direct
+direct-more x y rows a b = refl
+
 pub direct-row : (rows : List ℕ) (a b : ℕ) → T (direct rows a b) → Row rows a b
 unfolding direct
 direct-row [] a b t = absurd t

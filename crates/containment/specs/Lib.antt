@@ -1,4 +1,2 @@
 pub mod Contains
-pub mod Scratch
 pub mod Steps
-pub mod Cases

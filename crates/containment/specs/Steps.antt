@@ -1,26 +1,23 @@
--- What the functions ask of and promise each other: the closure, and how it and the scratch stand while they are filled. Assumes nothing.
+-- What the functions ask of and promise each other: the closure, and how it stands while it is filled. Assumes nothing.
 use mathlib.Core.Path.{_≡_}
-use mathlib.Core.Bool.{Bool, _&&_, _||_, cond}
+use mathlib.Core.Bool.{Bool, _&&_, _||_}
 use mathlib.Core.List.{List}
 use mathlib.Core.Option.{Option}
-use Prim.Native.Nat.{ℕ, zero, suc, _+_, _*_, _%_, _<_, _≤_}
-use lib.Dec.{T, eqb}
-use lib.ListN.{length, getD}
+use Prim.Native.Nat.{ℕ, zero, suc, _+_, _%_, _<_}
+use lib.Dec.{eqb}
+use lib.ListN.{length}
 use Rattle.base.specs.Search.{first, given}
-use Rattle.base.specs.Steps.{bit}
 use Rattle.tables.specs.Refusals.{inItself}
 use Rattle.tables.specs.Rows.{rowCount, rowAt}
 use Rattle.tables.specs.declared.Refusal.{Refusal}
 use Rattle.boxsets.specs.Sets.{has}
-use Rattle.containment.specs.Contains.{direct, around}
+use Rattle.containment.specs.Contains.{around}
 
 -- whole rows, of boxes below n
 pub record RowsBelow (n : ℕ) (rows : List ℕ) : Type 0 where
   pub whole : length rows % 2 ≡ 0
   pub outer-below : (k : ℕ) → k < rowCount rows → rowAt rows k .outer < n
   pub inner-below : (k : ℕ) → k < rowCount rows → rowAt rows k .inner < n
-
--- ---- sets of boxes
 
 -- the table says f for n boxes: set a has b exactly if f a b, and set 256 + b has a exactly if f a b
 pub record Both (n : ℕ) (f : ℕ → ℕ → Bool) (t : List ℕ) : Type 0 where
@@ -54,36 +51,3 @@ selves f (suc k) a b = selves f k a b || eqb a k && eqb b k
 -- 10: the lowest of n boxes whose set has it
 unfoldable pub ownFault : (n : ℕ) (t : List ℕ) → Option Refusal
 ownFault n t = first (λ b. given (has t b b) (inItself b)) n
-
--- no set of the first n has a number from n on
-abbrev pub Square : (n : ℕ) (t : List ℕ) → Type 0
-Square n t = (a b : ℕ) → a < n → T (has t a b) → b < n
-
--- ---- bytes
-
--- byte a × n + b is g a b
-abbrev pub Bytes : (n : ℕ) (g : ℕ → ℕ → ℕ) (s : List ℕ) → Type 0
-Bytes n g s = (a b : ℕ) → a < n → b < n → getD s (a * n + b) 0 ≡ g a b
-
--- byte a × n + b is 1 if f a b, else 0
-abbrev pub Cells : (n : ℕ) (f : ℕ → ℕ → Bool) (s : List ℕ) → Type 0
-Cells n f s = Bytes n (λ a b. bit (f a b)) s
-
--- v where a row has a as outer box and b as inner, else g a b
-unfoldable pub over : (rows : List ℕ) (v : ℕ) (g : ℕ → ℕ → ℕ) (a b : ℕ) → ℕ
-over rows v g a b = cond (direct rows a b) v (g a b)
-
--- t has as many bytes as s, and the same from m on
-pub record SameFrom (m : ℕ) (s t : List ℕ) : Type 0 where
-  pub len : length t ≡ length s
-  pub rest : (p : ℕ) → m ≤ p → getD t p 0 ≡ getD s p 0
-
--- t is s with 1 in place at + b for each b for which the test holds
-pub record Ones (p : ℕ → Bool) (at : ℕ) (s t : List ℕ) : Type 0 where
-  pub len : length t ≡ length s
-  pub from : (b : ℕ) → getD t (at + b) 0 ≡ cond (p b) 1 (getD s (at + b) 0)
-  pub before : (i : ℕ) → i < at → getD t i 0 ≡ getD s i 0
-
--- there is a place for each of them
-abbrev pub Room : (p : ℕ → Bool) (at : ℕ) (s : List ℕ) → Type 0
-Room p at s = (b : ℕ) → T (p b) → at + b < length s

@@ -1,28 +1,19 @@
-// Which box contains which: as sets of boxes for the layers above, and as bytes that the caller lends, n × n of them for n boxes.
+// Which box contains which, as sets of boxes for the layers above: how they are filled, and check 10.
 mod closing;
-mod scratch;
 
 ghost use mathlib.Core.Path.{_≡_};
-ghost use mathlib.Core.Option.{Option};
-ghost use Prim.Native.Nat.{_*_, _≤_};
+ghost use Prim.Native.Nat.{_≤_};
 ghost use lib.ListN.{length};
 ghost use Rattle.base.specs.Buffers.{zeros};
-ghost use Rattle.base.specs.Search.{orElse};
-ghost use Rattle.tables.specs.Rows.{picture};
 ghost use Rattle.tables.specs.Refusals.{verdictOf};
-ghost use Rattle.tables.specs.declared.Refusal.{Refusal};
-ghost use Rattle.tables.specs.Steps.{SoundRows};
-ghost use Rattle.containment.specs.Contains.{loopFault};
-ghost use Rattle.containment.specs.Scratch.{filled, scratchFault, scratchAfter, earlyFault};
-ghost use Rattle.containment.specs.Steps.{ownFault, Closure};
-use closing::add_selves;
-use closing::close;
-use closing::mark_rows;
-use scratch::fill_scratch;
+ghost use Rattle.containment.specs.Steps.{ownFault};
+pub use closing::add_selves;
+pub use closing::close;
+pub use closing::mark_rows;
 use tables::Refusal;
 use tables::Verdict;
 
-// An empty closure, for `prepare` to fill.
+// An empty closure, for `mark_rows` to fill.
 pub fn no_closure() -> [u64; 2048]
     ensures { λ r. ⌜ r ≡ zeros 2048 ⌝ }
 {
@@ -30,7 +21,7 @@ pub fn no_closure() -> [u64; 2048]
 }
 
 // Check 10, by sets that have what each box contains: the lowest box whose set has it.
-fn check_loops(n: usize, closure: &[u64]) -> Verdict
+pub fn check_loops(n: usize, closure: &[u64]) -> Verdict
     requires { ⌜ (length (now closure) ≡ 2048) × (n ≤ 256) ⌝ }
     ensures { λ r. ⌜ r ≡ verdictOf (ownFault n (now (closure .entry))) ⌝ }
 {
@@ -40,66 +31,4 @@ fn check_loops(n: usize, closure: &[u64]) -> Verdict
         }
     }
     Verdict::Passed
-}
-
-// Fills the closure and the scratch, and makes check 10. Each box is added to its own sets only after the check, which looks
-// for a box there.
-pub fn contain(boxes: &[u8], rows: &[u16], scratch: &mut [u8], closure: &mut [u64]) -> Verdict
-    requires { ⌜ SoundRows (now boxes) (now rows) ⌝ }
-    requires { ⌜ length (now boxes) * length (now boxes) ≤ length (now scratch) ⌝ }
-    requires { ⌜ now closure ≡ zeros 2048 ⌝ }
-    ensures { λ r. ⌜ r ≡ verdictOf (loopFault (now (boxes .entry)) (now (rows .entry))) ⌝ }
-    ensures { λ _. ⌜ now (scratch .exit) ≡ filled (length (now (boxes .entry))) (now (rows .entry)) (now (scratch .entry)) ⌝ }
-    ensures { λ _. ⌜ Closure (length (now (boxes .entry))) (now (rows .entry)) (now (closure .exit)) ⌝ }
-{
-    let n = boxes.len();
-    mark_rows(rows, closure);
-    close(closure, n);
-    let verdict = check_loops(n, closure);
-    fill_scratch(rows, n, closure, scratch);
-    add_selves(closure, n);
-    verdict
-}
-
-// Check 9 for the scratch of so many boxes as passed check 2.
-pub fn check_scratch(boxes: &[u8], scratch: &[u8]) -> Verdict
-    requires { ⌜ length (now boxes) ≤ 256 ⌝ }
-    ensures { λ r. ⌜ r ≡ verdictOf (scratchFault (length (now (boxes .entry))) (now (scratch .entry))) ⌝ }
-{
-    let n = boxes.len();
-    tables::check_room(0, scratch.len(), n * n)
-}
-
-// What comes before the stage below where a call has no other checks: checks 1 to 7 of a picture, 9 for the scratch.
-pub fn early_picture(boxes: &[u8], rows: &[u16], arrows: &[u16], scratch: &[u8]) -> Verdict
-    ensures { λ r. ⌜ r ≡ verdictOf (earlyFault (picture (now (boxes .entry)) (now (rows .entry)) (now (arrows .entry)))
-        (now (scratch .entry))) ⌝ }
-{
-    let tables = tables::check(boxes, rows, arrows);
-    if let Verdict::Refused(r) = tables {
-        return Verdict::Refused(r);
-    }
-    check_scratch(boxes, scratch)
-}
-
-// The stage that every call shares: unless an earlier check refused, the closure and the scratch, and check 10.
-pub fn prepare(
-    early: Verdict,
-    boxes: &[u8],
-    rows: &[u16],
-    scratch: &mut [u8],
-    closure: &mut [u64],
-) -> Verdict
-    requires { ⌜ (early ≡ Verdict.Passed
-        → SoundRows (now boxes) (now rows) × (length (now boxes) * length (now boxes) ≤ length (now scratch))) ⌝ }
-    requires { ⌜ now closure ≡ zeros 2048 ⌝ }
-    ensures { λ r. ⌜ ((e : Option Refusal) → early ≡ verdictOf e
-        → (r ≡ verdictOf (orElse e (loopFault (now (boxes .entry)) (now (rows .entry)))))
-        × (now (scratch .exit) ≡ scratchAfter e (now (boxes .entry)) (now (rows .entry)) (now (scratch .entry)))) ⌝ }
-    ensures { λ r. ⌜ (r ≡ Verdict.Passed → Closure (length (now (boxes .entry))) (now (rows .entry)) (now (closure .exit))) ⌝ }
-{
-    if let Verdict::Refused(r) = early {
-        return Verdict::Refused(r);
-    }
-    contain(boxes, rows, scratch, closure)
 }

@@ -4,11 +4,11 @@ ghost use Prim.Native.Nat.{_≤_};
 ghost use lib.ListN.{length};
 ghost use Rattle.base.specs.Buffers.{written, zeros};
 ghost use Rattle.headings.specs.Calls.{headingsOf, headingFault, usersAfter, filesAfter};
+use atoms::atoms_of;
+use checks::check_room;
 use tables::BoxRow;
 use tables::Refusal;
 use tables::Verdict;
-use tables::atoms_of;
-use tables::check_room;
 
 // What the call answers: how many atomic users and atomic files there are.
 pub enum Headings {
@@ -43,7 +43,7 @@ pub fn atomic_boxes(boxes: &[u8], rows: &[u16], users: &mut [u16], files: &mut [
     ensures { λ _. ⌜ now (files .exit)
         ≡ filesAfter (now (boxes .entry)) (now (rows .entry)) (now (users .entry)) (now (files .entry)) ⌝ }
 {
-    let tables = tables::check(boxes, rows, &rows[..0]);
+    let tables = checks::check(boxes, rows, &rows[..0]);
     if let Verdict::Refused(r) = tables {
         return Headings::Refused(r);
     }

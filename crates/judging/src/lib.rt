@@ -1,5 +1,5 @@
 // Judging: the first unclear pair of a mode, and of all modes.
-mod atoms;
+mod atom_sets;
 
 ghost use mathlib.Core.Path.{_≡_};
 ghost use mathlib.Core.Bool.{_&&_};
@@ -16,7 +16,9 @@ ghost use Rattle.mode_sets.specs.Steps.{Small};
 ghost use Rattle.certificates.specs.Steps.{Drawn};
 ghost use Rattle.user_rows.specs.Steps.{Sized, Moded};
 ghost use Rattle.judging.specs.Steps.{Signed, signUsed};
-pub use atoms::atom_set;
+pub use atom_sets::atom_set;
+use atoms::atoms_of;
+use atoms::no_boxes;
 use base::wide;
 use boxsets::Set;
 use boxsets::add;
@@ -34,8 +36,6 @@ use tables::Arrow;
 use tables::BoxRow;
 use tables::Refusal;
 use tables::Verdict;
-use tables::atoms_of;
-use tables::no_boxes;
 
 // Check 12 for a mode, by its arrows: row by row, and in a row the lowest file.
 fn judge_rows(

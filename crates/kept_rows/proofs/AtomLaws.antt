@@ -45,7 +45,7 @@ module _ (boxes rows : List ℕ) (side : ℕ) where
       let there : i < length (atoms boxes rows side) = omega (arith, ap length e) in
       (at, there, rw at (atoms-there i there))
 
-  -- by what `tables::atoms_of` promises
+  -- by what `atoms::atoms_of` promises
   pub listed : length boxes ≤ 256 → (old : List ℕ) (count : ℕ) (out : List ℕ) → old ≡ zeros 256
       → Wrote (atoms boxes rows side) old count out → Listed boxes rows side count out
   listed few old count out e w =

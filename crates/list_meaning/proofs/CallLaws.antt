@@ -17,9 +17,9 @@ use Rattle.tables.specs.declared.Refusal.{Refusal}
 use Rattle.tables.specs.declared.Verdict.the-variants.{Passed, Refused as VerdictRefused}
 use Rattle.tables.proofs.Verdicts.{either-verdict, refuses, passes}
 use Rattle.tables.proofs.TableLaws.{both-none, mode-passed, room-passed}
-use Rattle.containment.specs.Scratch.{scratchFault, scratchAfter}
+use Rattle.scratch.specs.Scratch.{scratchFault, scratchAfter}
 use Rattle.containment.specs.Contains.{loopFault}
-use Rattle.containment.proofs.ScratchLaws.{scratch-room}
+use Rattle.scratch.proofs.ScratchLaws.{scratch-room}
 use Rattle.meaning.specs.Pairs.{pairs, unclearFault}
 use Rattle.list_meaning.specs.Greedy.{greedy, orderFault}
 use Rattle.list_meaning.specs.Calls.{blanks, listRoom, listEarly, listBefore, listedOf, placesOf, listAnswer, listAfter, workAfter, Listing}

@@ -13,7 +13,7 @@ use Rattle.tables.specs.declared.Refusal.{Refusal}
 use Rattle.containment.specs.Contains.{loopFault}
 use Rattle.meaning.specs.Meaning.{modeArrows}
 use Rattle.meaning.specs.Pairs.{pairs, unclearFault}
-use Rattle.containment.specs.Scratch.{scratchFault}
+use Rattle.scratch.specs.Scratch.{scratchFault}
 use Rattle.list_meaning.specs.Greedy.{greedy, orderFault}
 use Rattle.list_meaning.specs.declared.Listed.{Listed}
 use Rattle.list_meaning.specs.declared.Listed.the-variants.{Written, Refused}

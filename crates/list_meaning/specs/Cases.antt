@@ -16,7 +16,7 @@ use Rattle.tables.specs.Faults.{raggedFault, countFault, byteFault, namesNoBox,
 use Rattle.tables.specs.Faults.{rowFault, tableFault, modeFault, roomFault}
 use Rattle.tables.specs.declared.Refusal.{Refusal}
 use Rattle.containment.specs.Contains.{contains, around, loopFault}
-use Rattle.containment.specs.Scratch.{scratchFault, earlyFault, pictureFault}
+use Rattle.scratch.specs.Scratch.{scratchFault, earlyFault, pictureFault}
 use Rattle.meaning.specs.Meaning.{hasMode, modeArrows, reaches, nests, level, overrides, settle, hits, certifies, answer}
 use Rattle.meaning.specs.Meaning.{byteOf, numberOf, isGranted, isUnclear}
 use Rattle.meaning.specs.Pairs.{userAt, fileAt, firstPair, answerAt, matrixBytes, matrixNumbers, unclearFault, anyUnclear}

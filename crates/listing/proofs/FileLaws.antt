@@ -15,8 +15,8 @@ use Rattle.tables.specs.declared.Refusal.{Refusal}
 use Rattle.tables.specs.declared.Verdict.{Verdict}
 use Rattle.tables.specs.declared.Verdict.the-variants.{Passed, Refused}
 use Rattle.tables.proofs.Verdicts.{passed, refused}
-use Rattle.containment.specs.Scratch.{pictureFault}
-use Rattle.containment.proofs.PictureLaws.{picture-room}
+use Rattle.scratch.specs.Scratch.{pictureFault}
+use Rattle.scratch.proofs.PictureLaws.{picture-room}
 use Rattle.meaning.specs.Cases.{picture-B}
 use Rattle.blocks.specs.Reads.{readFault, ReadDone}
 use Rattle.blocks.specs.declared.Counts.{Counts as Three}

@@ -12,7 +12,7 @@ use Rattle.tables.specs.Atoms.{outer, atom, atoms, pairCount}
 use Rattle.tables.specs.Faults.{raggedFault, countFault, byteFault, namesNoBox, acrossSides, wrongEnds, wrongMode}
 use Rattle.tables.specs.Faults.{rowFault, tableFault, roomFault}
 use Rattle.containment.specs.Contains.{contains, around, loopFault}
-use Rattle.containment.specs.Scratch.{scratchFault, earlyFault, pictureFault}
+use Rattle.scratch.specs.Scratch.{scratchFault, earlyFault, pictureFault}
 use Rattle.meaning.specs.Cases.{picture-A, picture-B, picture-C, picture-D, picture-E, picture-F, picture-G}
 use Rattle.meaning.specs.Cases.{picture-H, picture-I, picture-J, emptied-group, emptied-both, groups-left}
 use Rattle.meaning.specs.Meaning.{hasMode, modeArrows, reaches, nests, level, overrides, settle, hits, certifies, answer, byteOf, isUnclear}

@@ -6,7 +6,7 @@ use Rattle.base.specs.Buffers.{zeros}
 use Rattle.base.specs.Search.{orElse}
 use Rattle.tables.specs.Rows.{Picture, picture}
 use Rattle.tables.specs.declared.Refusal.{Refusal}
-use Rattle.containment.specs.Scratch.{pictureFault}
+use Rattle.scratch.specs.Scratch.{pictureFault}
 use Rattle.blocks.specs.Files.{boxesOf, containmentsOf, arrowsOf}
 use Rattle.blocks.specs.Reads.{readFault}
 use Rattle.lines.specs.Lines.{lineText}

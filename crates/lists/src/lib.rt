@@ -10,25 +10,25 @@ ghost use Rattle.tables.specs.Atoms.{atom, atoms, pairCount};
 ghost use Rattle.tables.specs.Steps.{SoundRows};
 ghost use Rattle.tables.specs.Refusals.{verdictOf};
 ghost use Rattle.boxsets.specs.Sets.{isIn};
-ghost use Rattle.containment.specs.Scratch.{scratchAfter};
+ghost use Rattle.scratch.specs.Scratch.{scratchAfter};
 ghost use Rattle.meaning.specs.Meaning.{modeArrows};
 ghost use Rattle.certificates.specs.Steps.{Drawn};
 ghost use Rattle.list_meaning.specs.Calls.{listEarly, listBefore, listAnswer, listAfter, workAfter, Listing};
+use atoms::atoms_of;
+use atoms::no_boxes;
+use atoms::pair_count;
 use boxsets::Set;
 use boxsets::set_of;
-use containment::check_scratch;
+use checks::check_mode;
+use checks::check_room;
 use containment::no_closure;
-use containment::prepare;
 use list_meaning::Listed;
+use scratch::check_scratch;
+use scratch::prepare;
 use stages::list_mode;
 use stages::mode_count;
 use tables::BoxRow;
 use tables::Verdict;
-use tables::atoms_of;
-use tables::check_mode;
-use tables::check_room;
-use tables::no_boxes;
-use tables::pair_count;
 
 // What is asked: the mode, the atomic files, and how many pairs there are.
 pub struct Asked {
@@ -56,7 +56,7 @@ fn early_list(
     ensures { λ r. ⌜ (let pic = picture (now (boxes .entry)) (now (rows .entry)) (now (arrows .entry)) in
         r ≡ verdictOf (listEarly pic mode (now (scratch .entry)) (now (out .entry)) (now (work .entry)))) ⌝ }
 {
-    let tables = tables::check(boxes, rows, arrows);
+    let tables = checks::check(boxes, rows, arrows);
     if let Verdict::Refused(r) = tables {
         return Verdict::Refused(r);
     }

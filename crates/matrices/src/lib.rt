@@ -9,6 +9,8 @@ ghost use Rattle.boxsets.specs.Sets.{Boxes};
 ghost use Rattle.meaning.specs.Pairs.{matrixBytes, matrixNumbers};
 ghost use Rattle.mode_sets.specs.Steps.{Small};
 ghost use Rattle.certificates.specs.Steps.{Drawn};
+use atoms::atoms_of;
+use atoms::no_boxes;
 use base::wide;
 use boxsets::set_of;
 use cells::emit_row;
@@ -18,8 +20,6 @@ use mode_sets::no_heads;
 use mode_sets::no_numbers;
 use mode_sets::take_mode;
 use tables::BoxRow;
-use tables::atoms_of;
-use tables::no_boxes;
 use user_rows::no_row;
 
 // Writes the matrix of a mode for the atomic users and files.

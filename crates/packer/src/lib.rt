@@ -20,9 +20,9 @@ use block_parts::put_zeros;
 use blocks::ArrowRecord;
 use blocks::BoxRecord;
 use blocks::ContainmentRecord;
+use checks::check_room;
 use packing::Packing;
 use tables::Verdict;
-use tables::check_room;
 
 const BLOCK_SIZE: usize = 512;
 
@@ -186,7 +186,7 @@ pub fn pack(boxes: &[u8], rows: &[u16], arrows: &[u16], file: &mut [u8]) -> Pack
     ensures { λ _. ⌜ (let pic = picture (now (boxes .entry)) (now (rows .entry)) (now (arrows .entry)) in
         now (file .exit) ≡ fileAfter pic (now (file .entry))) ⌝ }
 {
-    let tables = tables::check(boxes, rows, arrows);
+    let tables = checks::check(boxes, rows, arrows);
     if let Verdict::Refused(r) = tables {
         return Packing::Refused(r);
     }

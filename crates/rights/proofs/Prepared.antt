@@ -17,9 +17,9 @@ use Rattle.tables.specs.declared.Verdict.the-variants.{Passed}
 use Rattle.tables.proofs.AtomPlaces.{atoms-most}
 use Rattle.tables.proofs.Verdicts.{passed}
 use Rattle.containment.specs.Contains.{loopFault}
-use Rattle.containment.specs.Scratch.{earlyFault, pictureFault}
+use Rattle.scratch.specs.Scratch.{earlyFault, pictureFault}
 use Rattle.containment.specs.Steps.{Closure}
-use Rattle.containment.proofs.PictureLaws.{early-prepared, picture-prepared, picture-clear, picture-stages}
+use Rattle.scratch.proofs.PictureLaws.{early-prepared, picture-prepared, picture-clear, picture-stages}
 use Rattle.certificates.specs.Steps.{Drawn}
 use Rattle.listing.specs.Files.{filePicture}
 use Rattle.listing.specs.Steps.{Prepared, Good}

@@ -162,10 +162,10 @@ fn list_picture(file: &[u8], boxes: &[u8], rows: &[u16], arrows: &[u16], closure
     requires { ⌜ Drawn (picture (now boxes) (now rows) (now arrows)) (now closure) ⌝ }
     ensures { λ s. ⌜ SentAll (fileLineCount (now (file .entry))) s ⌝ }
 {
-    let mut u = tables::no_boxes();
-    let mut f = tables::no_boxes();
-    let users = tables::atoms_of(boxes, rows, BoxRow::USER, &mut u);
-    let files = tables::atoms_of(boxes, rows, BoxRow::FILE, &mut f);
+    let mut u = atoms::no_boxes();
+    let mut f = atoms::no_boxes();
+    let users = atoms::atoms_of(boxes, rows, BoxRow::USER, &mut u);
+    let files = atoms::atoms_of(boxes, rows, BoxRow::FILE, &mut f);
     send_lines(
         file,
         boxes.len(),
@@ -184,8 +184,8 @@ fn list_tables(file: &[u8], boxes: &[u8], rows: &[u16], arrows: &[u16]) -> Sent
 {
     let mut scratch = io::large_buffer();
     let mut closure = containment::no_closure();
-    let early = containment::early_picture(boxes, rows, arrows, &scratch);
-    let v = containment::prepare(early, boxes, rows, &mut scratch, &mut closure);
+    let early = scratch::early_picture(boxes, rows, arrows, &scratch);
+    let v = scratch::prepare(early, boxes, rows, &mut scratch, &mut closure);
     if let Verdict::Refused(r) = v {
         return send_stopped(file, r);
     }

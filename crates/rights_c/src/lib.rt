@@ -4,7 +4,7 @@ ghost use mathlib.Core.Path.{_≡_};
 ghost use lib.ListN.{length};
 ghost use Rattle.tables.specs.Rows.{picture};
 ghost use Rattle.tables.specs.Refusals.{verdictOf};
-ghost use Rattle.containment.specs.Scratch.{scratchAfter, earlyFault};
+ghost use Rattle.scratch.specs.Scratch.{scratchAfter, earlyFault};
 ghost use Rattle.meaning.specs.Meaning.{answer};
 ghost use Rattle.answers.specs.Calls.{replyOf, entryEarly, entryFault, judgeFault, matrixEarly, matrixFault, bytesAfter, numbersAfter};
 ghost use Rattle.list_meaning.specs.Calls.{listEarly, listBefore, listAnswer, listAfter, workAfter};

@@ -1,19 +1,27 @@
--- The atomic boxes of a side, by rising number: each is there once; how many pairs they make. Assumes nothing.
+-- The atomic boxes of a side, by rising number: which they are; each is there once; how many pairs they make. Assumes nothing.
 use mathlib.Core.Path.{_≡_, refl, ap, fun-ext}
-use mathlib.Core.Bool.{Bool}
+use mathlib.Core.Bool.{Bool, not, _&&_}
 use mathlib.Core.List.{List}
 use Prim.Native.Nat.{ℕ, _*_, _<_, _≤_}
 use native.Mathlib.Nat.{mul-le-mul, le-trans}
 use lib.Dec.{T}
 use lib.ListN.{length, getD}
 use Rattle.base.specs.Search.{select}
-use Rattle.tables.specs.Rows.{user, file}
+use Rattle.tables.specs.Rows.{user, file, isGroup, onSide}
 use Rattle.tables.specs.Atoms.{outer, atom, atoms, pairCount}
 use Rattle.tables.proofs.GroupLaws.{onSide-there, atom-iff}
 use Rattle.base.proofs.BufferLaws.{select-most}
 use Rattle.base.proofs.SelectLaws.{select-found, select-has, select-before, select-same}
 
 module _ (boxes rows : List ℕ) where
+  pub atom-is : (s b : ℕ) → atom boxes rows s b ≡ (onSide boxes s b && not (isGroup (getD boxes b 0)) && not (outer rows b))
+  unfolding atom
+  atom-is s b = refl
+
+  pub atoms-is : (s : ℕ) → atoms boxes rows s ≡ select (atom boxes rows s) (length boxes)
+  unfolding atoms
+  atoms-is s = refl
+
   pub atom-there : (s b : ℕ) → T (atom boxes rows s b) → b < length boxes
   atom-there s b t = onSide-there boxes s b (atom-iff boxes rows s b .0 t .0)
 

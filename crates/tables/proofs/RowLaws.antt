@@ -1,22 +1,15 @@
--- How the outer boxes of the rows are found, from the last row to the first. Assumes nothing.
-use mathlib.Core.Path.{_≡_, refl, sym, _∙_}
+-- A table of containments read from the last row to the first, and the outer boxes of one row more. Assumes nothing.
+use mathlib.Core.Path.{_≡_, refl}
 use mathlib.Core.Bool.{false, _||_}
 use mathlib.Core.List.{List, [], _∷_}
 use Prim.Native.Nat.{ℕ, suc, _*_, _/_, _%_, _-_, _<_, _≤_}
 use native.Mathlib.Numerals.{add-one}
-use native.Mathlib.Decide.{ℕ-discrete}
 use native.Mathlib.Omega.{arith}
-use borrow.Author.Tests.{eq-eqb, ne-eqb}
 use lib.Dec.{eqb}
-use lib.ListN.{length, getD, set, drop, length-set}
-use lib.Seq.{drop-cons, drop-length, getD-set-same, getD-set-other}
-use Rattle.base.specs.Search.{select}
-use Rattle.base.specs.Steps.{bit}
-use Rattle.base.proofs.Bits.{bit-is, bit-none}
-use Rattle.base.proofs.SelectLaws.{select-alike}
+use lib.ListN.{length, drop}
+use lib.Seq.{drop-cons, drop-length}
 use Rattle.tables.specs.Rows.{rowCount, rowAt}
-use Rattle.tables.specs.Atoms.{outer, atom, atoms}
-use Rattle.tables.specs.Steps.{Marks, unmarked}
+use Rattle.tables.specs.Atoms.{outer}
 
 -- a table of whole rows ends after the last one
 pub rows-end : (rows : List ℕ) → length rows % 2 ≡ 0 → drop (2 * rowCount rows) rows ≡ []
@@ -45,24 +38,3 @@ outer-odd x b = refl
 pub outer-more : (x y : ℕ) (rows : List ℕ) (b : ℕ) → outer (x ∷ y ∷ rows) b ≡ (eqb x b || outer rows b)
 unfolding outer
 outer-more x y rows b = refl
-
-module _ (rows : List ℕ) (k : ℕ) (pos : 0 < k) (h : k ≤ rowCount rows) where
-  pub outer-from : (b : ℕ) → outer (drop (2 * (k - 1)) rows) b ≡ (eqb (rowAt rows (k - 1) .outer) b || outer (drop (2 * k) rows) b)
-  outer-from b = rw (rows-from rows k pos h, outer-more)
-
-  -- the outer box of row k - 1 is marked
-  pub marked : (marks : List ℕ) (o : ℕ) → o ≡ rowAt rows (k - 1) .outer → o < length marks
-      → Marks (outer (drop (2 * k) rows)) marks → Marks (outer (drop (2 * (k - 1)) rows)) (set marks o 1)
-  marked marks o e l m b lb = rw (outer-from b, ← e) (go (ℕ-discrete o b))
-    where
-      go : Dec (o ≡ b) → getD (set marks o 1) b 0 ≡ bit (eqb o b || outer (drop (2 * k) rows) b)
-      go (yes i) = rw (← i, eq-eqb o o refl, bit-is) (getD-set-same marks o 1 0 l)
-      go (no i) = rw (ne-eqb o b i) (getD-set-other marks o b 1 0 (λ j. i (sym j)) ∙ m b (rw length-set at lb))
-
--- where the marks are those of the outer boxes, the unmarked boxes are the atomic ones
-pub unmarked-atoms : (boxes rows marks : List ℕ) (side : ℕ) → Marks (outer rows) marks → length boxes ≤ length marks
-    → select (unmarked boxes side marks) (length boxes) ≡ atoms boxes rows side
-unfolding unmarked atoms atom
-unmarked-atoms boxes rows marks side m h =
-    select-alike (unmarked boxes side marks) (atom boxes rows side) (length boxes)
-    (λ b l. rw (m b (omega arith), bit-none))

@@ -1,23 +1,15 @@
-// The three lent tables of a picture: their rows, the checks on them, and which boxes are atomic.
-mod atoms;
-mod checks;
+// The three lent tables of a picture: their rows, the side of a box, and the one type of refusal.
 mod sides;
 
 ghost use mathlib.Core.Path.{_≡_};
 ghost use Prim.Native.Nat.{_+_, _*_, _<_};
 ghost use Rattle.base.specs.Search.{given};
-ghost use Rattle.tables.specs.Atoms.{outer};
-ghost use Rattle.tables.specs.Rows.{picture, rowAt, rowCount, arrowAt, arrowCount};
+ghost use Rattle.tables.specs.Rows.{rowAt, rowCount, arrowAt, arrowCount};
 ghost use Rattle.tables.specs.Refusals.{refusal, verdictOf};
 ghost use Rattle.tables.specs.Steps.{either};
-pub use atoms::atoms_of;
-pub use atoms::is_atom;
-pub use atoms::no_boxes;
-pub use atoms::pair_count;
-pub use checks::check;
-pub use checks::check_counts;
-pub use checks::check_mode;
-pub use checks::check_room;
+pub use sides::is_group;
+pub use sides::on_side;
+pub use sides::side_of;
 
 // A row of the boxes: its byte.
 pub struct BoxRow {

@@ -6,8 +6,8 @@ use Rattle.tables.specs.Rows.{Picture, picture}
 use Rattle.tables.specs.Refusals.{verdictOf}
 use Rattle.tables.proofs.Verdicts.{refuses, passes}
 use Rattle.containment.specs.Contains.{loopFault}
-use Rattle.containment.specs.Scratch.{scratchAfter, earlyFault, pictureFault}
-use Rattle.containment.proofs.PictureLaws.{picture-stages}
+use Rattle.scratch.specs.Scratch.{scratchAfter, earlyFault, pictureFault}
+use Rattle.scratch.proofs.PictureLaws.{picture-stages}
 use Rattle.answers.specs.Calls.{judgeFault}
 use Rattle.answers.proofs.CallLaws.{picture-early, ready-asks, ready-drawn}
 use Rattle.answers.proofs.judge.Statement.{statement}

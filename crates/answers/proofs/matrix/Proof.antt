@@ -6,7 +6,7 @@ use Rattle.tables.specs.Refusals.{verdictOf}
 use mathlib.Core.Option.{Option}
 use Rattle.tables.specs.declared.Refusal.{Refusal}
 use Rattle.tables.specs.declared.Verdict.the-variants.{Passed}
-use Rattle.containment.specs.Scratch.{scratchAfter}
+use Rattle.scratch.specs.Scratch.{scratchAfter}
 use Rattle.answers.specs.Calls.{matrixEarly}
 use Rattle.answers.proofs.CallLaws.{Early, matrix-early, ready-asks, ready-drawn}
 use Rattle.answers.proofs.CallLaws.{matrixReady, matrix-stopped, matrix-filled, matrix-rooms}

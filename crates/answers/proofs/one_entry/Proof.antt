@@ -9,7 +9,7 @@ use native.Mathlib.Omega.{arith}
 use lib.ListN.{length}
 use Rattle.tables.specs.declared.Verdict.the-variants.{Passed}
 use Rattle.tables.proofs.Verdicts.{passed}
-use Rattle.containment.specs.Scratch.{scratchAfter}
+use Rattle.scratch.specs.Scratch.{scratchAfter}
 use Rattle.meaning.specs.Meaning.{answer}
 use Rattle.meaning.specs.declared.Entry.{Entry}
 use Rattle.certificates.specs.Steps.{Drawn}

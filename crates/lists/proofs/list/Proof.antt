@@ -6,7 +6,7 @@ use Rattle.tables.specs.Rows.{picture}
 use Rattle.tables.specs.Refusals.{verdictOf}
 use Rattle.tables.proofs.TableLaws.{sound-rows, sound-arrows}
 use Rattle.tables.proofs.Verdicts.{passed, refused}
-use Rattle.containment.specs.Scratch.{scratchAfter}
+use Rattle.scratch.specs.Scratch.{scratchAfter}
 use Rattle.list_meaning.specs.Calls.{listEarly}
 use Rattle.list_meaning.proofs.CallLaws.{rooms, tenFault, ten-none, end-refused, end-listing}
 use Rattle.lists.proofs.list.Statement.{statement}

@@ -2,7 +2,7 @@
 use mathlib.Core.Path.{_≡_}
 use Rattle.tables.specs.Rows.{picture}
 use Rattle.tables.specs.Refusals.{verdictOf}
-use Rattle.containment.specs.Scratch.{earlyFault, pictureFault}
+use Rattle.scratch.specs.Scratch.{earlyFault, pictureFault}
 use Rattle.listing.proofs.FileLaws.{picture-refused, picture-good}
 use Rattle.rights.proofs.Prepared.{early-passed, stages-are, drawn}
 use borrow.Author.Needs.{needs}

@@ -7,7 +7,7 @@ use Rattle.tables.specs.Faults.{tableFault, modeFault}
 use Rattle.tables.proofs.TableLaws.{sound-rows}
 use Rattle.tables.proofs.Verdicts.{passed, refuses, passes, either-verdict}
 use lib.ListN.{length}
-use Rattle.containment.specs.Scratch.{scratchFault}
+use Rattle.scratch.specs.Scratch.{scratchFault}
 use Rattle.answers.specs.Calls.{entryEarly}
 use Rattle.answers.proofs.early.early_entry.Statement.{statement}
 use Rattle.answers.proofs.early.early_entry.Tie as tie

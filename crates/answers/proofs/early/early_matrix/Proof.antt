@@ -6,7 +6,7 @@ use Rattle.tables.proofs.TableLaws.{sound-rows}
 use Rattle.tables.proofs.Verdicts.{passed, refuses, passes}
 use Rattle.tables.specs.Atoms.{pairCount}
 use Rattle.tables.specs.Steps.{SoundRows}
-use Rattle.containment.specs.Scratch.{scratchFault}
+use Rattle.scratch.specs.Scratch.{scratchFault}
 use Rattle.answers.specs.Calls.{matrixEarly}
 use Rattle.answers.proofs.CallLaws.{chained}
 use lib.ListN.{length}

@@ -2,7 +2,7 @@
 use mathlib.Core.Path.{sym, _∙_}
 use borrow.Author.Needs.{needs}
 use Rattle.tables.proofs.Verdicts.{passed}
-use Rattle.containment.proofs.PictureLaws.{early-prepared}
+use Rattle.scratch.proofs.PictureLaws.{early-prepared}
 use Rattle.test_cases.proofs.pictures.prepare.Statement.{statement}
 use Rattle.test_cases.proofs.pictures.prepare.Tie as tie
 

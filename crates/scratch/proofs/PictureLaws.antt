@@ -1,0 +1,66 @@
+-- What holds of a picture that passes checks 1 to 7, 9 for the scratch, and 10. Assumes nothing.
+use mathlib.Core.Path.{_≡_, refl}
+use mathlib.Core.List.{List}
+use mathlib.Core.Option.{Option, none}
+use Rattle.tables.specs.declared.Refusal.{Refusal}
+use Prim.Native.Nat.{ℕ, _*_, _≤_}
+use lib.ListN.{length}
+use Rattle.base.specs.Search.{orElse}
+use Rattle.tables.specs.Rows.{Picture, picture}
+use Rattle.tables.specs.Faults.{tableFault}
+use Rattle.tables.specs.Steps.{SoundRows, SoundArrows}
+use Rattle.tables.proofs.TableLaws.{both-none, sound-rows, sound-arrows}
+use Rattle.containment.specs.Contains.{loopFault}
+use Rattle.scratch.specs.Scratch.{filled, scratchFault, scratchAfter, earlyFault, pictureFault}
+use Rattle.scratch.proofs.ScratchLaws.{scratch-room}
+
+pub record Prepared (boxes rows arrows s : List ℕ) : Type 0 where
+  pub rows-sound : SoundRows boxes rows
+  pub arrows-sound : SoundArrows boxes arrows
+  pub room : length boxes * length boxes ≤ length s
+
+pub prepared : (boxes rows arrows s : List ℕ) → tableFault (picture boxes rows arrows) ≡ none → scratchFault (length boxes) s ≡ none → Prepared boxes rows arrows s
+prepared boxes rows arrows s t r = record {
+  rows-sound = sound-rows boxes rows arrows t;
+  arrows-sound = sound-arrows boxes rows arrows t;
+  room = scratch-room (length boxes) s r;
+}
+
+-- the scratch is filled where checks 1 to 9 found nothing
+pub scratch-filled : (boxes rows s : List ℕ) {fault : Option Refusal} → fault ≡ none → scratchAfter fault boxes rows s ≡ filled (length boxes) rows s
+scratch-filled boxes rows s e = rw e
+
+-- the checks before the closure are those of the tables and of the scratch
+pub early-parts : (pic : Picture) (s : List ℕ) → earlyFault pic s ≡ none → (tableFault pic ≡ none) × (scratchFault (length (pic .boxes)) s ≡ none)
+unfolding earlyFault
+early-parts pic s e = both-none (tableFault pic) (scratchFault (length (pic .boxes)) s) e
+
+-- they found nothing
+pub early-prepared : (boxes rows arrows s : List ℕ) → earlyFault (picture boxes rows arrows) s ≡ none → Prepared boxes rows arrows s
+early-prepared boxes rows arrows s e =
+    let two = early-parts (picture boxes rows arrows) s e in
+    prepared boxes rows arrows s (two .0) (two .1)
+
+-- nor did the loops
+pub picture-prepared : (boxes rows arrows s : List ℕ) → pictureFault (picture boxes rows arrows) s ≡ none → Prepared boxes rows arrows s × (earlyFault (picture boxes rows arrows) s ≡ none)
+unfolding pictureFault
+picture-prepared boxes rows arrows s e =
+    let early = both-none (earlyFault (picture boxes rows arrows) s) (loopFault boxes rows) e .0 in
+    (early-prepared boxes rows arrows s early, early)
+
+-- the checks before the closure, then the loops, are all checks
+pub picture-stages : (boxes rows arrows s : List ℕ)
+    → orElse (earlyFault (picture boxes rows arrows) s) (loopFault boxes rows) ≡ pictureFault (picture boxes rows arrows) s
+unfolding pictureFault
+picture-stages boxes rows arrows s = refl
+
+-- all checks found nothing
+pub picture-clear : (boxes rows arrows s : List ℕ) → pictureFault (picture boxes rows arrows) s ≡ none → loopFault boxes rows ≡ none
+unfolding pictureFault
+picture-clear boxes rows arrows s e = both-none (earlyFault (picture boxes rows arrows) s) (loopFault boxes rows) e .1
+
+-- of the scratch, the checks read its length only
+pub picture-room : (boxes rows arrows s t : List ℕ) → length s ≡ length t
+    → pictureFault (picture boxes rows arrows) s ≡ pictureFault (picture boxes rows arrows) t
+unfolding pictureFault earlyFault scratchFault
+picture-room boxes rows arrows s t e = rw e

@@ -1,0 +1,3 @@
+pub mod Scratch
+pub mod Steps
+pub mod Cases
