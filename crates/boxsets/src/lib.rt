@@ -1,7 +1,5 @@
-// Sets of numbers below 256, as structs of four words by value, and tables of such sets, four words a set. A set's numbers are those of
-// boxes throughout, but nothing here knows of boxes.
-mod table;
-
+// Sets of numbers below 256, as structs of four words by value. A set's numbers are those of boxes throughout, but nothing here knows
+// of boxes.
 ghost use mathlib.Core.Path.{_≡_};
 ghost use mathlib.Core.Bool.{false, not, _&&_, _||_};
 ghost use mathlib.Core.Option.{some};
@@ -11,12 +9,6 @@ ghost use lib.ListN.{length, getD};
 ghost use Rattle.base.specs.Search.{lowest};
 ghost use Rattle.boxsets.specs.Words.{bitAt};
 ghost use Rattle.boxsets.specs.Sets.{wordAt, isIn, low, among};
-pub use table::add;
-pub use table::has;
-pub use table::join_each;
-pub use table::put_set;
-pub use table::set_at;
-pub use table::union_of;
 
 // A set of numbers below 256: word q has those from 64 × q on, the lowest bit first.
 pub struct Set {

@@ -21,9 +21,9 @@ use boxsets::joined;
 use boxsets::lowest;
 use boxsets::minus;
 use boxsets::nothing;
-use boxsets::set_at;
 use boxsets::shared;
-use boxsets::union_of;
+use set_tables::set_at;
+use set_tables::union_of;
 use tables::Arrow;
 
 // The mode's arrows of a sign around a user: their tails, their heads, and the asked files that they reach.

@@ -20,8 +20,8 @@ pub fn mark_rows(rows: &[u16], closure: &mut [u64])
         let row = Containment::at(rows, k);
         let o = base::wide(row.outer);
         let i = base::wide(row.inner);
-        boxsets::add(closure, o, i);
-        boxsets::add(closure, 256 + i, o);
+        set_tables::add(closure, o, i);
+        set_tables::add(closure, 256 + i, o);
     }
 }
 
@@ -30,16 +30,16 @@ fn round(closure: &mut [u64], k: usize)
     requires { ⌜ (length (now closure) ≡ 2048) × (k < 256) ⌝ }
     ensures { λ _. ⌜ Turns (λ f. through f k) (now (closure .entry)) (now (closure .exit)) ⌝ }
 {
-    let down = boxsets::set_at(closure, k);
-    let up = boxsets::set_at(closure, 256 + k);
+    let down = set_tables::set_at(closure, k);
+    let up = set_tables::set_at(closure, 256 + k);
     if boxsets::is_empty(down) {
         return;
     }
     if boxsets::is_empty(up) {
         return;
     }
-    boxsets::join_each(closure, 0, up, down);
-    boxsets::join_each(closure, 256, down, up);
+    set_tables::join_each(closure, 0, up, down);
+    set_tables::join_each(closure, 256, down, up);
 }
 
 // Adds the ways through each of n boxes in turn.
@@ -58,7 +58,7 @@ pub fn add_selves(closure: &mut [u64], n: usize)
     ensures { λ _. ⌜ Turns (λ f. selves f n) (now (closure .entry)) (now (closure .exit)) ⌝ }
 {
     for b in 0..n {
-        boxsets::add(closure, b, b);
-        boxsets::add(closure, 256 + b, b);
+        set_tables::add(closure, b, b);
+        set_tables::add(closure, 256 + b, b);
     }
 }

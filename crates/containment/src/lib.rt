@@ -26,7 +26,7 @@ pub fn check_loops(n: usize, closure: &[u64]) -> Verdict
     ensures { λ r. ⌜ r ≡ verdictOf (ownFault n (now (closure .entry))) ⌝ }
 {
     for b in 0..n {
-        if boxsets::has(closure, b, b) {
+        if set_tables::has(closure, b, b) {
             return Verdict::refused(Refusal::IN_ITSELF, b, 0, 0);
         }
     }

@@ -16,8 +16,8 @@ use boxsets::Set;
 use boxsets::drop_bit;
 use boxsets::low_bit;
 use boxsets::minus;
-use boxsets::put_set;
-use boxsets::set_at;
+use set_tables::put_set;
+use set_tables::set_at;
 use stands::look;
 use tables::Arrow;
 

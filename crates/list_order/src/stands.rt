@@ -15,8 +15,8 @@ use boxsets::drop_bit;
 use boxsets::is_empty;
 use boxsets::low_bit;
 use boxsets::minus;
-use boxsets::set_at;
 use boxsets::shared;
+use set_tables::set_at;
 use tables::Arrow;
 
 // Whether one of the users of word q has one of the files left.

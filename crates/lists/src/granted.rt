@@ -19,13 +19,13 @@ use base::wide;
 use boxsets::Set;
 use boxsets::is_empty;
 use boxsets::lowest;
-use boxsets::put_set;
-use boxsets::set_at;
 use boxsets::shared;
 use kept_rows::next_row;
 use kept_rows::no_arrows;
 use mode_sets::no_heads;
 use mode_sets::take_mode;
+use set_tables::put_set;
+use set_tables::set_at;
 use tables::Refusal;
 use tables::Verdict;
 

@@ -8,8 +8,8 @@ ghost use Rattle.mode_sets.specs.Mode.{ownArrows};
 ghost use Rattle.mode_sets.specs.Steps.{Small, ModeSets, Took};
 use base::narrow;
 use base::wide;
-use boxsets::add;
-use boxsets::has;
+use set_tables::add;
+use set_tables::has;
 use tables::Arrow;
 
 // Room for arrow numbers.

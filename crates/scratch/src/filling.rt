@@ -42,7 +42,7 @@ fn spread(closure: &[u64], n: usize, scratch: &mut [u8])
 {
     base::clear(scratch, n * n);
     for a in 0..n {
-        let x = boxsets::set_at(closure, a);
+        let x = set_tables::set_at(closure, a);
         spread_set(x, scratch, a * n);
     }
 }

@@ -19,7 +19,6 @@ use base::narrow;
 use base::wide;
 use boxsets::Set;
 use boxsets::drop_bit;
-use boxsets::has;
 use boxsets::is_empty;
 use boxsets::is_in;
 use boxsets::joined;
@@ -30,6 +29,7 @@ use boxsets::shared;
 use certificates::arrows_near;
 use certificates::certified;
 use meaning::Entry;
+use set_tables::has;
 use tables::Arrow;
 
 fn around_user(closure: &[u64], heads: &[u64], user: usize, asked: Set) -> Around

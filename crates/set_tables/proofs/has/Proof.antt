@@ -1,13 +1,13 @@
--- `boxsets::table::has` meets its contract: the bit is shifted down to the lowest place. Assumes nothing.
+-- `set_tables::table::has` meets its contract: the bit is shifted down to the lowest place. Assumes nothing.
 use mathlib.Core.Path.{sym, _∙_}
 use Prim.Native.Nat.{_+_, _*_, _/_, _%_}
 use native.Mathlib.Omega.{arith}
 use borrow.Author.Needs.{needs}
 use lib.ListN.{getD}
 use Rattle.boxsets.proofs.WordLaws.{low-shifted}
 use Rattle.boxsets.proofs.TableLaws.{has-word}
-use Rattle.boxsets.proofs.table.has.Statement.{statement}
-use Rattle.boxsets.proofs.table.has.Tie as tie
+use Rattle.set_tables.proofs.has.Statement.{statement}
+use Rattle.set_tables.proofs.has.Tie as tie
 
 returns : tie.Need-returns
 returns c =

@@ -1,10 +1,10 @@
--- `boxsets::table::put_set` meets its contract: four places are written. Assumes nothing.
+-- `set_tables::table::put_set` meets its contract: four places are written. Assumes nothing.
 use native.Mathlib.Omega.{arith}
 use borrow.Author.Needs.{needs}
 use lib.ListN.{length-set}
 use Rattle.boxsets.proofs.TableLaws.{put-is}
-use Rattle.boxsets.proofs.table.put_set.Statement.{statement}
-use Rattle.boxsets.proofs.table.put_set.Tie as tie
+use Rattle.set_tables.proofs.put_set.Statement.{statement}
+use Rattle.set_tables.proofs.put_set.Tie as tie
 
 slice-write-t-2 : tie.Need-slice-write-t-2
 slice-write-t-2 c = simp length-set (omega arith)

@@ -4,12 +4,12 @@ ghost use mathlib.Core.Bool.{_&&_, _||_};
 ghost use Prim.Native.Nat.{ℕ, _+_, _*_, _<_, _≤_};
 ghost use lib.ListN.{length};
 ghost use Rattle.base.specs.Steps.{anyBelow};
 ghost use Rattle.boxsets.specs.Sets.{isIn, inWord, setAt, has, Put, Added, Joins};
-use super::Set;
-use super::drop_bit;
-use super::joined;
-use super::low_bit;
-use super::nothing;
+use boxsets::Set;
+use boxsets::drop_bit;
+use boxsets::joined;
+use boxsets::low_bit;
+use boxsets::nothing;
 
 pub fn set_at(t: &[u64], r: usize) -> Set
     requires { ⌜ 4 * r + 4 ≤ length (now t) ⌝ }

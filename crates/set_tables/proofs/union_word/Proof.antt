@@ -1,14 +1,14 @@
--- `boxsets::table::union_word` meets its contract: what is found, and what the rest of the word still gives, make up the whole.
+-- `set_tables::table::union_word` meets its contract: what is found, and what the rest of the word still gives, make up the whole.
 -- Assumes nothing.
 use mathlib.Core.Path.{_≡_, refl}
 use Prim.Native.Nat.{_<_}
 use native.Mathlib.Omega.{arith}
 use borrow.Author.Needs.{needs}
 use Rattle.base.proofs.SearchLaws.{lowest-some}
 use Rattle.boxsets.specs.Words.{bitAt}
 use Rattle.boxsets.proofs.UnionLaws.{Found, found-next, found-end}
-use Rattle.boxsets.proofs.table.union_word.Statement.{statement}
-use Rattle.boxsets.proofs.table.union_word.Tie as tie
+use Rattle.set_tables.proofs.union_word.Statement.{statement}
+use Rattle.set_tables.proofs.union_word.Tie as tie
 
 abbrev Inv-loop : tie.InvT-loop
 Inv-loop t from q word rest₀ found₀ rest found = Found t from q word rest found₀ found

@@ -1,8 +1,8 @@
--- `boxsets::table::join_each` meets its contract: a set's numbers are those of its four words. Assumes nothing.
+-- `set_tables::table::join_each` meets its contract: a set's numbers are those of its four words. Assumes nothing.
 use borrow.Author.Needs.{needs}
 use Rattle.boxsets.proofs.JoinLaws.{joins-words}
-use Rattle.boxsets.proofs.table.join_each.Statement.{statement}
-use Rattle.boxsets.proofs.table.join_each.Tie as tie
+use Rattle.set_tables.proofs.join_each.Statement.{statement}
+use Rattle.set_tables.proofs.join_each.Tie as tie
 
 returns : tie.Need-returns
 returns c =

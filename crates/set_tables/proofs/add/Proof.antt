@@ -1,12 +1,12 @@
--- `boxsets::table::add` meets its contract: one bit more. Assumes nothing.
+-- `set_tables::table::add` meets its contract: one bit more. Assumes nothing.
 use Prim.Native.Nat.{_%_}
 use native.Mathlib.Omega.{arith}
 use borrow.Author.Needs.{needs}
 use lib.ListN.{length-set}
 use Rattle.boxsets.proofs.WordLaws.{one-shifted}
 use Rattle.boxsets.proofs.TableLaws.{add-has}
-use Rattle.boxsets.proofs.table.add.Statement.{statement}
-use Rattle.boxsets.proofs.table.add.Tie as tie
+use Rattle.set_tables.proofs.add.Statement.{statement}
+use Rattle.set_tables.proofs.add.Tie as tie
 
 returns : tie.Need-returns
 returns c =

@@ -1,4 +1,4 @@
--- `boxsets::table::join_word` meets its contract: what is joined, and what the rest of the word still asks for, make up the whole.
+-- `set_tables::table::join_word` meets its contract: what is joined, and what the rest of the word still asks for, make up the whole.
 -- Assumes nothing.
 use mathlib.Core.Bool.{_||_}
 use mathlib.Core.Path.{_≡_, subst}
@@ -6,12 +6,12 @@ use Prim.Native.Nat.{ℕ, _<_}
 use native.Mathlib.Omega.{arith}
 use borrow.Author.Needs.{needs}
 use Rattle.base.proofs.SearchLaws.{lowest-some}
 use Rattle.boxsets.specs.Words.{bitAt}
 use Rattle.boxsets.specs.Sets.{isIn}
 use Rattle.boxsets.specs.declared.Set.{Set}
 use Rattle.boxsets.proofs.JoinLaws.{Left, left-none, left-next, left-end}
-use Rattle.boxsets.proofs.table.join_word.Statement.{statement}
-use Rattle.boxsets.proofs.table.join_word.Tie as tie
+use Rattle.set_tables.proofs.join_word.Statement.{statement}
+use Rattle.set_tables.proofs.join_word.Tie as tie
 
 abbrev Inv-loop : tie.InvT-loop
 Inv-loop t₀ from q word x rest₀ t rest = Left from q word rest x t₀ t

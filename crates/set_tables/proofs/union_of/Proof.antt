@@ -1,8 +1,8 @@
--- `boxsets::table::union_of` meets its contract: a set's numbers are those of its four words. Assumes nothing.
+-- `set_tables::table::union_of` meets its contract: a set's numbers are those of its four words. Assumes nothing.
 use borrow.Author.Needs.{needs}
 use Rattle.boxsets.proofs.UnionLaws.{union-words}
-use Rattle.boxsets.proofs.table.union_of.Statement.{statement}
-use Rattle.boxsets.proofs.table.union_of.Tie as tie
+use Rattle.set_tables.proofs.union_of.Statement.{statement}
+use Rattle.set_tables.proofs.union_of.Tie as tie
 
 returns : tie.Need-returns
 returns c =
