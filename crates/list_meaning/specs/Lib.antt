@@ -3,4 +3,3 @@ pub mod Greedy
 pub mod Condition
 pub mod Fixed
 pub mod Calls
-pub mod Cases
