@@ -29,7 +29,7 @@ use Rattle.meaning.proofs.RowPairs.{RowsClear, rows-found, rows-end}
 use Rattle.user_rows.specs.Steps.{Ready}
 use Rattle.list_meaning.specs.Greedy.{greedy, orderFault}
 use Rattle.list_meaning.proofs.CallerLaws.{anyOf-none, order-rows}
-use Rattle.list_order.specs.Steps.{Table, unreached, grantedTo}
+use Rattle.list_meaning.specs.Steps.{Table, unreached, grantedTo}
 
 -- ---- a table that is filled user by user
 

@@ -20,7 +20,7 @@ use Rattle.user_rows.specs.Steps.{Ready, Sorts}
 use Rattle.user_rows.specs.declared.Row.{Row}
 use Rattle.kept_rows.proofs.AtomLaws.{listed-at}
 use Rattle.judging.proofs.RowLaws.{unclear, Clear, clear-more, clear-found, clear-end}
-use Rattle.list_order.specs.Steps.{grantedTo}
+use Rattle.list_meaning.specs.Steps.{grantedTo}
 use Rattle.lists.specs.Steps.{Check12}
 use Rattle.lists.proofs.LeftLaws.{Filled, filled-none, filled-more, filled-all}
 

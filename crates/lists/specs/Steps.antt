@@ -7,7 +7,7 @@ use Rattle.tables.specs.Rows.{Picture}
 use Rattle.tables.specs.Refusals.{verdictOf}
 use Rattle.tables.specs.declared.Verdict.{Verdict}
 use Rattle.meaning.specs.Pairs.{unclearFault}
-use Rattle.list_order.specs.Steps.{Table, grantedTo}
+use Rattle.list_meaning.specs.Steps.{Table, grantedTo}
 
 -- what check 12 says, and the granted files where it passes
 pub record Check12 (pic : Picture) (mode : ℕ) (r : Verdict) (granted : List ℕ) : Type 0 where

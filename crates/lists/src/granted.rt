@@ -11,7 +11,7 @@ ghost use Rattle.mode_sets.specs.Steps.{Small};
 ghost use Rattle.user_rows.specs.Steps.{Sized, Moded, Ready};
 ghost use Rattle.kept_rows.specs.Steps.{Boxes};
 ghost use Rattle.list_meaning.specs.Greedy.{greedy, orderFault};
-ghost use Rattle.list_order.specs.Steps.{Table, unreached, grantedTo};
+ghost use Rattle.list_meaning.specs.Steps.{Table, unreached, grantedTo};
 ghost use Rattle.lists.specs.Steps.{Check12};
 use super::Asked;
 use super::Sorted;

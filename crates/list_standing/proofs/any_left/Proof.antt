@@ -1,10 +1,10 @@
--- `list_order::stands::any_left` meets its contract: a set's numbers are those of its four words. Assumes nothing.
+-- `list_standing::any_left` meets its contract: a set's numbers are those of its four words. Assumes nothing.
 use mathlib.Core.Path.{sym, _∙_}
 use borrow.Author.Needs.{needs}
 use Rattle.boxsets.specs.Sets.{has}
-use Rattle.list_order.proofs.SomeLaws.{some-words}
-use Rattle.list_order.proofs.stands.any_left.Statement.{statement}
-use Rattle.list_order.proofs.stands.any_left.Tie as tie
+use Rattle.list_standing.proofs.SomeLaws.{some-words}
+use Rattle.list_standing.proofs.any_left.Statement.{statement}
+use Rattle.list_standing.proofs.any_left.Tie as tie
 
 returns : tie.Need-returns
 returns c =

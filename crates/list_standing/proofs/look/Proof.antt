@@ -1,8 +1,8 @@
--- `list_order::stands::look` meets its contract, by the standing. Assumes nothing.
+-- `list_standing::look` meets its contract, by the standing. Assumes nothing.
 use borrow.Author.Needs.{needs}
-use Rattle.list_order.specs.Steps.{markOf}
-use Rattle.list_order.proofs.stands.look.Statement.{statement}
-use Rattle.list_order.proofs.stands.look.Tie as tie
+use Rattle.list_standing.specs.Steps.{markOf}
+use Rattle.list_standing.proofs.look.Statement.{statement}
+use Rattle.list_standing.proofs.look.Tie as tie
 
 returns : tie.Need-returns
 unfolding markOf

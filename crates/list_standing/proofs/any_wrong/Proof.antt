@@ -1,10 +1,10 @@
--- `list_order::stands::any_wrong` meets its contract: a set's numbers are those of its four words. Assumes nothing.
+-- `list_standing::any_wrong` meets its contract: a set's numbers are those of its four words. Assumes nothing.
 use mathlib.Core.Path.{sym, _∙_}
 use borrow.Author.Needs.{needs}
-use Rattle.list_order.specs.Steps.{wrongAt}
-use Rattle.list_order.proofs.SomeLaws.{some-words}
-use Rattle.list_order.proofs.stands.any_wrong.Statement.{statement}
-use Rattle.list_order.proofs.stands.any_wrong.Tie as tie
+use Rattle.list_standing.specs.Steps.{wrongAt}
+use Rattle.list_standing.proofs.SomeLaws.{some-words}
+use Rattle.list_standing.proofs.any_wrong.Statement.{statement}
+use Rattle.list_standing.proofs.any_wrong.Tie as tie
 
 returns : tie.Need-returns
 returns c =

@@ -1,72 +1,25 @@
--- How an arrow stands, by sets, what it takes from what is left, and that what is spent stays so. Assumes nothing.
+-- An arrow's files are taken from what each of its users has left, and the arrow is spent then. Assumes nothing.
 use mathlib.Core.Path.{_≡_, refl, _∙_}
-use mathlib.Core.Bool.{Bool, true, false, not, cond, _&&_, _||_}
+use mathlib.Core.Bool.{Bool, true, false, not, _&&_, _||_}
 use mathlib.Core.List.{List}
 use mathlib.Core.Option.{some}
 use Prim.Native.Nat.{ℕ, _+_, _*_}
 use native.Mathlib.Decide.{ℕ-discrete}
-use native.Mathlib.Omega.{arith}
 use borrow.Author.Tests.{eq-eqb, ne-eqb}
 use lib.Dec.{T, T-not, eqb}
 use lib.ListN.{length}
 use Rattle.base.specs.Search.{lowest}
-use Rattle.base.proofs.Tests.{and-T, T-and, not-false, false-not}
+use Rattle.base.proofs.Tests.{and-T, T-and}
+use Rattle.tables.specs.declared.Arrow.{Arrow}
 use Rattle.boxsets.specs.Words.{bitAt}
 use Rattle.boxsets.specs.Sets.{isIn, inWord, setAt, has, Put}
 use Rattle.boxsets.specs.declared.Set.{Set}
 use Rattle.boxsets.proofs.JoinLaws.{words-in, word-next, word-none}
 use Rattle.boxsets.proofs.TableLaws.{put-hit, put-miss}
-use Rattle.boxsets.proofs.WalkLaws.{in-below}
-use Rattle.meaning.specs.Meaning.{positive}
-use Rattle.list_order.specs.Steps.{someIn, wrongAt, standingOf, standingBy, Takes}
-use Rattle.list_order.specs.declared.Standing.the-variants.{Blocked, Spent, Free}
-use Rattle.tables.specs.declared.Arrow.{Arrow}
-use Rattle.list_order.proofs.SomeLaws.{some-found, some-is}
-
--- ---- how an arrow stands
-
--- of the files that a user has left, those that would be wrong
-pub wrong-are : (files met bad : Set) (left granted : List ℕ) (sign u : ℕ) → ((f : ℕ) → isIn met f ≡ (isIn files f && has left u f))
-    → ((f : ℕ) → isIn bad f ≡ (isIn met f && cond (eqb sign positive) (not (has granted u f)) (has granted u f))) → (f : ℕ)
-    → isIn bad f ≡ (isIn files f && wrongAt left granted sign u f)
-unfolding wrongAt
-wrong-are files met bad left granted sign u met-are bad-are f = bad-are f ∙ rw (met-are f) (regroup (isIn files f) (has left u f) _)
-  where
-    regroup : (a b c : Bool) → ((a && b) && c) ≡ (a && (b && c))
-    regroup true b c = refl
-    regroup false b c = refl
-
--- only what is left can be wrong
-wrong-left : (left granted : List ℕ) (sign u f : ℕ) → T (wrongAt left granted sign u f) → T (has left u f)
-unfolding wrongAt
-wrong-left left granted sign u f t = and-T (has left u f) _ t .0
-
-module _ (users files : Set) (left granted : List ℕ) (sign : ℕ) where
-  abbrev wrong : Bool
-  wrong = someIn (isIn users) files (wrongAt left granted sign)
-
-  abbrev new : Bool
-  new = someIn (isIn users) files (has left)
-
-  pub stands-spent : new ≡ false → Spent ≡ standingOf wrong new
-  unfolding standingOf
-  stands-spent e = rw (not-false wrong none, e)
-    where
-      none : T wrong → ⊥
-      none t =
-          let r = some-found files (wrongAt left granted sign) (isIn users) t in
-          false-not new e
-          (some-is files (has left) (isIn users) (r .0) (r .1) (in-below users (r .0) (r .2)) (r .2) (r .3) (wrong-left left granted sign (r .0) (r .1) (r .4)))
-
-  pub stands-blocked : wrong ≡ true → Blocked ≡ standingOf wrong new
-  unfolding standingOf
-  stands-blocked e = rw e
-
-  pub stands-free : new ≡ true → wrong ≡ false → Free ≡ standingOf wrong new
-  unfolding standingOf
-  stands-free e i = rw (i, e)
-
--- ---- files are taken from what each of the users has left
+use Rattle.list_standing.specs.Steps.{standingBy}
+use Rattle.list_standing.specs.declared.Standing.the-variants.{Spent}
+use Rattle.list_standing.proofs.StandLaws.{nothing-left}
+use Rattle.list_order.specs.Steps.{Takes}
 
 -- what is left, and what the users of the word not looked at yet still lose
 pub record Taking (q word : ℕ) (files : Set) (left : List ℕ) (rest : ℕ) (left′ : List ℕ) : Type 0 where
@@ -131,41 +84,7 @@ takes-words x files s t u v w a b c d =
     (λ k. refl) b
     (takes-both (inWord 2 (x .c)) (inWord 3 (x .d)) (λ k. inWord 2 (x .c) k || inWord 3 (x .d) k) files u v w (λ k. refl) c d))
 
--- ---- what is spent stays so when files are taken
-
-pub spent-new : (wrong new : Bool) → standingOf wrong new ≡ Spent → (T wrong → ⊥) × (T new → ⊥)
-unfolding standingOf
-spent-new true new e = let z : _≡_ {A = ℕ} 0 1 = cc in absurd (omega arith)
-spent-new false true e = let z : _≡_ {A = ℕ} 0 1 = cc in absurd (omega arith)
-spent-new false false e = (λ t. t, λ t. t)
-
-pub new-spent : (wrong new : Bool) → (T wrong → ⊥) → (T new → ⊥) → standingOf wrong new ≡ Spent
-unfolding standingOf
-new-spent wrong new n m = rw (not-false wrong n, not-false new m)
-
--- an arrow whose pairs are not left
-nothing-left : (closure granted left : List ℕ) (a : Arrow)
-    → ((u f : ℕ) → T (isIn (setAt closure (a .tail)) u) → T (isIn (setAt closure (a .head)) f) → T (has left u f) → ⊥)
-    → standingBy closure left granted a ≡ Spent
-unfolding standingBy
-nothing-left closure granted left a none =
-    let users = isIn (setAt closure (a .tail)) in
-    let files = setAt closure (a .head) in
-    new-spent (someIn users files (wrongAt left granted (a .sign))) (someIn users files (has left))
-    (λ t.
-    let r = some-found files (wrongAt left granted (a .sign)) users t in
-    none (r .0) (r .1) (r .2) (r .3) (wrong-left left granted (a .sign) (r .0) (r .1) (r .4)))
-    (λ t. let r = some-found files (has left) users t in none (r .0) (r .1) (r .2) (r .3) (r .4))
-
-pub spent-stays : (closure granted left left′ : List ℕ) → ((u f : ℕ) → T (has left′ u f) → T (has left u f)) → (a : Arrow)
-    → standingBy closure left granted a ≡ Spent → standingBy closure left′ granted a ≡ Spent
-unfolding standingBy
-spent-stays closure granted left left′ fewer a e =
-    let users = setAt closure (a .tail) in
-    let files = setAt closure (a .head) in
-    let none = spent-new (someIn (isIn users) files (wrongAt left granted (a .sign))) (someIn (isIn users) files (has left)) e .1 in
-    nothing-left closure granted left′ a
-    (λ u f i j h. none (some-is files (has left) (isIn users) u f (in-below users u i) i j (fewer u f h)))
+-- ---- what is taken is gone
 
 pub takes-fewer : (users : ℕ → Bool) (files : Set) (left left′ : List ℕ) → Takes users files left left′
     → (u f : ℕ) → T (has left′ u f) → T (has left u f)

@@ -1,10 +1,10 @@
--- `list_order::stands::standing` meets its contract, by what was found. Assumes nothing.
+-- `list_standing::standing_of` meets its contract, by what was found. Assumes nothing.
 use mathlib.Core.Path.{sym, _∙_}
 use borrow.Author.Tests.{not-true, not-false}
 use borrow.Author.Needs.{needs}
-use Rattle.list_order.proofs.StandLaws.{stands-spent, stands-blocked, stands-free}
-use Rattle.list_order.proofs.stands.standing.Statement.{statement}
-use Rattle.list_order.proofs.stands.standing.Tie as tie
+use Rattle.list_standing.proofs.StandLaws.{stands-spent, stands-blocked, stands-free}
+use Rattle.list_standing.proofs.standing_of.Statement.{statement}
+use Rattle.list_standing.proofs.standing_of.Tie as tie
 
 returns : tie.Need-returns
 returns c =
@@ -29,5 +29,5 @@ returns-3 c =
     (sym (left .any-left .ensures) ∙ not-false (left .any-left .result) (wrong .before .if1 .left))
     (sym (wrong .any-wrong .ensures) ∙ c .if2 .left)
 
-pub standing-spec : {M : Type 1} → statement M
-standing-spec = tie.close (tie.spec (λ c κs. search needs) returns (λ c κs. search needs) returns-2 returns-3)
+pub standing-of-spec : {M : Type 1} → statement M
+standing-of-spec = tie.close (tie.spec (λ c κs. search needs) returns (λ c κs. search needs) returns-2 returns-3)

@@ -1,11 +1,11 @@
--- `list_order::stands::standing_by` meets its contract: the sets of the arrow's ends. Assumes nothing.
+-- `list_standing::standing_by` meets its contract: the sets of the arrow's ends. Assumes nothing.
 use mathlib.Core.Path.{_∙_}
 use Prim.Native.Nat.{_<_}
 use native.Mathlib.Omega.{arith}
 use borrow.Author.Needs.{needs}
-use Rattle.list_order.specs.Steps.{standingBy}
-use Rattle.list_order.proofs.stands.standing_by.Statement.{statement}
-use Rattle.list_order.proofs.stands.standing_by.Tie as tie
+use Rattle.list_standing.specs.Steps.{standingBy}
+use Rattle.list_standing.proofs.standing_by.Statement.{statement}
+use Rattle.list_standing.proofs.standing_by.Tie as tie
 
 set-at-requires : tie.Need-set-at-requires
 set-at-requires c κs =
@@ -26,7 +26,7 @@ returns : tie.Need-returns
 unfolding standingBy
 returns c =
     let at-arrow = c .before .before .before .before .before in
-    c .standing .ensures
+    c .standing-of .ensures
     ∙ rw (
       c .before .set-at2 .ensures,
       c .before .before .wide2 .ensures,

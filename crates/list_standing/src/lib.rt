@@ -7,8 +7,7 @@ ghost use lib.ListN.{length};
 ghost use Rattle.tables.specs.Rows.{arrowCount, arrowAt};
 ghost use Rattle.boxsets.specs.Sets.{isIn, inWord, has};
 ghost use Rattle.mode_sets.specs.Steps.{Small};
-ghost use Rattle.list_order.specs.Steps.{someIn, wrongAt, standingOf, standingBy, markOf};
-use super::Standing;
+ghost use Rattle.list_standing.specs.Steps.{someIn, wrongAt, standingOf, standingBy, markOf};
 use base::wide;
 use boxsets::Set;
 use boxsets::drop_bit;
@@ -18,6 +17,13 @@ use boxsets::minus;
 use boxsets::set_at;
 use boxsets::shared;
 use tables::Arrow;
+
+// How an arrow stands to a list: it would give a pair the wrong answer, it reaches nothing new, or it may follow.
+pub enum Standing {
+    Blocked,
+    Spent,
+    Free,
+}
 
 // Whether one of the users of word q has one of the files left.
 fn left_word(word: u64, q: usize, files: Set, left: &[u64]) -> bool
@@ -97,7 +103,7 @@ fn any_wrong(users: Set, files: Set, left: &[u64], granted: &[u64], sign: u16) -
 }
 
 // How an arrow of the sign stands that reaches these users and files.
-fn standing(users: Set, files: Set, left: &[u64], granted: &[u64], sign: u16) -> Standing
+fn standing_of(users: Set, files: Set, left: &[u64], granted: &[u64], sign: u16) -> Standing
     requires { ⌜ (length (now left) ≡ 1024) × (length (now granted) ≡ 1024) ⌝ }
     ensures { λ r. ⌜ r ≡ standingOf (someIn (isIn users) files (wrongAt (now (left .entry)) (now (granted .entry)) sign))
         (someIn (isIn users) files (has (now (left .entry)))) ⌝ }
@@ -121,7 +127,7 @@ fn standing_by(closure: &[u64], arrows: &[u16], left: &[u64], granted: &[u64], k
     let a = Arrow::at(arrows, k);
     let users = set_at(closure, wide(a.tail));
     let files = set_at(closure, wide(a.head));
-    standing(users, files, left, granted, a.sign)
+    standing_of(users, files, left, granted, a.sign)
 }
 
 // The same as a mark.

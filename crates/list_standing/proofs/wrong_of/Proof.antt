@@ -1,8 +1,8 @@
--- `list_order::stands::wrong_of` meets its contract, by the sign. Assumes nothing.
+-- `list_standing::wrong_of` meets its contract, by the sign. Assumes nothing.
 use borrow.Author.Needs.{needs}
 use borrow.Author.Tests.{eq-eqb, ne-eqb}
-use Rattle.list_order.proofs.stands.wrong_of.Statement.{statement}
-use Rattle.list_order.proofs.stands.wrong_of.Tie as tie
+use Rattle.list_standing.proofs.wrong_of.Statement.{statement}
+use Rattle.list_standing.proofs.wrong_of.Tie as tie
 
 returns : tie.Need-returns
 returns c f = rw (eq-eqb (c .before .before .args .sign) 1 (c .before .if1 .taken)) (c .minus .ensures f)

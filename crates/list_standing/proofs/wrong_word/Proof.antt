@@ -1,4 +1,4 @@
--- `list_order::stands::wrong_word` meets its contract: the users not looked at yet say what all of the word do. Assumes nothing.
+-- `list_standing::wrong_word` meets its contract: the users not looked at yet say what all of the word do. Assumes nothing.
 use mathlib.Core.Path.{_≡_, refl, sym, _∙_}
 use mathlib.Core.Bool.{_&&_}
 use Prim.Native.Nat.{ℕ, _+_, _*_, _<_}
@@ -9,11 +9,11 @@ use Rattle.base.proofs.SearchLaws.{lowest-some}
 use Rattle.boxsets.specs.Words.{bitAt}
 use Rattle.boxsets.specs.Sets.{isIn}
 use Rattle.boxsets.proofs.TableLaws.{has-in}
-use Rattle.list_order.specs.Steps.{wrongAt}
-use Rattle.list_order.proofs.SomeLaws.{Rests, rests-end, rests-found, rests-more}
-use Rattle.list_order.proofs.StandLaws.{wrong-are}
-use Rattle.list_order.proofs.stands.wrong_word.Statement.{statement}
-use Rattle.list_order.proofs.stands.wrong_word.Tie as tie
+use Rattle.list_standing.specs.Steps.{wrongAt}
+use Rattle.list_standing.proofs.SomeLaws.{Rests, rests-end, rests-found, rests-more}
+use Rattle.list_standing.proofs.StandLaws.{wrong-are}
+use Rattle.list_standing.proofs.wrong_word.Statement.{statement}
+use Rattle.list_standing.proofs.wrong_word.Tie as tie
 
 abbrev Inv-loop : tie.InvT-loop
 Inv-loop word q files left granted sign rest₀ rest = Rests files (wrongAt left granted sign) q word rest

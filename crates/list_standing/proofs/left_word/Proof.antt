@@ -1,4 +1,4 @@
--- `list_order::stands::left_word` meets its contract: the users not looked at yet say what all of the word do. Assumes nothing.
+-- `list_standing::left_word` meets its contract: the users not looked at yet say what all of the word do. Assumes nothing.
 use mathlib.Core.Path.{_≡_, refl, sym, _∙_}
 use mathlib.Core.Bool.{_&&_}
 use Prim.Native.Nat.{ℕ, _+_, _*_, _<_}
@@ -9,9 +9,9 @@ use Rattle.base.proofs.SearchLaws.{lowest-some}
 use Rattle.boxsets.specs.Words.{bitAt}
 use Rattle.boxsets.specs.Sets.{isIn, has}
 use Rattle.boxsets.proofs.TableLaws.{has-in}
-use Rattle.list_order.proofs.SomeLaws.{Rests, rests-end, rests-found, rests-more}
-use Rattle.list_order.proofs.stands.left_word.Statement.{statement}
-use Rattle.list_order.proofs.stands.left_word.Tie as tie
+use Rattle.list_standing.proofs.SomeLaws.{Rests, rests-end, rests-found, rests-more}
+use Rattle.list_standing.proofs.left_word.Statement.{statement}
+use Rattle.list_standing.proofs.left_word.Tie as tie
 
 abbrev Inv-loop : tie.InvT-loop
 Inv-loop word q files left rest₀ rest = Rests files (has left) q word rest

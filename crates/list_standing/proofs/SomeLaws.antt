@@ -15,7 +15,7 @@ use Rattle.boxsets.specs.Sets.{isIn, inWord, low}
 use Rattle.boxsets.specs.declared.Set.{Set}
 use Rattle.boxsets.proofs.JoinLaws.{words-in, word-next, word-none}
 use Rattle.boxsets.proofs.WalkLaws.{in-below, empty-none, some-low}
-use Rattle.list_order.specs.Steps.{someIn}
+use Rattle.list_standing.specs.Steps.{someIn}
 
 -- ---- a test at users and files
 
