@@ -1,5 +1,4 @@
 // The first-match list of a mode.
-mod granted;
 mod stages;
 
 ghost use mathlib.Core.Path.{_≡_};
@@ -14,12 +13,12 @@ ghost use Rattle.containment.specs.Scratch.{scratchAfter};
 ghost use Rattle.meaning.specs.Meaning.{modeArrows};
 ghost use Rattle.certificates.specs.Steps.{Drawn};
 ghost use Rattle.list_meaning.specs.Calls.{listEarly, listBefore, listAnswer, listAfter, workAfter, Listing};
-use boxsets::Set;
 use boxsets::set_of;
 use containment::check_scratch;
 use containment::no_closure;
 use containment::prepare;
 use list_meaning::Listed;
+use list_sets::Asked;
 use stages::list_mode;
 use stages::mode_count;
 use tables::BoxRow;
@@ -29,19 +28,6 @@ use tables::check_mode;
 use tables::check_room;
 use tables::no_boxes;
 use tables::pair_count;
-
-// What is asked: the mode, the atomic files, and how many pairs there are.
-pub struct Asked {
-    pub mode: u16,
-    pub files: Set,
-    pub pairs: usize,
-}
-
-// How many of the mode's arrows repeat none, and check 12.
-pub struct Sorted {
-    pub own: usize,
-    pub unclear: Verdict,
-}
 
 // Checks 1 to 9.
 fn early_list(

@@ -1,4 +1,4 @@
--- `lists::granted::sort_rows` meets its contract: no pair of the first i users is unclear, each of them has her granted files, and the kept
+-- `list_sets::sort_rows` meets its contract: no pair of the first i users is unclear, each of them has her granted files, and the kept
 -- row is that of each user around whom the same tails are. Assumes nothing.
 use mathlib.Core.Path.{_≡_, sym, ap, subst, _∙_}
 use Prim.Native.Nat.{_-_, _≤_, _<_}
@@ -12,9 +12,9 @@ use Rattle.boxsets.specs.Sets.{isIn}
 use Rattle.boxsets.specs.declared.Set.{Set}
 use Rattle.user_rows.specs.Steps.{Ready, Moded, Sorts}
 use Rattle.kept_rows.specs.Steps.{Keeps}
-use Rattle.lists.proofs.SortLaws.{Sorting, sorting-none, user-there, sorting-more, sorting-found, sorting-end}
-use Rattle.lists.proofs.granted.sort_rows.Statement.{statement}
-use Rattle.lists.proofs.granted.sort_rows.Tie as tie
+use Rattle.list_sets.proofs.SortLaws.{Sorting, sorting-none, user-there, sorting-more, sorting-found, sorting-end}
+use Rattle.list_sets.proofs.sort_rows.Statement.{statement}
+use Rattle.list_sets.proofs.sort_rows.Tie as tie
 
 abbrev Inv-loop : tie.InvT-loop
 Inv-loop closure heads arrows own users asked granted₀ last₀ i₀ i-end granted last i =

@@ -1,4 +1,4 @@
--- `lists::granted::check_left` meets its contract: no file of the first i users is both left and granted. Assumes nothing.
+-- `list_sets::check_left` meets its contract: no file of the first i users is both left and granted. Assumes nothing.
 use mathlib.Core.Path.{_≡_, sym, _∙_}
 use mathlib.Core.Bool.{_&&_}
 use Prim.Native.Nat.{ℕ, _-_, _≤_, _<_}
@@ -8,9 +8,9 @@ use borrow.Author.Needs.{needs}
 use lib.ListN.{length, getD}
 use Rattle.boxsets.specs.Sets.{isIn, has}
 use Rattle.boxsets.proofs.TableLaws.{has-in}
-use Rattle.lists.proofs.LeftLaws.{NoneMissed, missed-more, missed-none, missed-found}
-use Rattle.lists.proofs.granted.check_left.Statement.{statement}
-use Rattle.lists.proofs.granted.check_left.Tie as tie
+use Rattle.list_sets.proofs.LeftLaws.{NoneMissed, missed-more, missed-none, missed-found}
+use Rattle.list_sets.proofs.check_left.Statement.{statement}
+use Rattle.list_sets.proofs.check_left.Tie as tie
 
 abbrev Inv-loop : tie.InvT-loop
 Inv-loop users left granted mode i₀ i-end i = (i ≤ length users) × NoneMissed users left granted i

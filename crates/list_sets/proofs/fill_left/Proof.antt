@@ -1,4 +1,4 @@
--- `lists::granted::fill_left` meets its contract: each of the first i users has all files. Assumes nothing.
+-- `list_sets::fill_left` meets its contract: each of the first i users has all files. Assumes nothing.
 use mathlib.Core.Path.{_≡_, refl, sym, ap, _∙_}
 use Prim.Native.Nat.{_-_, _≤_}
 use native.Mathlib.Omega.{arith}
@@ -6,9 +6,9 @@ use borrow.Author.Needs.{needs}
 use lib.ListN.{length}
 use Rattle.base.proofs.BufferLaws.{zeros-length}
 use Rattle.boxsets.specs.Sets.{isIn}
-use Rattle.lists.proofs.LeftLaws.{Filled, filled-none, filled-more, filled-files}
-use Rattle.lists.proofs.granted.fill_left.Statement.{statement}
-use Rattle.lists.proofs.granted.fill_left.Tie as tie
+use Rattle.list_sets.proofs.LeftLaws.{Filled, filled-none, filled-more, filled-files}
+use Rattle.list_sets.proofs.fill_left.Statement.{statement}
+use Rattle.list_sets.proofs.fill_left.Tie as tie
 
 abbrev Inv-loop : tie.InvT-loop
 Inv-loop users files left₀ i₀ i-end left i = (i ≤ length users) × Filled users (λ u f. isIn files f) i left

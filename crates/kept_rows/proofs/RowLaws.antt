@@ -1,9 +1,8 @@
--- Judging by the rows of a mode. Assumes nothing.
+-- The first unclear pair, by the rows of the users one after another. Assumes nothing.
 use mathlib.Core.Path.{_≡_, sym, ap, subst, _∙_}
 use mathlib.Core.Bool.{Bool, true, false, _&&_}
-use mathlib.Core.List.{List}
 use mathlib.Core.Option.{none}
-use Prim.Native.Nat.{ℕ, _+_, _<_, _≤_}
+use Prim.Native.Nat.{ℕ, _+_, _<_}
 use lib.Dec.{T, eqb}
 use lib.ListN.{length, getD}
 use Rattle.base.proofs.Tests.{and-T, T-and, false-not}
@@ -11,17 +10,14 @@ use Rattle.tables.specs.Rows.{Picture, file}
 use Rattle.tables.specs.Atoms.{atom}
 use Rattle.tables.specs.Refusals.{refusal, unclearPair, verdictOf}
 use Rattle.tables.specs.declared.Verdict.the-variants.{Refused}
-use Rattle.boxsets.specs.Sets.{isIn, low, setAt}
+use Rattle.boxsets.specs.Sets.{isIn, low}
 use Rattle.boxsets.specs.declared.Set.{Set}
 use Rattle.boxsets.proofs.LowLaws.{low-least}
 use Rattle.boxsets.proofs.WalkLaws.{empty-none, some-low}
-use Rattle.boxsets.proofs.TableLaws.{has-in}
 use Rattle.meaning.specs.Meaning.{answer, isUnclear}
 use Rattle.meaning.specs.Pairs.{users, unclearFault}
 use Rattle.meaning.proofs.MatrixLaws.{unclear-first}
 use Rattle.meaning.proofs.RowPairs.{RowsClear, rows-more, rows-found, rows-end}
-use Rattle.mode_sets.specs.Steps.{ModeSets}
-use Rattle.mode_sets.proofs.CallerLaws.{no-tails-clear}
 use Rattle.user_rows.specs.Steps.{Sorts}
 use Rattle.user_rows.specs.declared.Row.{Row}
 
@@ -57,9 +53,3 @@ module _ (pic : Picture) (m : ℕ) where
 
   pub clear-end : Clear (length (users pic)) → unclearFault pic m ≡ none
   clear-end c = unclear-first pic m ∙ rows-end pic unclear (unclearPair m) c
-
-  -- a mode that has no arrow of a sign has no unclear pair
-  pub no-sign : (heads : List ℕ) → ModeSets (pic .arrows) m heads → (s : ℕ) → s ≤ 1 → eqb (low (setAt heads (512 + s))) 256 ≡ true
-      → unclearFault pic m ≡ none
-  no-sign heads sets s most e =
-      no-tails-clear pic m heads sets s most (λ t. has-in heads (512 + s) t ∙ empty-none (setAt heads (512 + s)) e t)

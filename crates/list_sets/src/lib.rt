@@ -1,4 +1,5 @@
-// The sets that the list is found from, and what is left at the end.
+// The sets that the list of a mode is found from: for each user the granted files, by check 12, and all files. And what the list leaves of
+// them at the end, which is check 13.
 ghost use mathlib.Core.Path.{_≡_};
 ghost use mathlib.Core.List.{List, []};
 ghost use Prim.Native.Nat.{ℕ, _≤_};
@@ -12,9 +13,7 @@ ghost use Rattle.user_rows.specs.Steps.{Sized, Moded, Ready};
 ghost use Rattle.kept_rows.specs.Steps.{Boxes};
 ghost use Rattle.list_meaning.specs.Greedy.{greedy, orderFault};
 ghost use Rattle.list_meaning.specs.Steps.{Table, unreached, grantedTo};
-ghost use Rattle.lists.specs.Steps.{Check12};
-use super::Asked;
-use super::Sorted;
+ghost use Rattle.list_sets.specs.Steps.{Check12};
 use base::wide;
 use boxsets::Set;
 use boxsets::is_empty;
@@ -28,6 +27,19 @@ use mode_sets::no_heads;
 use mode_sets::take_mode;
 use tables::Refusal;
 use tables::Verdict;
+
+// What is asked: the mode, the atomic files, and how many pairs there are.
+pub struct Asked {
+    pub mode: u16,
+    pub files: Set,
+    pub pairs: usize,
+}
+
+// How many of the mode's arrows repeat none, and check 12.
+pub struct Sorted {
+    pub own: usize,
+    pub unclear: Verdict,
+}
 
 // A set for each box.
 pub fn no_sets() -> [u64; 1024]

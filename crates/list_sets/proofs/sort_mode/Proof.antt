@@ -1,8 +1,8 @@
--- `lists::granted::sort_mode` meets its contract: the mode's arrows, and the rows. Assumes nothing.
+-- `list_sets::sort_mode` meets its contract: the mode's arrows, and the rows. Assumes nothing.
 use borrow.Author.Needs.{needs}
 use Rattle.kept_rows.proofs.TakenLaws.{Taken, taken-in}
-use Rattle.lists.proofs.granted.sort_mode.Statement.{statement}
-use Rattle.lists.proofs.granted.sort_mode.Tie as tie
+use Rattle.list_sets.proofs.sort_mode.Statement.{statement}
+use Rattle.list_sets.proofs.sort_mode.Tie as tie
 
 -- the mode's arrows
 mode : (c : tie.After-take-mode) →

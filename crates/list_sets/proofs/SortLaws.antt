@@ -19,10 +19,10 @@ use Rattle.meaning.proofs.RowPairs.{rows-start}
 use Rattle.user_rows.specs.Steps.{Ready, Sorts}
 use Rattle.user_rows.specs.declared.Row.{Row}
 use Rattle.kept_rows.proofs.AtomLaws.{listed-at}
-use Rattle.judging.proofs.RowLaws.{unclear, Clear, clear-more, clear-found, clear-end}
+use Rattle.kept_rows.proofs.RowLaws.{unclear, Clear, clear-more, clear-found, clear-end}
 use Rattle.list_meaning.specs.Steps.{grantedTo}
-use Rattle.lists.specs.Steps.{Check12}
-use Rattle.lists.proofs.LeftLaws.{Filled, filled-none, filled-more, filled-all}
+use Rattle.list_sets.specs.Steps.{Check12}
+use Rattle.list_sets.proofs.LeftLaws.{Filled, filled-none, filled-more, filled-all}
 
 module _ (pic : Picture) (m : ℕ) (closure arrows us : List ℕ) (files : Set) (ready : Ready pic closure arrows us files) where
   -- the granted files of a user
