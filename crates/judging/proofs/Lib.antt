@@ -1,3 +1,2 @@
--- Laws for the proofs of this crate and of the crates above it.
-pub mod RowLaws
+-- Laws for the proofs of this crate.
 mod SignLaws

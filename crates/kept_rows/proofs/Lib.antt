@@ -2,3 +2,4 @@
 pub mod KeptLaws
 pub mod TakenLaws
 pub mod AtomLaws
+pub mod RowLaws

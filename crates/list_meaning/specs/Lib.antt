@@ -3,4 +3,4 @@ pub mod Greedy
 pub mod Condition
 pub mod Fixed
 pub mod Calls
-pub mod Cases
+pub mod Steps

@@ -10,32 +10,16 @@ use lib.Seq.{getD-set-same, getD-set-other}
 use Rattle.tables.specs.Rows.{arrowAt}
 use Rattle.base.specs.Buffers.{zeros}
 use Rattle.base.proofs.BufferLaws.{zeros-at}
-use Rattle.list_order.specs.Steps.{standingBy, markOf, Done, SpentBefore, MarkedTo, NextFree}
-use Rattle.list_order.specs.declared.Standing.{Standing}
-use Rattle.list_order.specs.declared.Standing.the-variants.{Blocked, Spent, Free}
+use Rattle.list_standing.specs.Steps.{standingBy, markOf}
+use Rattle.list_standing.specs.declared.Standing.{Standing}
+use Rattle.list_standing.specs.declared.Standing.the-variants.{Spent, Free}
+use Rattle.list_standing.proofs.StandLaws.{mark-free, mark-spent, free-mark}
+use Rattle.list_order.specs.Steps.{Done, SpentBefore, MarkedTo, NextFree}
 
--- ---- what a mark says
-
-mark-free : (s : Standing) → markOf s ≡ 2 → s ≡ Free
-unfolding markOf
-mark-free Blocked e = absurd (omega arith)
-mark-free Spent e = absurd (omega arith)
-mark-free Free e = refl
-
-mark-spent : (s : Standing) → (markOf s ≡ 0 → ⊥) → (markOf s ≡ 2 → ⊥) → s ≡ Spent
-unfolding markOf
-mark-spent Blocked n m = absurd (n refl)
-mark-spent Spent n m = refl
-mark-spent Free n m = absurd (m refl)
-
-free-mark : (s : Standing) → s ≡ Free → markOf s ≡ 2
-unfolding markOf
-free-mark s e = rw e
+-- ---- the walk over the places
 
 spent-free : (s : Standing) → s ≡ Spent → s ≡ Free → ⊥
 spent-free s e f = let z : _≡_ {A = ℕ} 0 1 = cc in omega arith
-
--- ---- the walk over the places
 
 module _ (closure arrows own left granted : List ℕ) where
   abbrev standsAt : ℕ → Standing

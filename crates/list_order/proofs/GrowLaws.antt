@@ -24,28 +24,19 @@ use Rattle.meaning.proofs.MatrixLaws.{clear-pair}
 use Rattle.certificates.specs.Steps.{Drawn}
 use Rattle.list_meaning.specs.Order.{anyOf, ofMode, meets, right}
 use Rattle.list_meaning.specs.Greedy.{addable}
-use Rattle.list_order.specs.Steps.{someIn, wrongAt, standingOf, standingBy, Takes, Table, unreached, grantedTo}
-use Rattle.list_order.specs.declared.Standing.the-variants.{Free}
+use Rattle.list_meaning.specs.Steps.{Table, unreached, grantedTo}
 use Rattle.list_meaning.proofs.CallerLaws.{gives-clear, meets-is, any-meets, right-is}
 use Rattle.list_meaning.proofs.CountLaws.{anyOf-snoc}
 use Rattle.list_meaning.proofs.GreedyLaws.{adds, adds-new, addable-is}
-use Rattle.list_order.proofs.SomeLaws.{some-found, some-is}
+use Rattle.list_standing.specs.Steps.{someIn, standingBy}
+use Rattle.list_standing.specs.declared.Standing.the-variants.{Free}
+use Rattle.list_standing.proofs.SomeLaws.{some-found, some-is}
+use Rattle.list_standing.proofs.StandLaws.{free-parts, parts-free}
+use Rattle.list_order.specs.Steps.{Takes}
 
 -- the answer is wrong, by whether the pair is granted
 abbrev wrongFor : (sign : ℕ) (granted : Bool) → Bool
 wrongFor sign granted = cond (eqb sign positive) (not granted) granted
-
--- ---- the three tests of an arrow
-
-free-parts : (wrong new : Bool) → standingOf wrong new ≡ Free → (wrong ≡ false) × (new ≡ true)
-unfolding standingOf
-free-parts true new e = let z : _≡_ {A = ℕ} 0 1 = cc in absurd (omega arith)
-free-parts false true e = (refl, refl)
-free-parts false false e = let z : _≡_ {A = ℕ} 0 1 = cc in absurd (omega arith)
-
-parts-free : (wrong new : Bool) → wrong ≡ false → new ≡ true → standingOf wrong new ≡ Free
-unfolding standingOf
-parts-free wrong new e i = rw (e, i)
 
 module _ (pic : Picture) (closure : List ℕ) (drawn : Drawn pic closure) where
   -- (u, f) is a pair
@@ -138,10 +129,6 @@ module _ (pic : Picture) (closure : List ℕ) (drawn : Drawn pic closure) where
           (gives-clear (arrowAt (pic .arrows) k .sign) (answer pic m u f) (drawn .arrows-sound .sign-most k there)
           (clear-pair pic m clear u f (pair .0) (pair .1)))
 
-      wrong-test : someIn (isIn tails) heads (wrongAt left granted (arrowAt (pic .arrows) k .sign)) ≡ someIn (isIn tails) heads (leftAnd (wrong granted))
-      unfolding someIn wrongAt
-      wrong-test = refl
-
       new-test : someIn (isIn tails) heads (has left) ≡ someIn (isIn tails) heads (leftAnd anyPair)
       new-test = ap (someIn (isIn tails) heads) (fun-ext (λ u. fun-ext (λ f. sym (flat (has left u f)))))
         where
@@ -150,12 +137,11 @@ module _ (pic : Picture) (closure : List ℕ) (drawn : Drawn pic closure) where
           flat false = refl
 
       pub free-addable : standingBy closure left granted (arrowAt (pic .arrows) k) ≡ Free → T (addable pic m l k)
-      unfolding standingBy
       free-addable e =
-          let s = free-parts (someIn (isIn tails) heads (wrongAt left granted (arrowAt (pic .arrows) k .sign))) (someIn (isIn tails) heads (has left)) e in
+          let s = free-parts closure left granted (arrowAt (pic .arrows) k) e in
           let r = some-place anyPair (true-T _ (sym new-test ∙ s .1)) in
           addable-is pic m l k of
-          (λ p b z n. right-if p b z n (T? (right pic m p k)) (false-not _ (sym wrong-test ∙ s .0)))
+          (λ p b z n. right-if p b z n (T? (right pic m p k)) (false-not _ (s .0)))
           (r .0) (r .1) (r .2) (r .3)
         where
           right-if : (p : ℕ) → p < pairs pic → T (meets pic p k) → (T (anyOf (meets pic p) l) → ⊥) → Dec (T (right pic m p k))
@@ -165,13 +151,11 @@ module _ (pic : Picture) (closure : List ℕ) (drawn : Drawn pic closure) where
               absurd (none′ (place-some (wrong granted) p b z n (rw (wrong-is p b) (not-T (right pic m p k) d))))
 
       pub addable-free : T (addable pic m l k) → standingBy closure left granted (arrowAt (pic .arrows) k) ≡ Free
-      unfolding standingBy
       addable-free t =
           let a = adds pic m l k t in
           let n = adds-new pic m l k t in
-          parts-free (someIn (isIn tails) heads (wrongAt left granted (arrowAt (pic .arrows) k .sign))) (someIn (isIn tails) heads (has left))
-          (wrong-test
-          ∙ not-false _
+          parts-free closure left granted (arrowAt (pic .arrows) k)
+          (not-false _
           (λ z.
           let r = some-place (wrong granted) z in
           T-not (right pic m (r .0) k) (rw (wrong-is (r .0) (r .1)) at (r .4)) (a .1 (r .0) (r .1) (r .2) (r .3))))

@@ -1,6 +1,5 @@
 -- Laws for the proofs of this crate.
-pub mod SomeLaws
-pub mod StandLaws
+pub mod TakeLaws
 pub mod FreeLaws
 pub mod GrowLaws
 pub mod OwnLaws

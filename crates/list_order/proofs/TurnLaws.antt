@@ -15,12 +15,15 @@ use Rattle.tables.specs.Rows.{Picture, arrowCount, arrowAt}
 use Rattle.boxsets.specs.Sets.{isIn, setAt}
 use Rattle.mode_sets.specs.Mode.{ownArrows}
 use Rattle.list_meaning.specs.Greedy.{addable, next, listTo}
-use Rattle.list_order.specs.Steps.{standingBy, Done, SpentBefore, MarkedTo, Takes, NextFree, Table, unreached, Clear, Ordered}
-use Rattle.list_order.specs.declared.Standing.the-variants.{Spent, Free}
+use Rattle.list_meaning.specs.Steps.{Table, unreached}
 use Rattle.list_meaning.proofs.GreedyLaws.{ofMode-there}
 use Rattle.list_meaning.proofs.NextLaws.{to-next, greedy-is}
 use Rattle.list_meaning.proofs.CallerLaws.{to-none}
-use Rattle.list_order.proofs.StandLaws.{spent-stays, takes-fewer, taken-spent}
+use Rattle.list_standing.specs.Steps.{standingBy}
+use Rattle.list_standing.specs.declared.Standing.the-variants.{Spent, Free}
+use Rattle.list_standing.proofs.StandLaws.{spent-stays}
+use Rattle.list_order.specs.Steps.{Done, SpentBefore, MarkedTo, Takes, NextFree, Clear, Ordered}
+use Rattle.list_order.proofs.TakeLaws.{takes-fewer, taken-spent}
 use Rattle.list_order.proofs.FreeLaws.{none-marked}
 use Rattle.list_order.proofs.GrowLaws.{free-addable, addable-free, taken-shown}
 use Rattle.list_order.proofs.OwnLaws.{own-mode, own-next, own-end, own-full, to-room}

@@ -1,54 +1,23 @@
 -- What the functions ask of and promise each other: how the list is found. Assumes nothing.
 use mathlib.Core.Path.{_≡_}
-use mathlib.Core.Bool.{Bool, true, false, not, cond, _&&_}
+use mathlib.Core.Bool.{Bool, not, _&&_}
 use mathlib.Core.List.{List}
 use mathlib.Core.Option.{none}
 use Prim.Native.Nat.{ℕ, _<_, _≤_}
-use lib.Dec.{eqb}
 use lib.ListN.{length, getD}
-use Rattle.base.specs.Steps.{anyBelow}
 use Rattle.base.specs.Buffers.{written}
-use Rattle.tables.specs.Rows.{Picture, user, file, arrowAt}
-use Rattle.tables.specs.Atoms.{atom}
-use Rattle.tables.specs.declared.Arrow.{Arrow}
-use Rattle.meaning.specs.Meaning.{positive, reaches, answer, isGranted}
-use Rattle.boxsets.specs.Sets.{isIn, setAt, has}
+use Rattle.tables.specs.Rows.{Picture, arrowAt}
+use Rattle.boxsets.specs.Sets.{isIn, has}
 use Rattle.boxsets.specs.declared.Set.{Set}
 use Rattle.meaning.specs.Pairs.{unclearFault}
 use Rattle.mode_sets.specs.Mode.{ownArrows}
 use Rattle.certificates.specs.Steps.{Drawn}
-use Rattle.list_meaning.specs.Order.{anyOf}
 use Rattle.list_meaning.specs.Greedy.{greedy}
-use Rattle.list_order.specs.declared.Standing.{Standing}
-use Rattle.list_order.specs.declared.Standing.the-variants.{Blocked, Spent, Free}
+use Rattle.list_meaning.specs.Steps.{Table, unreached, grantedTo}
+use Rattle.list_standing.specs.Steps.{standingBy}
+use Rattle.list_standing.specs.declared.Standing.the-variants.{Spent, Free}
 
--- ---- by sets alone: `left` has for each user the files that the list does not reach yet, `granted` those that are granted
-
--- one of the users has one of the files at which the test holds
-unfoldable pub someIn : (users : ℕ → Bool) (files : Set) (test : ℕ → ℕ → Bool) → Bool
-someIn users files test = anyBelow (λ u. users u && anyBelow (λ f. isIn files f && test u f) 256) 256
-
--- the pair is left, and an arrow of the sign would give it the wrong answer
-unfoldable pub wrongAt : (left granted : List ℕ) (sign u f : ℕ) → Bool
-wrongAt left granted sign u f = has left u f && cond (eqb sign positive) (not (has granted u f)) (has granted u f)
-
--- an arrow is blocked if it would give a pair that is left the wrong answer, spent if it reaches no pair that is left, else free
-unfoldable pub standingOf : (wrong new : Bool) → Standing
-standingOf true new = Blocked
-standingOf false true = Free
-standingOf false false = Spent
-
--- how the arrow stands, by the closure
-unfoldable pub standingBy : (closure left granted : List ℕ) (a : Arrow) → Standing
-standingBy closure left granted a =
-    standingOf (someIn (isIn (setAt closure (a .tail))) (setAt closure (a .head)) (wrongAt left granted (a .sign)))
-    (someIn (isIn (setAt closure (a .tail))) (setAt closure (a .head)) (has left))
-
--- the mark of a place of the numbers: 1 if its arrow is spent, 2 if it is free
-unfoldable pub markOf : Standing → ℕ
-markOf Blocked = 0
-markOf Spent = 1
-markOf Free = 2
+-- ---- by sets alone
 
 -- a place that is marked is that of a spent arrow
 abbrev pub Done : (closure arrows own left granted done : List ℕ) → Type 0
@@ -76,20 +45,6 @@ pub record Takes (users : ℕ → Bool) (files : Set) (left left′ : List ℕ) 
   pub each : (u f : ℕ) → has left′ u f ≡ (has left u f && not (users u && isIn files f))
 
 -- ---- what the sets say of a picture
-
--- set u has f exactly if (u, f) is a pair at which the test holds
-pub record Table (pic : Picture) (test : ℕ → ℕ → Bool) (t : List ℕ) : Type 0 where
-  pub len : length t ≡ 1024
-  pub each : (u f : ℕ) → u < 256
-      → has t u f ≡ ((atom (pic .boxes) (pic .rows) user u && atom (pic .boxes) (pic .rows) file f) && test u f)
-
--- the list does not reach the pair
-abbrev pub unreached : (pic : Picture) (l : List ℕ) (u f : ℕ) → Bool
-unreached pic l u f = not (anyOf (λ k. reaches pic (arrowAt (pic .arrows) k) u f) l)
-
--- the pair is granted
-abbrev pub grantedTo : (pic : Picture) (mode u f : ℕ) → Bool
-grantedTo pic mode u f = isGranted (answer pic mode u f)
 
 -- a picture with no unclear pair in the mode, its closure, the mode's arrows without repeats, and the granted files
 pub record Clear (pic : Picture) (mode : ℕ) (closure arrows own granted : List ℕ) : Type 0 where

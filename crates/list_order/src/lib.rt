@@ -1,7 +1,6 @@
-// How the list of a mode is found, on the sets of `stands`: arrow after arrow, by how each stands to the list so far. `closure` is the
-// table of containment, `own` the mode's arrows without repeats: a repeat never reaches anything new.
-mod stands;
-
+// How the list of a mode is found, on sets: arrow after arrow, by how each stands to the list so far. For each user `left` has the files
+// that the list does not reach yet, `granted` those that are granted. `closure` is the table of containment, `own` the mode's arrows
+// without repeats: a repeat never reaches anything new.
 ghost use mathlib.Core.Path.{_≡_};
 ghost use mathlib.Core.List.{[]};
 ghost use Prim.Native.Nat.{ℕ, _≤_, _<_};
@@ -10,23 +9,17 @@ ghost use Rattle.base.specs.Buffers.{zeros};
 ghost use Rattle.tables.specs.Rows.{Picture, arrowCount, arrowAt};
 ghost use Rattle.boxsets.specs.Sets.{isIn, inWord, setAt};
 ghost use Rattle.mode_sets.specs.Steps.{Small, Numbers};
-ghost use Rattle.list_order.specs.Steps.{Done, SpentBefore, NextFree, MarkedTo, Takes, Table, unreached, Clear, Ordered};
+ghost use Rattle.list_meaning.specs.Steps.{Table, unreached};
+ghost use Rattle.list_order.specs.Steps.{Done, SpentBefore, NextFree, MarkedTo, Takes, Clear, Ordered};
 use base::wide;
 use boxsets::Set;
 use boxsets::drop_bit;
 use boxsets::low_bit;
 use boxsets::minus;
+use list_standing::look;
 use set_tables::put_set;
 use set_tables::set_at;
-use stands::look;
 use tables::Arrow;
-
-// How an arrow stands to a list: it would give a pair the wrong answer, it reaches nothing new, or it may follow.
-pub enum Standing {
-    Blocked,
-    Spent,
-    Free,
-}
 
 // Marks for arrow numbers.
 fn no_marks() -> [u8; 512]

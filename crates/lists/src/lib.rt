@@ -1,5 +1,4 @@
 // The first-match list of a mode.
-mod granted;
 mod stages;
 
 ghost use mathlib.Core.Path.{_≡_};
@@ -17,31 +16,18 @@ ghost use Rattle.list_meaning.specs.Calls.{listEarly, listBefore, listAnswer, l
 use atoms::atoms_of;
 use atoms::no_boxes;
 use atoms::pair_count;
-use boxsets::Set;
 use boxsets::set_of;
 use checks::check_mode;
 use checks::check_room;
 use containment::no_closure;
 use list_meaning::Listed;
+use list_sets::Asked;
 use scratch::check_scratch;
 use scratch::prepare;
 use stages::list_mode;
 use stages::mode_count;
 use tables::BoxRow;
 use tables::Verdict;
-
-// What is asked: the mode, the atomic files, and how many pairs there are.
-pub struct Asked {
-    pub mode: u16,
-    pub files: Set,
-    pub pairs: usize,
-}
-
-// How many of the mode's arrows repeat none, and check 12.
-pub struct Sorted {
-    pub own: usize,
-    pub unclear: Verdict,
-}
 
 // Checks 1 to 9.
 fn early_list(

@@ -1,5 +1,5 @@
 -- The lettered pictures A to J (document 01), and pictures of groups that have emptied (document 02, P6). What is said of them are two
--- tables: `lists` specs/Cases. Assumes nothing.
+-- tables: `lettered` specs/Cases. Assumes nothing.
 use mathlib.Core.List.{[], _∷_, _++_}
 use Rattle.tables.specs.Rows.{Picture}
 

@@ -16,7 +16,7 @@ use Rattle.certificates.specs.Steps.{Drawn}
 use Rattle.user_rows.specs.Steps.{Moded, Sorts}
 use Rattle.kept_rows.specs.Steps.{Keeps}
 use Rattle.kept_rows.proofs.AtomLaws.{listed-at}
-use Rattle.judging.proofs.RowLaws.{unclear, Clear, clear-more, clear-found, clear-end}
+use Rattle.kept_rows.proofs.RowLaws.{unclear, Clear, clear-more, clear-found, clear-end}
 use Rattle.judging.proofs.judge_rows.Statement.{statement}
 use Rattle.judging.proofs.judge_rows.Tie as tie
 

@@ -5,7 +5,7 @@ use native.Mathlib.Omega.{arith}
 use borrow.Author.Needs.{needs}
 use lib.ListN.{length, getD}
 use Rattle.tables.specs.Rows.{arrowAt}
-use Rattle.list_order.specs.Steps.{standingBy, markOf}
+use Rattle.list_standing.specs.Steps.{standingBy, markOf}
 use Rattle.list_order.proofs.FreeLaws.{Looked, looked-from, looked-skip, looked-found, looked-more, looked-end}
 use Rattle.list_order.proofs.next_free.Statement.{statement}
 use Rattle.list_order.proofs.next_free.Tie as tie

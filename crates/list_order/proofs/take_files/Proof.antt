@@ -1,6 +1,6 @@
 -- `list_order::take_files` meets its contract: a set's numbers are those of its four words. Assumes nothing.
 use borrow.Author.Needs.{needs}
-use Rattle.list_order.proofs.StandLaws.{takes-words}
+use Rattle.list_order.proofs.TakeLaws.{takes-words}
 use Rattle.list_order.proofs.take_files.Statement.{statement}
 use Rattle.list_order.proofs.take_files.Tie as tie
 

@@ -7,7 +7,7 @@ use borrow.Author.Needs.{needs}
 use Rattle.base.proofs.SearchLaws.{lowest-some}
 use Rattle.boxsets.specs.Words.{bitAt}
 use Rattle.boxsets.proofs.TableLaws.{has-in}
-use Rattle.list_order.proofs.StandLaws.{Taking, taking-none, taking-more, taking-end}
+use Rattle.list_order.proofs.TakeLaws.{Taking, taking-none, taking-more, taking-end}
 use Rattle.list_order.proofs.take_word.Statement.{statement}
 use Rattle.list_order.proofs.take_word.Tie as tie
 

@@ -1,0 +1,26 @@
+-- What the functions that find the list ask of and promise each other: tables of a set of files for each user, and what they say of
+-- a picture. Assumes nothing.
+use mathlib.Core.Path.{_≡_}
+use mathlib.Core.Bool.{Bool, not, _&&_}
+use mathlib.Core.List.{List}
+use Prim.Native.Nat.{ℕ, _<_}
+use lib.ListN.{length}
+use Rattle.tables.specs.Rows.{Picture, user, file, arrowAt}
+use Rattle.tables.specs.Atoms.{atom}
+use Rattle.boxsets.specs.Sets.{has}
+use Rattle.meaning.specs.Meaning.{reaches, answer, isGranted}
+use Rattle.list_meaning.specs.Order.{anyOf}
+
+-- set u has f exactly if (u, f) is a pair at which the test holds
+pub record Table (pic : Picture) (test : ℕ → ℕ → Bool) (t : List ℕ) : Type 0 where
+  pub len : length t ≡ 1024
+  pub each : (u f : ℕ) → u < 256
+      → has t u f ≡ ((atom (pic .boxes) (pic .rows) user u && atom (pic .boxes) (pic .rows) file f) && test u f)
+
+-- the list does not reach the pair
+abbrev pub unreached : (pic : Picture) (l : List ℕ) (u f : ℕ) → Bool
+unreached pic l u f = not (anyOf (λ k. reaches pic (arrowAt (pic .arrows) k) u f) l)
+
+-- the pair is granted
+abbrev pub grantedTo : (pic : Picture) (mode u f : ℕ) → Bool
+grantedTo pic mode u f = isGranted (answer pic mode u f)

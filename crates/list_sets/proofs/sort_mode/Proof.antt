@@ -1,0 +1,32 @@
+-- `list_sets::sort_mode` meets its contract: the mode's arrows, and the rows. Assumes nothing.
+use borrow.Author.Needs.{needs}
+use Rattle.kept_rows.proofs.TakenLaws.{Taken, taken-in}
+use Rattle.list_sets.proofs.sort_mode.Statement.{statement}
+use Rattle.list_sets.proofs.sort_mode.Tie as tie
+
+-- the mode's arrows
+mode : (c : tie.After-take-mode) →
+    let a = c .before .before .before .before .before .before .before .before .before .args in
+    Taken (a .arrows .now) (a .asked .mode) (c .take-mode .result) (c .take-mode .last .1 .1 .0) (c .take-mode .last .1 .1 .1 .0)
+mode c =
+    let start = c .before .before .before .before .before .before .before .before .before in
+    taken-in (start .args .arrows .now) (start .args .asked .mode) (start .pre .1) _ _ _ _ (start .pre .3) (c .take-mode .ensures)
+
+sort-rows-requires : tie.Need-sort-rows-requires
+sort-rows-requires c κs =
+    let taken = c .before .before .before .before .before .before in
+    let start = taken .before .before .before .before .before .before .before .before .before in
+    (mode taken .sized (start .args .closure .now) (start .pre .0), start .pre .2, start .pre .4)
+
+returns : tie.Need-returns
+returns c =
+    let sorted = c .before .before in
+    let taken = sorted .before .before .before .before .before .before .before in (
+      (taken .take-mode .ensures .0, taken .take-mode .ensures .1 .0),
+      (sorted .sort-rows .ensures .0, λ pic r. sorted .sort-rows .ensures .1 pic r (mode taken .moded pic (r .arrows-are))),
+    )
+
+pub sort-mode-spec : {M : Type 1} → statement M
+sort-mode-spec =
+    tie.close (tie.spec (λ c κs. search needs) (search needs) (λ c κs. search needs) (search needs) (λ c. mode (c .before .before .before .before) .within)
+    (λ c. mode (c .before .before .before .before .before) .len) sort-rows-requires (search needs) (search needs) returns)
