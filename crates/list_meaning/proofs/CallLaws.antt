@@ -21,8 +21,10 @@ use Rattle.scratch.specs.Scratch.{scratchFault, scratchAfter}
 use Rattle.containment.specs.Contains.{loopFault}
 use Rattle.scratch.proofs.ScratchLaws.{scratch-room}
 use Rattle.meaning.specs.Pairs.{pairs, unclearFault}
-use Rattle.list_meaning.specs.Greedy.{greedy, orderFault}
-use Rattle.list_meaning.specs.Calls.{blanks, listRoom, listEarly, listBefore, listedOf, placesOf, listAnswer, listAfter, workAfter, Listing}
+use Rattle.list_meaning.specs.Greedy.{greedy, orderFault, listedOf, placesOf}
+use Rattle.list_meaning.specs.Calls.{listEarly, listBefore, listAnswer, listAfter, workAfter}
+use Rattle.list_meaning.specs.Steps.{Listing}
+use Rattle.list_meaning.specs.Lists.{blanks, listRoom}
 use Rattle.list_meaning.specs.declared.Listed.{Listed}
 use Rattle.list_meaning.specs.declared.Listed.the-variants.{Written, Refused}
 use Rattle.list_meaning.proofs.GreedyLaws.{mode-room}

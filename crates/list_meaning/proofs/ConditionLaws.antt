@@ -14,7 +14,8 @@ use Rattle.tables.specs.Refusals.{noOrder}
 use Rattle.tables.specs.declared.Refusal.{Refusal}
 use Rattle.meaning.specs.Meaning.{modeArrows}
 use Rattle.meaning.specs.Pairs.{pairs, userAt, fileAt}
-use Rattle.list_meaning.specs.Order.{distinct, meets, reached, granted, right, honest, coversAll, qualifies, FirstMissed}
+use Rattle.list_meaning.specs.Order.{meets, reached, granted, right, honest, coversAll, qualifies, FirstMissed}
+use Rattle.list_meaning.specs.Lists.{distinct}
 use Rattle.list_meaning.specs.Greedy.{greedy, orderFault}
 use Rattle.list_meaning.specs.Calls.{listEarly, listBefore, listAnswer, listAfter, workAfter}
 use Rattle.list_meaning.specs.Condition.{Pair, Reaches, Honest, IsGranted, ReachesAll, SomeReachesAll}

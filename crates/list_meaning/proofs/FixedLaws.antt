@@ -15,7 +15,8 @@ use lib.Seq.{take-suc, take-length, take-append-le, take-at, getD-append-seam}
 use Rattle.tables.specs.Rows.{Picture, arrowCount, arrowAt}
 use Rattle.tables.specs.declared.Refusal.{Refusal}
 use Rattle.meaning.specs.Pairs.{pairs, userAt, fileAt}
-use Rattle.list_meaning.specs.Order.{anyOf, ofMode, meets, right}
+use Rattle.list_meaning.specs.Order.{meets, right}
+use Rattle.list_meaning.specs.Lists.{anyOf, ofMode}
 use Rattle.list_meaning.specs.Greedy.{next, addable, listTo, greedy, orderFault}
 use Rattle.list_meaning.specs.Condition.{Reaches}
 use Rattle.list_meaning.specs.Calls.{listBefore, listAnswer, listAfter}

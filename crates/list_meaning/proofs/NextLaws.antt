@@ -13,7 +13,8 @@ use lib.Dec.{T}
 use lib.ListN.{length, length-append}
 use Rattle.tables.specs.Rows.{Picture, arrowCount}
 use Rattle.meaning.specs.Pairs.{pairs}
-use Rattle.list_meaning.specs.Order.{ofMode, meets, right}
+use Rattle.list_meaning.specs.Order.{meets, right}
+use Rattle.list_meaning.specs.Lists.{ofMode}
 use Rattle.list_meaning.specs.Greedy.{followed, addable, next, listTo, greedy}
 use Rattle.base.proofs.SearchLaws.{lowest-some, lowest-none, some-none}
 use Rattle.base.proofs.SelectLaws.{lowest-is, lowest-nothing}

@@ -15,8 +15,7 @@ use Rattle.tables.specs.Atoms.{atom}
 use Rattle.tables.specs.Refusals.{noOrder}
 use Rattle.meaning.specs.Meaning.{reaches, answer, isGranted}
 use Rattle.meaning.specs.Pairs.{Before, pairs}
-use Rattle.list_meaning.specs.Order.{anyOf, allOf, firstOf, distinct, gives, ofMode}
-use Rattle.list_meaning.specs.Calls.{blanks, listRoom}
+use Rattle.list_meaning.specs.Lists.{anyOf, allOf, firstOf, distinct, gives, ofMode, blanks, listRoom}
 use Rattle.list_meaning.specs.declared.Listed.{Listed}
 use Rattle.list_meaning.specs.declared.Listed.the-variants.{Written, Refused}
 

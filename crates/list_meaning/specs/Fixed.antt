@@ -5,7 +5,7 @@ use Prim.Native.Nat.{ℕ, _<_}
 use lib.Dec.{T}
 use lib.ListN.{length, getD, take}
 use Rattle.tables.specs.Rows.{Picture}
-use Rattle.list_meaning.specs.Order.{ofMode}
+use Rattle.list_meaning.specs.Lists.{ofMode}
 use Rattle.list_meaning.specs.Condition.{Pair, arrowReaches, Reaches, Honest}
 
 module _ (pic : Picture) (m : ℕ) where

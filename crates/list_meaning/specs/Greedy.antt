@@ -1,16 +1,20 @@
--- The list that is written (document 02, P3) and refusal 13, as definitions that compute: `fixed-order` (proofs/FixedLaws.antt) says
--- that this is the list of specs/Fixed.antt, and `order-none` and `order-missed` (proofs/OrderLaws.antt) what 13 says.
--- Assumes nothing.
+-- The list that is written (document 02, P3), refusal 13, and what is answered and written by it, as definitions that compute:
+-- `fixed-order` (proofs/FixedLaws.antt) says that this is the list of specs/Fixed.antt, and `third-condition` (proofs/ConditionLaws.antt)
+-- that what is answered and written is that of specs/Condition.antt. Assumes nothing.
 use mathlib.Core.Bool.{Bool, not, _&&_}
 use mathlib.Core.List.{List, [], _∷_, _++_}
 use mathlib.Core.Option.{Option, none, some}
 use Prim.Native.Nat.{ℕ, zero, suc}
+use lib.ListN.{length}
 use Rattle.base.specs.Search.{implies, first, given, every, lowest}
 use Rattle.tables.specs.Rows.{Picture, arrowCount}
 use Rattle.tables.specs.Refusals.{noOrder}
 use Rattle.tables.specs.declared.Refusal.{Refusal}
 use Rattle.meaning.specs.Pairs.{pairs, userAt, fileAt}
-use Rattle.list_meaning.specs.Order.{meets, reached, ofMode, granted, right}
+use Rattle.list_meaning.specs.Order.{meets, reached, granted, right}
+use Rattle.list_meaning.specs.Lists.{ofMode, blanks, listRoom}
+use Rattle.list_meaning.specs.declared.Listed.{Listed}
+use Rattle.list_meaning.specs.declared.Listed.the-variants.{Written, Refused}
 
 -- the list with this arrow at its end, if there is one
 unfoldable pub followed : List ℕ → Option ℕ → List ℕ
@@ -53,3 +57,13 @@ module _ (pic : Picture) where
     -- 13: no honest list reaches every granted pair
     unfoldable pub orderFault : Option Refusal
     orderFault = leftBy greedy
+
+    -- the answer, by the fault of the whole call, if any: how many places the list takes
+    unfoldable pub listedOf : Option Refusal → Listed
+    listedOf none = Written (length greedy)
+    listedOf (some r) = Refused r
+
+    -- what goes into the list places once checks 1 to 12 have passed, by the fault of 13, if any: the list, or 65,535 in each needed place
+    unfoldable pub placesOf : Option Refusal → List ℕ
+    placesOf none = greedy
+    placesOf (some r) = blanks (listRoom pic m)

@@ -1,3 +1,4 @@
+pub mod Lists
 pub mod Order
 pub mod Greedy
 pub mod Condition

@@ -1,50 +1,21 @@
--- First-match lists of a mode's arrows: the third condition of acceptance, with document 01's words on it. A list is any finite
--- sequence of arrow numbers of the mode; a pair is given by its place in the matrix (`meaning`, specs/Pairs.antt).
--- Assumes nothing.
+-- The third condition as tests that compute: a pair is given by its place in the matrix (`meaning`, specs/Pairs.antt). What they say is
+-- specs/Condition.antt, by `third-condition` (proofs/ConditionLaws.antt). Assumes nothing.
 use mathlib.Core.Path.{_≡_}
-use mathlib.Core.Bool.{Bool, true, false, not, cond, _&&_, _||_}
-use mathlib.Core.List.{List, [], _∷_}
+use mathlib.Core.Bool.{Bool, true, _&&_}
+use mathlib.Core.List.{List}
 use mathlib.Core.Option.{Option, none, some}
 use Prim.Native.Nat.{ℕ, _<_}
-use lib.Dec.{T, eqb, ltb}
+use lib.Dec.{T}
 use Rattle.base.specs.Search.{implies, every}
-use Rattle.tables.specs.Rows.{Picture, arrowCount, arrowAt}
-use Rattle.meaning.specs.Meaning.{positive, negative, hasMode, reaches, isGranted, isUnclear}
+use Rattle.tables.specs.Rows.{Picture, arrowAt}
+use Rattle.meaning.specs.Meaning.{reaches, isGranted}
 use Rattle.meaning.specs.Pairs.{pairs, userAt, fileAt, answerAt}
-use Rattle.meaning.specs.declared.Entry.{Entry}
-
--- a number of the list passes the test
-unfoldable pub anyOf : (ℕ → Bool) → List ℕ → Bool
-anyOf t [] = false
-anyOf t (k ∷ l) = t k || anyOf t l
-
--- each does
-unfoldable pub allOf : (ℕ → Bool) → List ℕ → Bool
-allOf t [] = true
-allOf t (k ∷ l) = t k && allOf t l
-
--- the first that does
-unfoldable pub firstOf : (ℕ → Bool) → List ℕ → Option ℕ
-firstOf t [] = none
-firstOf t (k ∷ l) = cond (t k) (some k) (firstOf t l)
+use Rattle.list_meaning.specs.Lists.{anyOf, allOf, firstOf, distinct, gives, ofMode}
 
 -- if there is one, it passes the test
 unfoldable pub passes : (ℕ → Bool) → Option ℕ → Bool
 passes t none = true
 passes t (some k) = t k
-
--- no number stands twice in the list
-unfoldable pub distinct : List ℕ → Bool
-distinct [] = true
-distinct (k ∷ l) = not (anyOf (eqb k) l) && distinct l
-
--- a pair gets granted from a positive arrow and denied from a negative one: an arrow of sign s gives the answer e
-unfoldable pub gives : (s : ℕ) (e : Entry) → Bool
-gives s e = cond (isGranted e) (eqb s positive) (eqb s negative && not (isUnclear e))
-
--- k is the number of an arrow of mode m
-unfoldable pub ofMode : (arrows : List ℕ) (m k : ℕ) → Bool
-ofMode arrows m k = ltb k (arrowCount arrows) && hasMode arrows m k
 
 module _ (pic : Picture) where
   -- arrow k reaches the pair at place p
