@@ -34,8 +34,7 @@ module _ (pic : Picture) (s : List ℕ) where
   entryEarly mode = orElse (tableFault pic) (orElse (modeFault mode) (scratchFault (length (pic .boxes)) s))
 
   unfoldable pub entryFault : (mode u f : ℕ) → Option Refusal
-  entryFault mode u f =
-      orElse (entryEarly mode) (orElse (loopFault (pic .boxes) (pic .rows)) (askedFault (pic .boxes) (pic .rows) u f))
+  entryFault mode u f = orElse (entryEarly mode) (orElse (loopFault (pic .boxes) (pic .rows)) (askedFault (pic .boxes) (pic .rows) u f))
 
   -- the judge: checks 1 to 7, 9, 10, 12
   unfoldable pub judgeFault : Option Refusal

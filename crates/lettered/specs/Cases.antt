@@ -27,8 +27,8 @@ use Rattle.meaning.specs.Cases.{emptied-group, around-emptied, emptied-both, gr
 use Rattle.meaning.specs.declared.Entry.the-variants.{Granted, Denied, Default, Unclear}
 use Rattle.answers.specs.declared.EntryReply.{EntryReply}
 use Rattle.answers.specs.declared.EntryReply.the-variants.{Answered, Refused}
-use Rattle.list_meaning.specs.Order.{passes}
-use Rattle.list_meaning.specs.Lists.{anyOf, allOf, firstOf, distinct, gives, ofMode, blanks, listRoom}
+use Rattle.list_meaning.specs.Order.{passes, anyOf, allOf, firstOf, distinct}
+use Rattle.list_meaning.specs.Lists.{gives, ofMode, blanks, listRoom}
 use Rattle.list_meaning.specs.Order.{meets, reached, granted, right, honest, coversAll, qualifies}
 use Rattle.list_meaning.specs.Greedy.{followed, new, fits, addable, next, listTo, greedy, leftBy, orderFault, listedOf, placesOf}
 use Rattle.list_meaning.specs.Calls.{listEarly, listBefore, listAnswer, listAfter}

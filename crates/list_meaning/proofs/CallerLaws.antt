@@ -16,8 +16,8 @@ use Rattle.meaning.specs.Pairs.{userAt, fileAt, answerAt, firstPair}
 use Rattle.meaning.specs.declared.Entry.{Entry}
 use Rattle.meaning.proofs.ModeLaws.{answer-at}
 use Rattle.meaning.proofs.MatrixLaws.{firstPair-places}
-use Rattle.list_meaning.specs.Order.{meets, reached, granted, right}
-use Rattle.list_meaning.specs.Lists.{anyOf, allOf, gives, ofMode}
+use Rattle.list_meaning.specs.Order.{meets, reached, granted, right, anyOf, allOf}
+use Rattle.list_meaning.specs.Lists.{gives, ofMode}
 use Rattle.list_meaning.specs.Greedy.{addable, next, listTo, greedy, leftBy, orderFault}
 
 -- ---- lists of numbers

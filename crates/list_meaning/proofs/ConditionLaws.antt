@@ -7,28 +7,29 @@ use mathlib.Core.Option.{Option, none, some}
 use Prim.Native.Nat.{ℕ, _<_, _≤_}
 use native.Mathlib.Omega.{arith}
 use lib.Dec.{T}
-use lib.ListN.{length}
+use lib.ListN.{length, getD}
 use Rattle.tables.specs.Rows.{Picture}
 use Rattle.base.specs.Buffers.{written}
 use Rattle.tables.specs.Refusals.{noOrder}
 use Rattle.tables.specs.declared.Refusal.{Refusal}
-use Rattle.meaning.specs.Meaning.{modeArrows}
+use Rattle.meaning.specs.Meaning.{modeArrows, answer, isGranted}
 use Rattle.meaning.specs.Pairs.{pairs, userAt, fileAt}
-use Rattle.list_meaning.specs.Order.{meets, reached, granted, right, honest, coversAll, qualifies, FirstMissed}
-use Rattle.list_meaning.specs.Lists.{distinct}
+use Rattle.list_meaning.specs.Order.{meets, reached, granted, right, honest, coversAll, qualifies, FirstMissed, distinct}
+use Rattle.list_meaning.specs.Lists.{ofMode}
 use Rattle.list_meaning.specs.Greedy.{greedy, orderFault}
 use Rattle.list_meaning.specs.Calls.{listEarly, listBefore, listAnswer, listAfter, workAfter}
-use Rattle.list_meaning.specs.Condition.{Pair, Reaches, Honest, IsGranted, ReachesAll, SomeReachesAll}
+use Rattle.list_meaning.specs.Condition.{Pair, Reaches, Honest, ReachesAll, SomeReachesAll}
 use Rattle.list_meaning.specs.Condition.{FirstUnreached, WrittenList, Condition3}
 use Rattle.list_meaning.specs.declared.Listed.{Listed}
 use Rattle.list_meaning.specs.declared.Listed.the-variants.{Written, Refused}
 use Rattle.tables.proofs.TableLaws.{both-none}
 use Rattle.base.proofs.Tests.{and-T}
 use Rattle.base.proofs.SearchLaws.{some-none}
-use Rattle.base.proofs.BufferLaws.{written-rest}
+use Rattle.base.proofs.BufferLaws.{written-at, written-rest}
 use Rattle.base.proofs.PartLaws.{part-is, wrote-length}
 use Rattle.meaning.proofs.PairLaws.{userAt-atom, fileAt-atom, pair-place, pair-before}
 use Rattle.meaning.proofs.ModeLaws.{answer-at}
+use Rattle.list_meaning.proofs.PlaceLaws.{any-place, place-any, all-place, place-all, first-place, place-first, once-place}
 use Rattle.list_meaning.proofs.GreedyLaws.{honest-own, honest-right, honest-is, mode-room}
 use Rattle.list_meaning.proofs.OrderLaws.{covers-is, covers-at, greedy-qualifies, order-none, order-some, order-missed}
 use Rattle.list_meaning.proofs.CallLaws.{answered-list, answered-none, rooms}
@@ -45,25 +46,28 @@ module _ (pic : Picture) (m : ℕ) where
   pair-at p b = (userAt-atom pic p b, fileAt-atom pic p b)
 
   -- the pair at a place is granted; it is reached by a list
-  granted-at : (p : ℕ) → T (granted pic m p) ↔ IsGranted pic m (userAt pic p) (fileAt pic p)
+  granted-at : (p : ℕ) → T (granted pic m p) ↔ T (isGranted (answer pic m (userAt pic p) (fileAt pic p)))
   unfolding granted
   granted-at p = let e = answer-at pic m p in (λ t. rw e at t, λ t. rw e t)
 
   reached-at : (l : List ℕ) (p : ℕ)
       → T (reached pic l p) ↔ Reaches pic l (userAt pic p) (fileAt pic p)
   unfolding reached meets
-  reached-at l p = (λ t. t, λ t. t)
+  reached-at l p = (any-place (meets pic p) l, λ r. place-any (meets pic p) l (r .0) (r .1) (r .2))
 
   pub honest-pairs : (l : List ℕ) → T (honest pic m l) ↔ Honest pic m l
   unfolding meets right
   honest-pairs l = (
     λ h. (
-      honest-own pic m l h,
-      by-place _ (λ p b k e. rw (answer-at pic m p) at (honest-right pic m l h p k b e)),
+      all-place (ofMode (pic .arrows) m) l (honest-own pic m l h),
+      by-place _
+          (λ p b i r. rw (answer-at pic m p) at (honest-right pic m l h p (getD l i 0) b (first-place (meets pic p) l i r))),
     ),
     λ h.
-        honest-is pic m l (h .0)
-        (λ p k b e. rw (answer-at pic m p) (h .1 (userAt pic p) (fileAt pic p) (pair-at p b) k e)),
+        honest-is pic m l (place-all (ofMode (pic .arrows) m) l (h .0))
+        (λ p k b e.
+        let r = place-first (meets pic p) l k e in
+        rw (answer-at pic m p, ← r .2) (h .1 (userAt pic p) (fileAt pic p) (pair-at p b) (r .0) (r .1))),
   )
 
   covers-pairs : (l : List ℕ) → T (coversAll pic m l) ↔ ReachesAll pic m l
@@ -113,11 +117,12 @@ module _ (pic : Picture) (m : ℕ) where
       let few = mode-room pic m l (record { is-honest = a .0; once = b .0 }) in
       let fit : length l ≤ length out = omega arith in
       let part = part-is l out (length l) out′ (refl, w) in
+      let at : (p : ℕ) → p < length l → getD out′ p 0 ≡ getD l p 0 = λ p g. rw w (written-at l out p g) in
       record {
         there = fit;
         same-places = wrote-length l out (length l) out′ (refl, w) fit;
         is-honest = rw part (honest-pairs l .0 (a .0));
-        once = rw part (b .0);
+        once = λ i j less there e. once-place l (b .0) i j less there (sym (at i (omega arith)) ∙ e ∙ at j there);
         reaches-all = rw part (covers-pairs l .0 (b .1));
         beyond = λ p g. rw w (written-rest l out p g);
       }

@@ -9,7 +9,7 @@ use native.Mathlib.Omega.{arith}
 use lib.Dec.{T, T-not, not-T, eqb, eqb→eq, eqb-refl}
 use lib.ListN.{length}
 use Rattle.base.specs.Search.{select}
-use Rattle.list_meaning.specs.Lists.{anyOf, allOf, distinct}
+use Rattle.list_meaning.specs.Order.{anyOf, allOf, distinct}
 use Rattle.base.proofs.Tests.{or-T, and-T, T-and, T-or₁, T-or₂, T-eqb}
 use Rattle.base.proofs.SelectLaws.{select-fewer}
 

@@ -15,8 +15,8 @@ use lib.Seq.{take-suc, take-length, take-append-le, take-at, getD-append-seam}
 use Rattle.tables.specs.Rows.{Picture, arrowCount, arrowAt}
 use Rattle.tables.specs.declared.Refusal.{Refusal}
 use Rattle.meaning.specs.Pairs.{pairs, userAt, fileAt}
-use Rattle.list_meaning.specs.Order.{meets, right}
-use Rattle.list_meaning.specs.Lists.{anyOf, ofMode}
+use Rattle.list_meaning.specs.Order.{meets, right, anyOf}
+use Rattle.list_meaning.specs.Lists.{ofMode}
 use Rattle.list_meaning.specs.Greedy.{next, addable, listTo, greedy, orderFault}
 use Rattle.list_meaning.specs.Condition.{Reaches}
 use Rattle.list_meaning.specs.Calls.{listBefore, listAnswer, listAfter}
@@ -27,6 +27,7 @@ use Rattle.base.proofs.Tests.{or-T}
 use Rattle.base.proofs.SearchLaws.{below-suc}
 use Rattle.base.proofs.PartLaws.{part-is}
 use Rattle.meaning.proofs.PairLaws.{pair-place}
+use Rattle.list_meaning.proofs.PlaceLaws.{any-place, place-any}
 use Rattle.list_meaning.proofs.CountLaws.{anyOf-snoc}
 use Rattle.list_meaning.proofs.MatchLaws.{honest-fits}
 use Rattle.list_meaning.proofs.GreedyLaws.{honest-right, addable-own, adds-new, addable-is, addable-same, Grown, grown-none, grown-more}
@@ -63,7 +64,7 @@ module _ (pic : Picture) (m : ℕ) where
         file = fileAt pic (n .0);
         is-pair = pair-at pic m (n .0) (n .1);
         reaches = n .2;
-        nothing-earlier = n .3;
+        nothing-earlier = λ r. n .3 (place-any (meets pic (n .0)) l (r .0) (r .1) (r .2));
       }
 
   plain-test : (l : List ℕ) (k : ℕ) → Follows l k → T (Can l k)
@@ -74,7 +75,7 @@ module _ (pic : Picture) (m : ℕ) where
       let n : Reaches pic l (userAt pic (p .0)) (fileAt pic (p .0)) → ⊥ = rw (p .2, p .3) (c .nothing-earlier) in
       addable-is pic m l k (c .of-mode)
       (honest-fits (pairs pic) (meets pic) (right pic m) l k (honest-right pic m (l ++ (k ∷ [])) h))
-      (p .0) (p .1) (rw (p .2, p .3) (c .reaches)) n
+      (p .0) (p .1) (rw (p .2, p .3) (c .reaches)) (λ t. n (any-place (meets pic (p .0)) l t))
 
   next-lowest : (l : List ℕ) (k : ℕ) → HonestOnce l → next pic m l ≡ some k → Low l k
   next-lowest l k g e =

@@ -13,8 +13,8 @@ use Rattle.tables.specs.Rows.{Picture, arrowCount, arrowAt}
 use Rattle.tables.specs.declared.Arrow.{Arrow}
 use Rattle.meaning.specs.Meaning.{hasMode, modeArrows}
 use Rattle.meaning.specs.Pairs.{pairs}
-use Rattle.list_meaning.specs.Order.{passes, meets, reached, right, honest}
-use Rattle.list_meaning.specs.Lists.{anyOf, allOf, distinct, firstOf, ofMode}
+use Rattle.list_meaning.specs.Order.{passes, meets, reached, right, honest, anyOf, allOf, distinct, firstOf}
+use Rattle.list_meaning.specs.Lists.{ofMode}
 use Rattle.list_meaning.specs.Greedy.{new, fits, addable}
 use Rattle.base.proofs.Tests.{T?, and-T, T-and}
 use Rattle.base.proofs.SearchLaws.{lowest-some, lowest-none, every-at, every-is, some-none}

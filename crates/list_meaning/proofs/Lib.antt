@@ -1,4 +1,5 @@
 -- Laws for the proofs of this crate and of the crate above it.
+pub mod PlaceLaws
 pub mod CountLaws
 pub mod MatchLaws
 pub mod GreedyLaws

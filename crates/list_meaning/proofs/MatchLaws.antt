@@ -7,7 +7,7 @@ use mathlib.Core.List.{List, [], _∷_, _++_}
 use mathlib.Core.Option.{some}
 use Prim.Native.Nat.{ℕ, _<_}
 use lib.Dec.{T}
-use Rattle.list_meaning.specs.Lists.{anyOf, allOf, firstOf}
+use Rattle.list_meaning.specs.Order.{anyOf, allOf, firstOf}
 use Rattle.base.proofs.Tests.{T?, or-T, and-T, T-or₁, T-or₂, T-true, not-false}
 use Rattle.base.proofs.SearchLaws.{some-none}
 

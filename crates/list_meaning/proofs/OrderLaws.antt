@@ -12,8 +12,8 @@ use Rattle.tables.specs.Rows.{Picture}
 use Rattle.tables.specs.Refusals.{noOrder}
 use Rattle.tables.specs.declared.Refusal.{Refusal}
 use Rattle.meaning.specs.Pairs.{pairs, userAt, fileAt}
-use Rattle.list_meaning.specs.Order.{meets, reached, granted, right, honest, coversAll, qualifies, FirstMissed}
-use Rattle.list_meaning.specs.Lists.{distinct, ofMode}
+use Rattle.list_meaning.specs.Order.{meets, reached, granted, right, honest, coversAll, qualifies, FirstMissed, distinct}
+use Rattle.list_meaning.specs.Lists.{ofMode}
 use Rattle.list_meaning.specs.Greedy.{greedy, leftBy, orderFault}
 use Rattle.tables.proofs.TableLaws.{not-not}
 use Rattle.base.proofs.Tests.{and-T, T-and, T-true, not-false}

@@ -5,8 +5,7 @@ use mathlib.Core.Path.{_≡_}
 use mathlib.Core.Logic.{_↔_}
 use mathlib.Core.Bool.{Bool}
 use mathlib.Core.List.{List}
-use mathlib.Core.Option.{some}
-use Prim.Native.Nat.{ℕ, _≤_}
+use Prim.Native.Nat.{ℕ, _<_, _≤_}
 use lib.Dec.{T}
 use lib.ListN.{length, getD, take}
 use Rattle.base.specs.Buffers.{written, zeros}
@@ -15,7 +14,7 @@ use Rattle.tables.specs.Atoms.{atom}
 use Rattle.tables.specs.Refusals.{noOrder}
 use Rattle.meaning.specs.Meaning.{reaches, answer, isGranted}
 use Rattle.meaning.specs.Pairs.{Before, pairs}
-use Rattle.list_meaning.specs.Lists.{anyOf, allOf, firstOf, distinct, gives, ofMode, blanks, listRoom}
+use Rattle.list_meaning.specs.Lists.{gives, ofMode, blanks, listRoom}
 use Rattle.list_meaning.specs.declared.Listed.{Listed}
 use Rattle.list_meaning.specs.declared.Listed.the-variants.{Written, Refused}
 
@@ -30,25 +29,26 @@ module _ (pic : Picture) where
 
   -- the list reaches the pair (u, f): one of its arrows does
   abbrev pub Reaches : (l : List ℕ) (u f : ℕ) → Type 0
-  Reaches l u f = T (anyOf (arrowReaches u f) l)
+  Reaches l u f = (i : ℕ) × (i < length l) × T (arrowReaches u f (getD l i 0))
+
+  -- the arrow at place i is the first in the list that reaches the pair (u, f)
+  abbrev pub FirstReaches : (l : List ℕ) (u f i : ℕ) → Type 0
+  FirstReaches l u f i =
+      (i < length l) × T (arrowReaches u f (getD l i 0)) × ((j : ℕ) → j < i → T (arrowReaches u f (getD l j 0)) → ⊥)
 
   module _ (m : ℕ) where
     -- (u, f) gets the picture's answer from the first arrow in the list that reaches it, if there is one
     abbrev pub GetsAnswer : (l : List ℕ) (u f : ℕ) → Type 0
-    GetsAnswer l u f = (k : ℕ) → firstOf (arrowReaches u f) l ≡ some k → T (gives (arrowAt (pic .arrows) k .sign) (answer pic m u f))
+    GetsAnswer l u f = (i : ℕ) → FirstReaches l u f i → T (gives (arrowAt (pic .arrows) (getD l i 0) .sign) (answer pic m u f))
 
     -- a list of the mode's arrows is honest if each pair that it reaches gets the picture's answer from the first arrow in the list
     -- that reaches it
     abbrev pub Honest : (l : List ℕ) → Type 0
-    Honest l = T (allOf (ofMode (pic .arrows) m) l) × ((u f : ℕ) → Pair u f → GetsAnswer l u f)
-
-    -- (u, f) is granted in the mode
-    abbrev pub IsGranted : (u f : ℕ) → Type 0
-    IsGranted u f = T (isGranted (answer pic m u f))
+    Honest l = ((i : ℕ) → i < length l → T (ofMode (pic .arrows) m (getD l i 0))) × ((u f : ℕ) → Pair u f → GetsAnswer l u f)
 
     -- the list reaches every granted pair
     abbrev pub ReachesAll : (l : List ℕ) → Type 0
-    ReachesAll l = (u f : ℕ) → Pair u f → IsGranted u f → Reaches l u f
+    ReachesAll l = (u f : ℕ) → Pair u f → T (isGranted (answer pic m u f)) → Reaches l u f
 
     -- some honest list reaches every granted pair
     abbrev pub SomeReachesAll : Type 0
@@ -61,9 +61,9 @@ module _ (pic : Picture) where
     -- (u, f) is the first granted pair, by user, then file, that no honest list whatever reaches
     pub record FirstUnreached (u f : ℕ) : Type 0 where
       pub is-pair : Pair u f
-      pub is-granted : IsGranted u f
+      pub is-granted : T (isGranted (answer pic m u f))
       pub unreached : SomeReaches u f → ⊥
-      pub before : (v g : ℕ) → Pair v g → Before v g u f → IsGranted v g → SomeReaches v g
+      pub before : (v g : ℕ) → Pair v g → Before v g u f → T (isGranted (answer pic m v g)) → SomeReaches v g
 
     -- the list written is the n counted list places from place 0 on: it is honest, has no arrow twice and reaches every granted pair,
     -- and places beyond the count stay untouched
@@ -71,7 +71,7 @@ module _ (pic : Picture) where
       pub there : n ≤ length out
       pub same-places : length out′ ≡ length out
       pub is-honest : Honest (take n out′)
-      pub once : T (distinct (take n out′))
+      pub once : (i j : ℕ) → i < j → j < n → getD out′ i 0 ≡ getD out′ j 0 → ⊥
       pub reaches-all : ReachesAll (take n out′)
       pub beyond : (p : ℕ) → n ≤ p → getD out′ p 0 ≡ getD out p 0
 

@@ -1,33 +1,13 @@
--- Lists of arrow numbers of a mode, and what a list call needs (document 01, "Meaning" and "Who can cause a refusal"). Assumes nothing.
-use mathlib.Core.Bool.{Bool, true, false, not, cond, _&&_, _||_}
-use mathlib.Core.List.{List, [], _∷_}
-use mathlib.Core.Option.{Option, none, some}
+-- The arrows of a mode that a list has, what they give, and what a call for a list needs (document 01, "Meaning" and "Who can cause a
+-- refusal"). Assumes nothing.
+use mathlib.Core.Bool.{Bool, not, cond, _&&_}
+use mathlib.Core.List.{List}
 use Prim.Native.Nat.{ℕ}
 use lib.Dec.{eqb, ltb}
 use lib.ListN.{length, replicate}
 use Rattle.tables.specs.Rows.{Picture, noArrow, arrowCount}
 use Rattle.meaning.specs.Meaning.{positive, negative, hasMode, modeArrows, isGranted, isUnclear}
 use Rattle.meaning.specs.declared.Entry.{Entry}
-
--- a number of the list passes the test
-unfoldable pub anyOf : (ℕ → Bool) → List ℕ → Bool
-anyOf t [] = false
-anyOf t (k ∷ l) = t k || anyOf t l
-
--- each does
-unfoldable pub allOf : (ℕ → Bool) → List ℕ → Bool
-allOf t [] = true
-allOf t (k ∷ l) = t k && allOf t l
-
--- the first that does
-unfoldable pub firstOf : (ℕ → Bool) → List ℕ → Option ℕ
-firstOf t [] = none
-firstOf t (k ∷ l) = cond (t k) (some k) (firstOf t l)
-
--- no number stands twice in the list
-unfoldable pub distinct : List ℕ → Bool
-distinct [] = true
-distinct (k ∷ l) = not (anyOf (eqb k) l) && distinct l
 
 -- a pair gets granted from a positive arrow and denied from a negative one: an arrow of sign s gives the answer e
 unfoldable pub gives : (s : ℕ) (e : Entry) → Bool

@@ -1,16 +1,36 @@
 -- The third condition as tests that compute: a pair is given by its place in the matrix (`meaning`, specs/Pairs.antt). What they say is
 -- specs/Condition.antt, by `third-condition` (proofs/ConditionLaws.antt). Assumes nothing.
 use mathlib.Core.Path.{_≡_}
-use mathlib.Core.Bool.{Bool, true, _&&_}
-use mathlib.Core.List.{List}
+use mathlib.Core.Bool.{Bool, true, false, not, cond, _&&_, _||_}
+use mathlib.Core.List.{List, [], _∷_}
 use mathlib.Core.Option.{Option, none, some}
 use Prim.Native.Nat.{ℕ, _<_}
-use lib.Dec.{T}
+use lib.Dec.{T, eqb}
 use Rattle.base.specs.Search.{implies, every}
 use Rattle.tables.specs.Rows.{Picture, arrowAt}
 use Rattle.meaning.specs.Meaning.{reaches, isGranted}
 use Rattle.meaning.specs.Pairs.{pairs, userAt, fileAt, answerAt}
-use Rattle.list_meaning.specs.Lists.{anyOf, allOf, firstOf, distinct, gives, ofMode}
+use Rattle.list_meaning.specs.Lists.{gives, ofMode}
+
+-- a number of the list passes the test
+unfoldable pub anyOf : (ℕ → Bool) → List ℕ → Bool
+anyOf t [] = false
+anyOf t (k ∷ l) = t k || anyOf t l
+
+-- each does
+unfoldable pub allOf : (ℕ → Bool) → List ℕ → Bool
+allOf t [] = true
+allOf t (k ∷ l) = t k && allOf t l
+
+-- the first that does
+unfoldable pub firstOf : (ℕ → Bool) → List ℕ → Option ℕ
+firstOf t [] = none
+firstOf t (k ∷ l) = cond (t k) (some k) (firstOf t l)
+
+-- no number stands twice in the list
+unfoldable pub distinct : List ℕ → Bool
+distinct [] = true
+distinct (k ∷ l) = not (anyOf (eqb k) l) && distinct l
 
 -- if there is one, it passes the test
 unfoldable pub passes : (ℕ → Bool) → Option ℕ → Bool

@@ -10,7 +10,7 @@ use Rattle.tables.specs.Atoms.{atom}
 use Rattle.boxsets.specs.Sets.{has}
 use Rattle.meaning.specs.Meaning.{reaches, answer, isGranted}
 use Rattle.meaning.specs.Pairs.{unclearFault}
-use Rattle.list_meaning.specs.Lists.{anyOf}
+use Rattle.list_meaning.specs.Order.{anyOf}
 use Rattle.list_meaning.specs.Calls.{listAnswer, listAfter, workAfter}
 use Rattle.list_meaning.specs.declared.Listed.{Listed}
 

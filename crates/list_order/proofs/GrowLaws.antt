@@ -22,8 +22,8 @@ use Rattle.meaning.proofs.ModeLaws.{reaches-is, answer-at}
 use Rattle.meaning.proofs.PairLaws.{pair-place, userAt-atom, fileAt-atom}
 use Rattle.meaning.proofs.MatrixLaws.{clear-pair}
 use Rattle.certificates.specs.Steps.{Drawn}
-use Rattle.list_meaning.specs.Order.{meets, right}
-use Rattle.list_meaning.specs.Lists.{anyOf, ofMode}
+use Rattle.list_meaning.specs.Order.{meets, right, anyOf}
+use Rattle.list_meaning.specs.Lists.{ofMode}
 use Rattle.list_meaning.specs.Greedy.{addable}
 use Rattle.list_meaning.specs.Steps.{Table, unreached, grantedTo}
 use Rattle.list_meaning.proofs.CallerLaws.{gives-clear, meets-is, any-meets, right-is}

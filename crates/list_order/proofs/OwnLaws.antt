@@ -16,7 +16,8 @@ use Rattle.meaning.proofs.ModeLaws.{hasMode-is}
 use Rattle.mode_sets.specs.Mode.{same, isOwn, ownArrows}
 use Rattle.mode_sets.proofs.SameLaws.{same-parts}
 use Rattle.mode_sets.proofs.OwnLaws.{own-select, own-found, lowest-own, own-first, own-nothing}
-use Rattle.list_meaning.specs.Lists.{allOf, ofMode}
+use Rattle.list_meaning.specs.Lists.{ofMode}
+use Rattle.list_meaning.specs.Order.{allOf}
 use Rattle.list_meaning.specs.Greedy.{addable, next, listTo}
 use Rattle.list_meaning.proofs.CallerLaws.{allOf-none, ofMode-is, next-is-lowest}
 use Rattle.list_meaning.proofs.CountLaws.{allOf-snoc, room}

@@ -55,8 +55,7 @@ module _ (pic : Picture) where
   module _ (mode : ℕ) where
     -- arrow k has the mode and the sign, and reaches the pair
     unfoldable pub hits : (sign u f k : ℕ) → Bool
-    hits sign u f k =
-        hasMode (pic .arrows) mode k && (eqb (arrowAt (pic .arrows) k .sign) sign && reaches (arrowAt (pic .arrows) k) u f)
+    hits sign u f k = hasMode (pic .arrows) mode k && (eqb (arrowAt (pic .arrows) k .sign) sign && reaches (arrowAt (pic .arrows) k) u f)
 
     -- arrow k is a certificate of the sign: it reaches the pair and overrides every arrow of the opposite sign that does
     unfoldable pub certifies : (sign opposite u f k : ℕ) → Bool

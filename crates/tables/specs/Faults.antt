@@ -14,9 +14,7 @@ use Rattle.tables.specs.declared.Arrow.{Arrow}
 
 -- 1: a table whose length is no whole number of rows
 unfoldable pub raggedFault : (rows arrows : ℕ) → Option Refusal
-raggedFault rows arrows =
-    orElse (given (not (eqb (rows % 2) 0)) (ragged 1 rows))
-    (given (not (eqb (arrows % 4) 0)) (ragged 2 arrows))
+raggedFault rows arrows = orElse (given (not (eqb (rows % 2) 0)) (ragged 1 rows)) (given (not (eqb (arrows % 4) 0)) (ragged 2 arrows))
 
 -- 2: at most 256 boxes, 1,024 containments, 512 arrows
 unfoldable pub countFault : (boxes rows arrows : ℕ) → Option Refusal
