@@ -1,17 +1,17 @@
 // The cases of block files: read, packed, and their check.
-use super::buffers::bytes;
-use super::buffers::bytes_lent;
-use super::buffers::numbers;
-use super::buffers::numbers_lent;
-use super::reading::byte_table;
-use super::reading::number;
-use super::reading::number_table;
-use super::writing::show_bytes;
-use super::writing::show_numbers;
-use super::writing::show_packing;
-use super::writing::show_reading;
-use super::writing::show_seen;
+use super::replies::show_packing;
+use super::replies::show_reading;
+use super::replies::show_seen;
 use blocks::Check;
+use case_text::byte_table;
+use case_text::bytes;
+use case_text::bytes_lent;
+use case_text::number;
+use case_text::number_table;
+use case_text::numbers;
+use case_text::numbers_lent;
+use case_text::show_bytes;
+use case_text::show_numbers;
 use libc::STDOUT_FILENO;
 
 // Reads a file into as many places of each table as the input says.

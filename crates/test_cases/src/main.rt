@@ -12,11 +12,9 @@
 //   c   bytes, for their check
 // Every buffer has 65,600 places, which hold 170 or 43690 before each call. What is written is the label and a line for each call:
 // what it answers, and then what every place of every buffer holds, as in a table.
-mod buffers;
 mod files;
 mod pictures;
-mod reading;
-mod writing;
+mod replies;
 
 use files::check_case;
 use files::file_case;

@@ -1,18 +1,18 @@
 // The cases of a picture's calls, and those of its headings.
-use super::buffers::bytes;
-use super::buffers::bytes_lent;
-use super::buffers::numbers;
-use super::buffers::numbers_lent;
-use super::reading::byte_table;
-use super::reading::low;
-use super::reading::number;
-use super::reading::number_table;
-use super::writing::show_bytes;
-use super::writing::show_headings;
-use super::writing::show_listed;
-use super::writing::show_numbers;
-use super::writing::show_reply;
-use super::writing::show_verdict;
+use super::replies::show_headings;
+use super::replies::show_listed;
+use super::replies::show_reply;
+use case_text::byte_table;
+use case_text::bytes;
+use case_text::bytes_lent;
+use case_text::low;
+use case_text::number;
+use case_text::number_table;
+use case_text::numbers;
+use case_text::numbers_lent;
+use case_text::show_bytes;
+use case_text::show_numbers;
+use case_text::show_verdict;
 use libc::STDOUT_FILENO;
 use tables::Verdict;
 

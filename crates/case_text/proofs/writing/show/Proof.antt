@@ -1,7 +1,7 @@
 use Prim.Native.Nat.{_-_, _≤_}
 use borrow.Author.Needs.{needs}
-use Rattle.test_cases.proofs.writing.show.Statement.{statement}
-use Rattle.test_cases.proofs.writing.show.Tie as tie
+use Rattle.case_text.proofs.writing.show.Statement.{statement}
+use Rattle.case_text.proofs.writing.show.Tie as tie
 
 abbrev Inv-loop : tie.InvT-loop
 Inv-loop bytes numbers run₀ i₀ run i = (run ≤ i) × (i ≤ 65600)

@@ -2,8 +2,8 @@ use Prim.Native.Nat.{_-_, _≤_}
 use mathlib.Core.Path.{_≡_}
 use lib.ListN.{length}
 use borrow.Author.Needs.{needs}
-use Rattle.test_cases.proofs.reading.table.Statement.{statement}
-use Rattle.test_cases.proofs.reading.table.Tie as tie
+use Rattle.case_text.proofs.reading.table.Statement.{statement}
+use Rattle.case_text.proofs.reading.table.Tie as tie
 
 abbrev Inv-loop : tie.InvT-loop
 Inv-loop bytes₀ numbers₀ count run₀ i₀ bytes numbers run i = (i ≤ count) × (length bytes ≡ length bytes₀) × (length numbers ≡ length numbers₀)

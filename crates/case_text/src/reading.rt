@@ -1,5 +1,6 @@
 // How numbers and tables are read from standard input.
-ghost use Prim.Native.Nat.{_<_};
+ghost use mathlib.Core.Path.{_≡_};
+ghost use Prim.Native.Nat.{_%_, _<_};
 ghost use Rattle.io.specs.Counts.{Counts};
 use super::buffers::bytes_lent;
 use super::buffers::numbers_lent;
@@ -25,7 +26,9 @@ fn digit(c: u8) -> usize
 }
 
 // The next number, of at most five digits. What ends one comes before the digits in ASCII.
-pub fn number() -> Word {
+pub fn number() -> Word
+    ensures { λ r. ⌜ r .value < 100000 ⌝ }
+{
     let mut value = 0;
     for i in 0..6usize {
         let c = next_byte();
@@ -37,7 +40,10 @@ pub fn number() -> Word {
     Word { value, end: 0 }
 }
 
-pub fn low(x: usize) -> u16 {
+// A number as 16 bits hold it.
+pub fn low(x: usize) -> u16
+    ensures { λ r. ⌜ r ≡ x % 65536 ⌝ }
+{
     (x % 65536) as u16
 }
 
@@ -82,6 +88,7 @@ fn table(bytes: &mut [u8], numbers: &mut [u16]) -> usize {
     count
 }
 
+// Reads a table into the first places, and answers how many it has of them.
 pub fn byte_table(out: &mut [u8]) -> usize
     ensures { λ r. ⌜ Counts r (now (out .exit)) ⌝ }
 {

@@ -1,91 +1,14 @@
-// How answers and buffers are written to standard output.
-ghost use Prim.Native.Nat.{_≤_};
-use super::buffers::PLACES;
+// How the answers of the calls are written to standard output.
 use answers::EntryReply;
 use block_files::Seen;
 use blocks::Reading;
+use case_text::print;
+use case_text::show_refusal;
 use headings::Headings;
 use libc::STDOUT_FILENO;
 use list_meaning::Listed;
 use meaning::Entry;
 use packing::Packing;
-use tables::Refusal;
-use tables::Verdict;
-
-fn print(n: usize) {
-    io::write_all(STDOUT_FILENO, b" ");
-    io::print_decimal(STDOUT_FILENO, n as u64);
-}
-
-fn wide(x: u8) -> usize {
-    x as usize
-}
-
-// What a place of bytes or of numbers holds; beyond the last one, what none holds.
-fn place(bytes: &[u8], numbers: &[u16], i: usize) -> usize {
-    if i < bytes.len() {
-        return wide(bytes[i]);
-    }
-    if i < numbers.len() {
-        return base::wide(numbers[i]);
-    }
-    65536
-}
-
-// All places of bytes or of numbers: the other slice is empty.
-fn show(bytes: &[u8], numbers: &[u16]) {
-    io::write_all(STDOUT_FILENO, b" :");
-    let mut run = 0;
-    for i in 0..PLACES {
-        run = show_run(
-            place(bytes, numbers, i),
-            place(bytes, numbers, i + 1),
-            run + 1,
-        );
-    }
-}
-
-// Writes a run if the next place holds something else; answers how long it then is.
-fn show_run(value: usize, next: usize, run: usize) -> usize
-    ensures { λ r. ⌜ r ≤ run ⌝ }
-{
-    if value == next {
-        return run;
-    }
-    print(value);
-    if 1 < run {
-        io::write_all(STDOUT_FILENO, b"*");
-        io::print_decimal(STDOUT_FILENO, run as u64);
-    }
-    0
-}
-
-pub fn show_bytes(s: &[u8]) {
-    show(s, &[]);
-}
-
-pub fn show_numbers(s: &[u16]) {
-    show(&[], s);
-}
-
-fn show_refusal(r: Refusal) {
-    io::write_all(STDOUT_FILENO, b"refused");
-    print(r.number as usize);
-    print(r.first);
-    print(r.second);
-    print(r.third);
-}
-
-pub fn show_verdict(v: Verdict) {
-    match v {
-        Verdict::Passed => {
-            io::write_all(STDOUT_FILENO, b"passed");
-        }
-        Verdict::Refused(r) => {
-            show_refusal(r);
-        }
-    }
-}
 
 fn show_entry(e: Entry) {
     match e {
@@ -175,12 +98,12 @@ pub fn show_seen(seen: Seen) {
     match seen {
         Seen::Block(head) => {
             io::write_all(STDOUT_FILENO, b"block");
-            print(wide(head.kind));
-            print(wide(head.byte1));
+            print(head.kind as usize);
+            print(head.byte1 as usize);
             print(base::wide(head.number));
             print(base::wide(head.count));
-            print(wide(head.byte6));
-            print(wide(head.byte7));
+            print(head.byte6 as usize);
+            print(head.byte7 as usize);
         }
         Seen::NoBlock => {
             io::write_all(STDOUT_FILENO, b"none");

@@ -1,7 +1,7 @@
 use Prim.Native.Nat.{_-_, _<_, _≤_}
 use borrow.Author.Needs.{needs}
-use Rattle.test_cases.proofs.reading.number.Statement.{statement}
-use Rattle.test_cases.proofs.reading.number.Tie as tie
+use Rattle.case_text.proofs.reading.number.Statement.{statement}
+use Rattle.case_text.proofs.reading.number.Tie as tie
 
 abbrev Inv-loop : tie.InvT-loop
 Inv-loop value₀ i₀ value i = (value < 100000) × (i ≤ 6)

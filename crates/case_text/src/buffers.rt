@@ -1,11 +1,13 @@
 // The buffers of a call, and how many of their places are lent.
-ghost use Prim.Native.Nat.{_≤_};
 ghost use mathlib.Core.Path.{_≡_};
+ghost use Prim.Native.Nat.{_≤_};
 ghost use lib.ListN.{length};
 ghost use Rattle.io.specs.Counts.{Counts};
 
+// Every buffer has so many places.
 pub const PLACES: usize = 65600;
 
+// A buffer before a call, as bytes or as numbers: no place holds 0.
 pub fn bytes() -> [u8; PLACES]
     ensures { λ r. ⌜ 65600 ≡ length r ⌝ }
 {
