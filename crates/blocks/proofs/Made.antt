@@ -11,9 +11,11 @@ use lib.ListN.{length, take, drop, length-drop}
 use lib.Seq.{take-add, take-length, take-all, drop-at, drop-append-le, take-append-le}
 use Rattle.base.proofs.SearchLaws.{first-same}
 use Rattle.base.proofs.Options.{past}
-use Rattle.blocks.specs.Blocks.{headOf, joined, boxesSaid, containmentsSaid, arrowsSaid}
-use Rattle.blocks.specs.Files.{blockAt, blockCount, kindBefore, blocksFault, lengthFault, fileFault, boxesIn, containmentsIn, arrowsIn, boxesOf, containmentsOf, arrowsOf}
-use Rattle.blocks.specs.Reads.{countsIn, countsOf, tablesFault, readFault}
+use Rattle.blocks.specs.Blocks.{headOf, joined}
+use Rattle.blocks.specs.Files.{blockCount, blockAt, kindBefore, blocksFault, lengthFault, fileFault}
+use Rattle.blocks.specs.Reads.{rowCounts, tablesFault, readFault}
+use Rattle.blocks.specs.Steps.{boxesSaid, containmentsSaid, arrowsSaid, boxesIn, containmentsIn, arrowsIn, boxesOf, containmentsOf}
+use Rattle.blocks.specs.Steps.{arrowsOf, countsIn, countsOf}
 use Rattle.tables.proofs.TableLaws.{both-none}
 use Rattle.blocks.proofs.Order.{length-whole, length-good}
 use Rattle.blocks.proofs.Placing.{joined-length}
@@ -40,19 +42,16 @@ module _ (a b : ℕ → List ℕ) (n : ℕ) (same : (k : ℕ) → k < n → a k 
   same-faults = first-same _ _ n (λ k h. rw (same-before k h, same k h))
 
   pub same-boxes : boxesIn a n ≡ boxesIn b n
-  unfolding boxesIn
   same-boxes = joined-same _ _ n (λ k h. ap boxesSaid (same k h))
 
   pub same-containments : containmentsIn a n ≡ containmentsIn b n
-  unfolding containmentsIn
   same-containments = joined-same _ _ n (λ k h. ap containmentsSaid (same k h))
 
   pub same-arrows : arrowsIn a n ≡ arrowsIn b n
-  unfolding arrowsIn
   same-arrows = joined-same _ _ n (λ k h. ap arrowsSaid (same k h))
 
   pub same-counts : countsIn a n ≡ countsIn b n
-  unfolding countsIn
+  unfolding rowCounts
   same-counts = rw (same-boxes, same-containments, same-arrows)
 
 -- a file of whole blocks is made of them

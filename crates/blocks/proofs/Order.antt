@@ -17,8 +17,9 @@ use Rattle.base.proofs.Tests.{T-or₁, T-or₂}
 use Rattle.base.proofs.SearchLaws.{given-none, given-false}
 use Rattle.tables.proofs.TableLaws.{both-none, not-not, room-passed}
 use Rattle.base.proofs.Options.{past, stop}
-use Rattle.blocks.specs.Files.{blockAt, blockCount, lengthFault, blocksFault, fileFault, boxesOf, containmentsOf, arrowsOf}
-use Rattle.blocks.specs.Reads.{countsOf, tablesFault, readFault, answerOf, ReadDone}
+use Rattle.blocks.specs.Files.{blockAt, blockCount, lengthFault, blocksFault, fileFault}
+use Rattle.blocks.specs.Reads.{tablesFault, readFault, answerOf, ReadDone}
+use Rattle.blocks.specs.Steps.{boxesOf, containmentsOf, arrowsOf, countsOf}
 use Rattle.blocks.specs.declared.Counts.{Counts}
 use Rattle.blocks.specs.declared.Reading.the-variants.{Tables, Refused}
 

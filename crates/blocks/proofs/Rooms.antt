@@ -7,8 +7,9 @@ use lib.ListN.{length, take}
 use Rattle.tables.specs.declared.Refusal.{Refusal}
 use Rattle.base.proofs.PartLaws.{part-is}
 use Rattle.tables.proofs.TableLaws.{both-none, room-passed}
-use Rattle.blocks.specs.Files.{blockAt, blockCount, boxesOf, containmentsOf, arrowsOf}
-use Rattle.blocks.specs.Reads.{countsIn, tablesFault, readFault, ReadDone}
+use Rattle.blocks.specs.Files.{blockCount, blockAt}
+use Rattle.blocks.specs.Reads.{rowCounts, tablesFault, readFault, ReadDone}
+use Rattle.blocks.specs.Steps.{boxesOf, containmentsOf, arrowsOf}
 use Rattle.blocks.specs.declared.Counts.{Counts}
 use Rattle.blocks.specs.declared.Reading.the-variants.{Tables, Refused}
 use Rattle.blocks.proofs.Counting.{rows-length, arrows-length}
@@ -41,7 +42,7 @@ pub record ReadAs (file boxes rows arrows boxesEnd rowsEnd arrowsEnd : List ℕ)
 pub read-tables : {file boxes rows arrows boxesEnd rowsEnd arrowsEnd : List ℕ} {counts : Counts}
     → ReadDone file boxes rows arrows boxesEnd rowsEnd arrowsEnd (Tables counts)
     → ReadAs file boxes rows arrows boxesEnd rowsEnd arrowsEnd counts
-unfolding countsIn
+unfolding rowCounts
 read-tables {file} {boxes} {rows} {arrows} {boxesEnd} {rowsEnd} {arrowsEnd} {counts} d =
     let clean = answer-tables _ _ _ (sym (d .answer)) in
     let good = clean .0 in

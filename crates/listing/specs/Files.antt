@@ -7,8 +7,8 @@ use Rattle.base.specs.Search.{orElse}
 use Rattle.tables.specs.Rows.{Picture, picture}
 use Rattle.tables.specs.declared.Refusal.{Refusal}
 use Rattle.containment.specs.Scratch.{pictureFault}
-use Rattle.blocks.specs.Files.{boxesOf, containmentsOf, arrowsOf}
 use Rattle.blocks.specs.Reads.{readFault}
+use Rattle.blocks.specs.Steps.{boxesOf, containmentsOf, arrowsOf}
 use Rattle.lines.specs.Lines.{lineText}
 use Rattle.listing.specs.Listing.{pictureListing}
 use Rattle.lines.specs.declared.Line.the-variants.{Stopped}

@@ -9,7 +9,8 @@ use lib.Seq.{take-at, drop-at, drop-append-add, getD-append-add}
 use Rattle.base.specs.Buffers.{zeros}
 use Rattle.tables.specs.Rows.{Picture, rowAt, arrowAt}
 use Rattle.blocks.specs.Fnv.{fnv1a}
-use Rattle.blocks.specs.Blocks.{number16, number32, headOf, capacity, recordSize, joined, boxesSaid, containmentsSaid, arrowsSaid, blockFault}
+use Rattle.blocks.specs.Blocks.{number16, headOf, capacity, recordSize, joined, blockFault}
+use Rattle.blocks.specs.Steps.{number32, boxesSaid, containmentsSaid, arrowsSaid}
 use Rattle.blocks.proofs.Placing.{joined-length}
 use Rattle.blocks.proofs.MadeBlocks.{record-sizes, number16-is, number32-is, headMade, head-made, RecordIs, block-passed}
 use Rattle.blocks.proofs.MadeBlocks.{box-row, containment-row, arrow-row, boxes-are, containments-are, arrows-are}

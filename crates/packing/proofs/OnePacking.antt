@@ -14,15 +14,16 @@ use lib.ListN.{length, getD}
 use Rattle.tables.specs.Rows.{Picture}
 use Rattle.tables.specs.Faults.{tableFault}
 use Rattle.blocks.specs.Blocks.{joined}
-use Rattle.blocks.specs.Files.{blockAt, blockCount, fileFault, boxesOf, containmentsOf, arrowsOf}
+use Rattle.blocks.specs.Files.{blockCount, blockAt, fileFault, pictureOf}
+use Rattle.blocks.specs.Steps.{boxesOf}
 use Rattle.blocks.proofs.Made.{joined-same, made-of-blocks, good-whole}
 use Rattle.blocks.proofs.MadeBlocks.{capacities}
 use Rattle.blocks.proofs.GoodBlocks.{file-some}
 use Rattle.packing.specs.Packed.{blocksFor, recordBytes, rowsOf, blocksOf, firstOf, kindBlock, kindBytes, packed}
-use Rattle.packing.specs.Regular.{kindAt, countAt, Regular, pictureOf, RegularPacking}
+use Rattle.packing.specs.Regular.{kindAt, countAt, Regular, RegularPacking}
 use Rattle.packing.proofs.Chunks.{joined-add}
 use Rattle.packing.proofs.Regular.{blocks-are, rows-by-kind, blocks-by-kind, first-by-kind}
-use Rattle.packing.proofs.ReadBack.{packed-good, packed-boxes, packed-containments, packed-arrows}
+use Rattle.packing.proofs.ReadBack.{packed-good, packed-picture}
 use Rattle.packing.proofs.PackedRegular.{packed-regular}
 use Rattle.packing.proofs.PackedBytes.{packed-bytes}
 use Rattle.packing.proofs.Runs.{Runs}
@@ -187,20 +188,18 @@ one-packing file small good regular = packed-same file small good regular (file-
 
 -- so no other says them
 pub only-packing : (pic : Picture) (file : List ℕ) → ((i : ℕ) → getD file i 0 < 256) → fileFault file ≡ none → Regular file
-    → boxesOf file ≡ pic .boxes → containmentsOf file ≡ pic .rows → arrowsOf file ≡ pic .arrows → file ≡ packed pic
-only-packing pic file small good regular b r a = sym (one-packing file small good regular) ∙ rw (b, r, a)
+    → pictureOf file ≡ pic → file ≡ packed pic
+only-packing pic file small good regular e = sym (one-packing file small good regular) ∙ ap packed e
 
 -- P1, both ways: the regular packing of a picture that checks 1 to 7 pass is its packed file, and nothing else
 pub regular-packing : (pic : Picture) → tableFault pic ≡ none
     → (file : List ℕ) → RegularPacking pic file ↔ (file ≡ packed pic)
 regular-packing pic sound file = (
-  λ p. only-packing pic file (p .bytes) (p .good) (p .regular) (p .says-boxes) (p .says-containments) (p .says-arrows),
+  λ p. only-packing pic file (p .bytes) (p .good) (p .regular) (p .says),
   λ e. rw e (record {
     bytes = packed-bytes pic sound;
     good = packed-good pic sound;
     regular = packed-regular pic;
-    says-boxes = packed-boxes pic sound;
-    says-containments = packed-containments pic sound;
-    says-arrows = packed-arrows pic sound;
+    says = packed-picture pic sound;
   }),
 )

@@ -7,8 +7,9 @@ use native.Mathlib.Omega.{arith}
 use native.Mathlib.Nat.{zero-add, add-assoc}
 use lib.ListN.{length, getD}
 use Rattle.tables.specs.Rows.{Picture, rowCount, rowAt, arrowCount, arrowAt}
-use Rattle.blocks.specs.Blocks.{capacity, joined, boxesSaid, containmentsSaid, arrowsSaid}
-use Rattle.blocks.specs.Files.{kindBefore, blocksFault, boxesIn, containmentsIn, arrowsIn}
+use Rattle.blocks.specs.Blocks.{capacity, joined}
+use Rattle.blocks.specs.Files.{kindBefore, blocksFault}
+use Rattle.blocks.specs.Steps.{boxesSaid, containmentsSaid, arrowsSaid, boxesIn, containmentsIn, arrowsIn}
 use Rattle.blocks.proofs.Made.{joined-same}
 use Rattle.blocks.proofs.MadeBlocks.{no-boxes, no-containments, no-arrows, none-before, run-more, boxes-in, containments-in, arrows-in}
 use Rattle.packing.specs.Packed.{rowsOf, blocksOf, firstOf, countIn, kindBlock, kindBytes, packed}

@@ -10,8 +10,9 @@ use Rattle.base.specs.Buffers.{written}
 use Rattle.tables.specs.Rows.{Picture, rowCount, arrowCount}
 use Rattle.tables.specs.Faults.{tableFault}
 use Rattle.tables.proofs.TableLaws.{room-enough, counts-few, sound-rows, sound-arrows}
-use Rattle.blocks.specs.Files.{fileFault, containmentsIn, arrowsIn, boxesOf, containmentsOf, arrowsOf}
-use Rattle.blocks.specs.Reads.{countsOf, readFault, ReadDone}
+use Rattle.blocks.specs.Files.{fileFault, pictureOf}
+use Rattle.blocks.specs.Reads.{readFault, ReadDone}
+use Rattle.blocks.specs.Steps.{containmentsIn, arrowsIn, boxesOf, containmentsOf, arrowsOf, countsOf}
 use Rattle.blocks.specs.declared.Counts.{Counts}
 use Rattle.blocks.specs.declared.Reading.{Reading}
 use Rattle.blocks.specs.declared.Reading.the-variants.{Tables}
@@ -49,6 +50,9 @@ module _ (pic : Picture) (sound : tableFault pic ≡ none) where
 
   pub packed-arrows : arrowsOf (packed pic) ≡ pic .arrows
   packed-arrows = rw packed-is (made-arrows _ _ (blocks-whole pic) ∙ arrows-said)
+
+  pub packed-picture : pictureOf (packed pic) ≡ pic
+  packed-picture = rw (packed-boxes, packed-containments, packed-arrows)
 
   pub packed-counts : countsOf (packed pic)
       ≡ record { boxes = length (pic .boxes); containments = rowCount (pic .rows); arrows = arrowCount (pic .arrows) }

@@ -8,13 +8,15 @@ use native.Mathlib.Omega.{arith}
 use native.Mathlib.Nat.{add-zero}
 use lib.ListN.{length, getD}
 use Rattle.tables.specs.Rows.{rowCount, arrowCount}
-use Rattle.blocks.specs.Blocks.{number16, capacity, recordSize, boxesSaid, containmentsSaid, arrowsSaid}
-use Rattle.blocks.specs.Files.{blockAt, fileFault, boxesOf, containmentsOf, arrowsOf}
+use Rattle.blocks.specs.Blocks.{number16, capacity, recordSize}
+use Rattle.blocks.specs.Files.{blockAt, fileFault, pictureOf}
+use Rattle.blocks.specs.Steps.{boxesSaid, containmentsSaid, arrowsSaid, boxesOf, containmentsOf, arrowsOf}
 use Rattle.blocks.proofs.MadeBlocks.{capacities, record-sizes, no-boxes, no-containments, no-arrows}
 use Rattle.blocks.proofs.MadeBlocks.{boxes-are, containments-are, arrows-are, boxes-in, containments-in, arrows-in}
-use Rattle.blocks.proofs.GoodBlocks.{box-row-is, containment-row-is, arrow-row-is, block-whole, block-bytes, file-block}
+use Rattle.blocks.proofs.RowLaws.{box-row-is, containment-row-is, arrow-row-is}
+use Rattle.blocks.proofs.GoodBlocks.{block-whole, block-bytes, file-block}
 use Rattle.packing.specs.Packed.{recordBytes}
-use Rattle.packing.specs.Regular.{countAt, Regular, pictureOf}
+use Rattle.packing.specs.Regular.{countAt, Regular}
 use Rattle.packing.proofs.BlockIs.{recordIn, box-record, containment-record, arrow-record}
 use Rattle.packing.proofs.KindRuns.{Run, Said, table-run, head-of, run-good, table-said}
 

@@ -5,8 +5,9 @@ use native.Mathlib.Omega.{arith}
 use lib.Seq.{sets}
 use lib.ListN.{length, length-set}
 use borrow.Author.Needs.{needs}
+use Rattle.blocks.specs.Blocks.{joined}
 use Rattle.blocks.specs.Files.{blockAt}
-use Rattle.blocks.specs.Blocks.{boxRow, joined}
+use Rattle.blocks.specs.Steps.{boxRow}
 use Rattle.blocks.proofs.JoinedLaws.{joined-none}
 use Rattle.blocks.proofs.RowLaws.{box-put}
 use Rattle.block_files.proofs.into_tables.put_boxes.Statement.{statement}

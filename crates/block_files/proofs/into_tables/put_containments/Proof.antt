@@ -6,8 +6,9 @@ use native.Mathlib.Omega.{arith}
 use lib.Seq.{sets}
 use lib.ListN.{length, length-set}
 use borrow.Author.Needs.{needs}
+use Rattle.blocks.specs.Blocks.{joined}
 use Rattle.blocks.specs.Files.{blockAt}
-use Rattle.blocks.specs.Blocks.{containmentRow, joined}
+use Rattle.blocks.specs.Steps.{containmentRow}
 use Rattle.blocks.proofs.JoinedLaws.{joined-none}
 use Rattle.blocks.proofs.RowLaws.{containment-put}
 use Rattle.block_files.proofs.into_tables.put_containments.Statement.{statement}

@@ -6,8 +6,8 @@ use lib.ListN.{length}
 use borrow.Author.Needs.{needs}
 use Rattle.base.specs.Buffers.{written}
 use Rattle.base.proofs.BufferLaws.{written-none}
-use Rattle.blocks.specs.Reads.{countsIn}
-use Rattle.blocks.specs.Files.{blockAt, blockCount, boxesIn, containmentsIn, arrowsIn}
+use Rattle.blocks.specs.Files.{blockAt, blockCount}
+use Rattle.blocks.specs.Steps.{countsIn, boxesIn, containmentsIn, arrowsIn}
 use Rattle.blocks.proofs.Counting.{counts-none, tables-none, counts-more, boxes-more, rows-more, arrows-more}
 use Rattle.block_files.proofs.Fits.{block-fits}
 use Rattle.block_files.proofs.into_tables.write_blocks.Statement.{statement}
