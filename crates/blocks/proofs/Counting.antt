@@ -19,8 +19,7 @@ use Rattle.tables.proofs.TableLaws.{both-none}
 use Rattle.blocks.specs.Blocks.{headOf, byKind, capacity, recordSize, rowOf, countOf, joined, said, wrongHead, blockFault}
 use Rattle.blocks.specs.Files.{kindBefore, blocksFault}
 use Rattle.blocks.specs.Reads.{rowCounts}
-use Rattle.blocks.specs.Steps.{boxRow, containmentRow, arrowRow, boxesSaid, containmentsSaid, arrowsSaid, boxesIn, containmentsIn}
-use Rattle.blocks.specs.Steps.{arrowsIn, countsIn, noCounts, countsWith}
+use Rattle.blocks.specs.Steps.{tableIn, countsIn, noCounts, countsWith}
 use Rattle.blocks.specs.declared.Head.{Head}
 use Rattle.blocks.specs.declared.Counts.{Counts}
 use Rattle.blocks.proofs.Placing.{joined-length, joined-most}
@@ -35,17 +34,17 @@ table-more f old k n i h l e =
     rw (e, add-one) (written-run (joined f k) (f k) old (omega arith))
 
 -- how long what a block says of each table is
-boxes-said : (b : List ℕ) → length (boxesSaid b) ≡ countOf 1 (headOf b)
+boxes-said : (b : List ℕ) → length (said 1 b) ≡ countOf 1 (headOf b)
 unfolding said rowOf recordSize byKind
-boxes-said b = let e = joined-length (boxRow b) 1 (countOf 1 (headOf b)) (λ k h. refl) in omega arith
+boxes-said b = let e = joined-length (rowOf 1 b) 1 (countOf 1 (headOf b)) (λ k h. refl) in omega arith
 
-rows-said : (b : List ℕ) → length (containmentsSaid b) ≡ 2 * countOf 2 (headOf b)
+rows-said : (b : List ℕ) → length (said 2 b) ≡ 2 * countOf 2 (headOf b)
 unfolding said rowOf recordSize byKind
-rows-said b = joined-length (containmentRow b) 2 (countOf 2 (headOf b)) (λ k h. refl)
+rows-said b = joined-length (rowOf 2 b) 2 (countOf 2 (headOf b)) (λ k h. refl)
 
-arrows-said : (b : List ℕ) → length (arrowsSaid b) ≡ 4 * countOf 3 (headOf b)
+arrows-said : (b : List ℕ) → length (said 3 b) ≡ 4 * countOf 3 (headOf b)
 unfolding said rowOf recordSize byKind
-arrows-said b = joined-length (arrowRow b) 4 (countOf 3 (headOf b)) (λ k h. refl)
+arrows-said b = joined-length (rowOf 3 b) 4 (countOf 3 (headOf b)) (λ k h. refl)
 
 half-more : (l c : ℕ) → (l + 2 * c) / 2 ≡ l / 2 + c
 half-more l c = omega arith
@@ -70,7 +69,7 @@ module _ (blocks : ℕ → List ℕ) where
   unfolding rowCounts joined
   counts-none = refl
 
-  pub tables-none : (boxesIn blocks 0 ≡ []) × (containmentsIn blocks 0 ≡ []) × (arrowsIn blocks 0 ≡ [])
+  pub tables-none : (tableIn 1 blocks 0 ≡ []) × (tableIn 2 blocks 0 ≡ []) × (tableIn 3 blocks 0 ≡ [])
   unfolding joined
   tables-none = (refl, refl, refl)
 
@@ -80,14 +79,14 @@ module _ (blocks : ℕ → List ℕ) where
   counts-more n = simp (add-one, length-append, boxes-said, rows-said, arrows-said, half-more, quarter-more)
 
   -- the lengths of the tables by their row counts
-  pub rows-length : (n : ℕ) → length (containmentsIn blocks n) ≡ 2 * countsIn blocks n .containments
+  pub rows-length : (n : ℕ) → length (tableIn 2 blocks n) ≡ 2 * countsIn blocks n .containments
   unfolding rowCounts joined
   rows-length zero = refl
   rows-length (suc n) =
       let e = rows-length n in
       simp (length-append, rows-said) (omega arith)
 
-  pub arrows-length : (n : ℕ) → length (arrowsIn blocks n) ≡ 4 * countsIn blocks n .arrows
+  pub arrows-length : (n : ℕ) → length (tableIn 3 blocks n) ≡ 4 * countsIn blocks n .arrows
   unfolding rowCounts joined
   arrows-length zero = refl
   arrows-length (suc n) =
@@ -97,20 +96,20 @@ module _ (blocks : ℕ → List ℕ) where
   -- each table written so far, with what one block more says
   module _ (old : List ℕ) (k n : ℕ) (h : k < n) where
     pub boxes-more : countsIn blocks n .boxes ≤ length old
-        → sets (written (boxesIn blocks k) old) (countsIn blocks k .boxes) (boxesSaid (blocks k)) ≡ written (boxesIn blocks (k + 1)) old
+        → sets (written (tableIn 1 blocks k) old) (countsIn blocks k .boxes) (said 1 (blocks k)) ≡ written (tableIn 1 blocks (k + 1)) old
     unfolding rowCounts
-    boxes-more l = table-more (λ i. boxesSaid (blocks i)) old k n _ h l refl
+    boxes-more l = table-more (λ i. said 1 (blocks i)) old k n _ h l refl
 
     pub rows-more : 2 * countsIn blocks n .containments ≤ length old
-        → sets (written (containmentsIn blocks k) old) (2 * countsIn blocks k .containments) (containmentsSaid (blocks k))
-        ≡ written (containmentsIn blocks (k + 1)) old
+        → sets (written (tableIn 2 blocks k) old) (2 * countsIn blocks k .containments) (said 2 (blocks k))
+        ≡ written (tableIn 2 blocks (k + 1)) old
     rows-more l =
-        table-more (λ i. containmentsSaid (blocks i)) old k n _ h (rw (rows-length n) l) (sym (rows-length k))
+        table-more (λ i. said 2 (blocks i)) old k n _ h (rw (rows-length n) l) (sym (rows-length k))
 
     pub arrows-more : 4 * countsIn blocks n .arrows ≤ length old
-        → sets (written (arrowsIn blocks k) old) (4 * countsIn blocks k .arrows) (arrowsSaid (blocks k)) ≡ written (arrowsIn blocks (k + 1)) old
+        → sets (written (tableIn 3 blocks k) old) (4 * countsIn blocks k .arrows) (said 3 (blocks k)) ≡ written (tableIn 3 blocks (k + 1)) old
     arrows-more l =
-        table-more (λ i. arrowsSaid (blocks i)) old k n _ h (rw (arrows-length n) l) (sym (arrows-length k))
+        table-more (λ i. said 3 (blocks i)) old k n _ h (rw (arrows-length n) l) (sym (arrows-length k))
 
 -- a good block's count
 pub head-fits : (before place : ℕ) (head : Head) → wrongHead before place head ≡ false → head .count ≤ capacity (head .kind)
@@ -198,7 +197,7 @@ pub record NoMore (few many : Counts) : Type 0 where
 pub counts-most : (blocks : ℕ → List ℕ) (k n : ℕ) → k ≤ n → NoMore (countsIn blocks k) (countsIn blocks n)
 unfolding rowCounts
 counts-most blocks k n h =
-    let b = joined-most (λ i. boxesSaid (blocks i)) k n h in
-    let r = joined-most (λ i. containmentsSaid (blocks i)) k n h in
-    let a = joined-most (λ i. arrowsSaid (blocks i)) k n h in
+    let b = joined-most (λ i. said 1 (blocks i)) k n h in
+    let r = joined-most (λ i. said 2 (blocks i)) k n h in
+    let a = joined-most (λ i. said 3 (blocks i)) k n h in
     record { boxes-most = b; rows-most = omega arith; arrows-most = omega arith }

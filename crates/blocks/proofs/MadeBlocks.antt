@@ -16,12 +16,11 @@ use Rattle.base.proofs.BufferLaws.{zeros-is}
 use Rattle.base.proofs.SearchLaws.{given-false, first-zero}
 use Rattle.base.proofs.Options.{past}
 use Rattle.blocks.specs.Fnv.{fnvFold, fnv1a}
-use Rattle.blocks.specs.Blocks.{number16, headOf, byKind, capacity, recordSize, countOf, joined, said, wrongCheck, wrongHead, allZero}
-use Rattle.blocks.specs.Blocks.{wrongFiller, blockFault}
+use Rattle.blocks.specs.Blocks.{number16, headOf, byKind, capacity, recordSize, rowOf, countOf, joined, said, wrongCheck, wrongHead}
+use Rattle.blocks.specs.Blocks.{allZero, wrongFiller, blockFault}
 use Rattle.blocks.specs.Files.{kindBefore, blocksFault}
 use Rattle.blocks.specs.Reads.{rowCounts, tablesFault}
-use Rattle.blocks.specs.Steps.{number32, boxRow, containmentRow, arrowRow, boxesSaid, containmentsSaid, arrowsSaid, boxesIn}
-use Rattle.blocks.specs.Steps.{containmentsIn, arrowsIn, countsIn}
+use Rattle.blocks.specs.Steps.{number32, tableIn, countsIn}
 use Rattle.blocks.specs.declared.Head.{Head}
 use Rattle.blocks.specs.declared.Counts.{Counts}
 use Rattle.blocks.proofs.Counting.{blocks-more}
@@ -91,12 +90,12 @@ abbrev pub RecordIs : (block : List ℕ) (w j : ℕ) (bytes : List ℕ) → Type
 RecordIs block w j bytes = (i : ℕ) → i < w → getD block (8 + (w * j + i)) 0 ≡ getD bytes i 0
 
 module _ (block : List ℕ) (j : ℕ) (bytes : List ℕ) where
-  pub box-row : RecordIs block 1 j bytes → boxRow block j ≡ getD bytes 0 0 ∷ []
+  pub box-row : RecordIs block 1 j bytes → rowOf 1 block j ≡ getD bytes 0 0 ∷ []
   box-row e =
       let a : 8 + j ≡ 8 + (1 * j + 0) = omega arith in
       rw (box-row-is block j, a, e 0 (omega arith))
 
-  pub containment-row : RecordIs block 4 j bytes → containmentRow block j ≡ number16 bytes 0 ∷ number16 bytes 2 ∷ []
+  pub containment-row : RecordIs block 4 j bytes → rowOf 2 block j ≡ number16 bytes 0 ∷ number16 bytes 2 ∷ []
   unfolding number16
   containment-row e =
       let a : 8 + 4 * j ≡ 8 + (4 * j + 0) = omega arith in
@@ -105,7 +104,7 @@ module _ (block : List ℕ) (j : ℕ) (bytes : List ℕ) where
       let d : 8 + (4 * j + 2) + 1 ≡ 8 + (4 * j + 3) = omega arith in
       rw (containment-row-is block j, a, b, c, d, e 0 (omega arith), e 1 (omega arith), e 2 (omega arith), e 3 (omega arith))
 
-  pub arrow-row : RecordIs block 6 j bytes → arrowRow block j ≡ number16 bytes 0 ∷ number16 bytes 2 ∷ getD bytes 4 0 ∷ getD bytes 5 0 ∷ []
+  pub arrow-row : RecordIs block 6 j bytes → rowOf 3 block j ≡ number16 bytes 0 ∷ number16 bytes 2 ∷ getD bytes 4 0 ∷ getD bytes 5 0 ∷ []
   unfolding number16
   arrow-row e =
       let a : 8 + 6 * j ≡ 8 + (6 * j + 0) = omega arith in
@@ -127,39 +126,15 @@ module _ (block : List ℕ) (kind number count : ℕ) (head : headOf block ≡ h
   unfolding countOf
   count-own = rw (head, eq-eqb kind kind refl)
 
-  said-other : (other : ℕ) (row : ℕ → List ℕ) → (kind ≡ other → ⊥) → joined row (countOf other (headOf block)) ≡ []
-  said-other other row n = ap (joined row) (count-other other n) ∙ joined-none row
-
-  said-own : (row f : ℕ → List ℕ) → ((j : ℕ) → j < count → row j ≡ f j) → joined row (countOf kind (headOf block)) ≡ joined f count
-  said-own row f e = ap (joined row) count-own ∙ joined-same row f count e
-
   -- nothing, where it is of another kind
-  pub no-boxes : (kind ≡ 1 → ⊥) → boxesSaid block ≡ []
+  pub no-rows : (other : ℕ) → (kind ≡ other → ⊥) → said other block ≡ []
   unfolding said
-  no-boxes = said-other 1 (boxRow block)
+  no-rows other n = ap (joined (rowOf other block)) (count-other other n) ∙ joined-none (rowOf other block)
 
-  pub no-containments : (kind ≡ 2 → ⊥) → containmentsSaid block ≡ []
-  unfolding said
-  no-containments = said-other 2 (containmentRow block)
-
-  pub no-arrows : (kind ≡ 3 → ⊥) → arrowsSaid block ≡ []
-  unfolding said
-  no-arrows = said-other 3 (arrowRow block)
-
-module _ (block : List ℕ) (number count : ℕ) (f : ℕ → List ℕ) where
   -- else its rows
-  pub boxes-are : headOf block ≡ headMade 1 number count → ((j : ℕ) → j < count → boxRow block j ≡ f j) → boxesSaid block ≡ joined f count
+  pub rows-are : (f : ℕ → List ℕ) → ((j : ℕ) → j < count → rowOf kind block j ≡ f j) → said kind block ≡ joined f count
   unfolding said
-  boxes-are head e = said-own block 1 number count head (boxRow block) f e
-
-  pub containments-are : headOf block ≡ headMade 2 number count → ((j : ℕ) → j < count → containmentRow block j ≡ f j)
-      → containmentsSaid block ≡ joined f count
-  unfolding said
-  containments-are head e = said-own block 2 number count head (containmentRow block) f e
-
-  pub arrows-are : headOf block ≡ headMade 3 number count → ((j : ℕ) → j < count → arrowRow block j ≡ f j) → arrowsSaid block ≡ joined f count
-  unfolding said
-  arrows-are head e = said-own block 3 number count head (arrowRow block) f e
+  rows-are f e = ap (joined (rowOf kind block)) count-own ∙ joined-same (rowOf kind block) f count e
 
 -- ---- no fault
 
@@ -215,18 +190,9 @@ run-more blocks kind m (suc n) good low same passed =
       rw (s, kind-after, same n (omega arith)) (omega arith),
     )
 
--- what they say
-pub boxes-in : (blocks : ℕ → List ℕ) (n : ℕ) → boxesIn blocks n ≡ joined (λ k. boxesSaid (blocks k)) n
-boxes-in blocks n = refl
-
-pub containments-in : (blocks : ℕ → List ℕ) (n : ℕ) → containmentsIn blocks n ≡ joined (λ k. containmentsSaid (blocks k)) n
-containments-in blocks n = refl
-
-pub arrows-in : (blocks : ℕ → List ℕ) (n : ℕ) → arrowsIn blocks n ≡ joined (λ k. arrowsSaid (blocks k)) n
-arrows-in blocks n = refl
-
+-- the row counts of what they say
 pub counts-in : (blocks : ℕ → List ℕ) (n : ℕ) (boxes rows arrows : List ℕ)
-    → boxesIn blocks n ≡ boxes → containmentsIn blocks n ≡ rows → arrowsIn blocks n ≡ arrows
+    → tableIn 1 blocks n ≡ boxes → tableIn 2 blocks n ≡ rows → tableIn 3 blocks n ≡ arrows
     → countsIn blocks n ≡ record { boxes = length boxes; containments = rowCount rows; arrows = arrowCount arrows }
 unfolding rowCounts
 counts-in blocks n boxes rows arrows b r a = rw (b, r, a)

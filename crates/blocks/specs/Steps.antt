@@ -4,7 +4,7 @@ use Prim.Native.Nat.{ℕ, _+_, _*_}
 use lib.ListN.{getD}
 use Rattle.tables.specs.Rows.{picture}
 use Rattle.blocks.specs.Blocks.{number16, recordSize, rowOf, countOf, joined, said}
-use Rattle.blocks.specs.Files.{tableOf, pictureOf}
+use Rattle.blocks.specs.Files.{pictureOf}
 use Rattle.blocks.specs.Reads.{rowCounts}
 use Rattle.blocks.specs.declared.Head.{Head}
 use Rattle.blocks.specs.declared.BoxRecord.{BoxRecord}
@@ -20,62 +20,28 @@ number32 block at = number16 block at + 65536 * number16 block (at + 2)
 unfoldable pub recordsEnd : (head : Head) → ℕ
 recordsEnd head = 8 + recordSize (head .kind) * head .count
 
--- the numbers of record j of each kind
-abbrev pub boxRow : (block : List ℕ) → ℕ → List ℕ
-boxRow block = rowOf 1 block
-
-abbrev pub containmentRow : (block : List ℕ) → ℕ → List ℕ
-containmentRow block = rowOf 2 block
-
-abbrev pub arrowRow : (block : List ℕ) → ℕ → List ℕ
-arrowRow block = rowOf 3 block
-
--- record j of each kind, by those numbers
+-- record j of each kind, by the numbers of its row
 unfoldable pub boxRecord : (block : List ℕ) (j : ℕ) → BoxRecord
-boxRecord block j = record { side = getD (boxRow block j) 0 0 }
+boxRecord block j = record { side = getD (rowOf 1 block j) 0 0 }
 
 unfoldable pub containmentRecord : (block : List ℕ) (j : ℕ) → ContainmentRecord
-containmentRecord block j = record { outer = getD (containmentRow block j) 0 0; inner = getD (containmentRow block j) 1 0 }
+containmentRecord block j = record { outer = getD (rowOf 2 block j) 0 0; inner = getD (rowOf 2 block j) 1 0 }
 
 unfoldable pub arrowRecord : (block : List ℕ) (j : ℕ) → ArrowRecord
 arrowRecord block j = record {
-  tail = getD (arrowRow block j) 0 0;
-  head = getD (arrowRow block j) 1 0;
-  mode = getD (arrowRow block j) 2 0;
-  sign = getD (arrowRow block j) 3 0;
+  tail = getD (rowOf 3 block j) 0 0;
+  head = getD (rowOf 3 block j) 1 0;
+  mode = getD (rowOf 3 block j) 2 0;
+  sign = getD (rowOf 3 block j) 3 0;
 }
 
--- what a block, n blocks and a file say of each table
-abbrev pub boxesSaid : (block : List ℕ) → List ℕ
-boxesSaid block = said 1 block
+-- what n blocks say of the table of a kind: `tableOf` is that of a file's blocks
+abbrev pub tableIn : (kind : ℕ) (blocks : ℕ → List ℕ) (n : ℕ) → List ℕ
+tableIn kind blocks n = joined (λ k. said kind (blocks k)) n
 
-abbrev pub containmentsSaid : (block : List ℕ) → List ℕ
-containmentsSaid block = said 2 block
-
-abbrev pub arrowsSaid : (block : List ℕ) → List ℕ
-arrowsSaid block = said 3 block
-
-abbrev pub boxesIn : (blocks : ℕ → List ℕ) (n : ℕ) → List ℕ
-boxesIn blocks n = joined (λ k. boxesSaid (blocks k)) n
-
-abbrev pub containmentsIn : (blocks : ℕ → List ℕ) (n : ℕ) → List ℕ
-containmentsIn blocks n = joined (λ k. containmentsSaid (blocks k)) n
-
-abbrev pub arrowsIn : (blocks : ℕ → List ℕ) (n : ℕ) → List ℕ
-arrowsIn blocks n = joined (λ k. arrowsSaid (blocks k)) n
-
-abbrev pub boxesOf : (file : List ℕ) → List ℕ
-boxesOf file = tableOf 1 file
-
-abbrev pub containmentsOf : (file : List ℕ) → List ℕ
-containmentsOf file = tableOf 2 file
-
-abbrev pub arrowsOf : (file : List ℕ) → List ℕ
-arrowsOf file = tableOf 3 file
-
--- the row counts of what n blocks and a file say
+-- the row counts of what n blocks and of what a file say
 abbrev pub countsIn : (blocks : ℕ → List ℕ) (n : ℕ) → Counts
-countsIn blocks n = rowCounts (picture (boxesIn blocks n) (containmentsIn blocks n) (arrowsIn blocks n))
+countsIn blocks n = rowCounts (picture (tableIn 1 blocks n) (tableIn 2 blocks n) (tableIn 3 blocks n))
 
 abbrev pub countsOf : (file : List ℕ) → Counts
 countsOf file = rowCounts (pictureOf file)
