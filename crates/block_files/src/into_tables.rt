@@ -5,10 +5,10 @@ ghost use lib.ListN.{length};
 ghost use lib.Seq.{sets};
 ghost use Rattle.base.specs.Buffers.{written};
 ghost use Rattle.tables.specs.Refusals.{verdictOf};
-ghost use Rattle.blocks.specs.Blocks.{headOf, boxRow, containmentRow, arrowRow, joined, boxesSaid, containmentsSaid, arrowsSaid};
-ghost use Rattle.blocks.specs.Files.{blockAt, blockCount, blocksFault, lengthFault, boxesOf, containmentsOf, arrowsOf};
-ghost use Rattle.blocks.specs.Reads.{countsOf, tablesFault, answerOf, ReadDone};
-ghost use Rattle.blocks.specs.Steps.{countsWith};
+ghost use Rattle.blocks.specs.Blocks.{headOf, rowOf, joined, said};
+ghost use Rattle.blocks.specs.Files.{blockCount, blockAt, blocksFault, lengthFault, tableOf};
+ghost use Rattle.blocks.specs.Reads.{tablesFault, answerOf, ReadDone};
+ghost use Rattle.blocks.specs.Steps.{countsOf, countsWith};
 ghost use Rattle.block_files.specs.Steps.{BlockFits, Fitting};
 use super::reader::head_of;
 use blocks::ArrowRecord;
@@ -67,7 +67,7 @@ fn check_tables(counts: Counts, boxes: usize, rows: usize, arrows: usize) -> Ver
 // Writes a block's boxes from row `at` on.
 fn put_boxes(file: &[u8], block: usize, count: usize, at: usize, boxes: &mut [u8])
     requires { ⌜ (block < blockCount (now file)) × (count ≤ 500) × (at + count ≤ length (now boxes)) ⌝ }
-    ensures { λ _. ⌜ now (boxes .exit) ≡ sets (now (boxes .entry)) at (joined (boxRow (blockAt (now (file .entry)) block)) count) ⌝ }
+    ensures { λ _. ⌜ now (boxes .exit) ≡ sets (now (boxes .entry)) at (joined (rowOf 1 (blockAt (now (file .entry)) block)) count) ⌝ }
 {
     for j in 0..count {
         let record = BoxRecord::at(file, block, j);
@@ -79,7 +79,7 @@ fn put_boxes(file: &[u8], block: usize, count: usize, at: usize, boxes: &mut [u8
 fn put_containments(file: &[u8], block: usize, count: usize, at: usize, rows: &mut [u16])
     requires { ⌜ (block < blockCount (now file)) × (count ≤ 125) × (2 * (at + count) ≤ length (now rows)) ⌝ }
     ensures { λ _. ⌜ now (rows .exit) ≡ sets (now (rows .entry)) (2 * at)
-        (joined (containmentRow (blockAt (now (file .entry)) block)) count) ⌝ }
+        (joined (rowOf 2 (blockAt (now (file .entry)) block)) count) ⌝ }
 {
     for j in 0..count {
         let record = ContainmentRecord::at(file, block, j);
@@ -93,7 +93,7 @@ fn put_containments(file: &[u8], block: usize, count: usize, at: usize, rows: &m
 fn put_arrows(file: &[u8], block: usize, count: usize, at: usize, arrows: &mut [u16])
     requires { ⌜ (block < blockCount (now file)) × (count ≤ 83) × (4 * (at + count) ≤ length (now arrows)) ⌝ }
     ensures { λ _. ⌜ now (arrows .exit) ≡ sets (now (arrows .entry)) (4 * at)
-        (joined (arrowRow (blockAt (now (file .entry)) block)) count) ⌝ }
+        (joined (rowOf 3 (blockAt (now (file .entry)) block)) count) ⌝ }
 {
     for j in 0..count {
         let record = ArrowRecord::at(file, block, j);
@@ -117,10 +117,10 @@ fn put_block(
     requires { ⌜ block < blockCount (now file) ⌝ }
     requires { ⌜ BlockFits at (headOf (blockAt (now file) block)) (length (now boxes)) (length (now rows)) (length (now arrows)) ⌝ }
     ensures { λ r. ⌜ r ≡ countsWith at (headOf (blockAt (now (file .entry)) block)) ⌝ }
-    ensures { λ r. ⌜ now (boxes .exit) ≡ sets (now (boxes .entry)) (at .boxes) (boxesSaid (blockAt (now (file .entry)) block)) ⌝ }
+    ensures { λ r. ⌜ now (boxes .exit) ≡ sets (now (boxes .entry)) (at .boxes) (said 1 (blockAt (now (file .entry)) block)) ⌝ }
     ensures { λ r. ⌜ now (rows .exit) ≡ sets (now (rows .entry)) (2 * at .containments)
-        (containmentsSaid (blockAt (now (file .entry)) block)) ⌝ }
-    ensures { λ r. ⌜ now (arrows .exit) ≡ sets (now (arrows .entry)) (4 * at .arrows) (arrowsSaid (blockAt (now (file .entry)) block)) ⌝ }
+        (said 2 (blockAt (now (file .entry)) block)) ⌝ }
+    ensures { λ r. ⌜ now (arrows .exit) ≡ sets (now (arrows .entry)) (4 * at .arrows) (said 3 (blockAt (now (file .entry)) block)) ⌝ }
 {
     let head = head_of(file, block);
     put_boxes(file, block, head.count_of(BoxRecord::KIND), at.boxes, boxes);
@@ -144,9 +144,9 @@ fn put_block(
 // Writes the tables of a file whose blocks are good, from row 0 on.
 fn write_blocks(file: &[u8], boxes: &mut [u8], rows: &mut [u16], arrows: &mut [u16])
     requires { ⌜ Fitting (now file) (length (now boxes)) (length (now rows)) (length (now arrows)) ⌝ }
-    ensures { λ _. ⌜ now (boxes .exit) ≡ written (boxesOf (now (file .entry))) (now (boxes .entry)) ⌝ }
-    ensures { λ _. ⌜ now (rows .exit) ≡ written (containmentsOf (now (file .entry))) (now (rows .entry)) ⌝ }
-    ensures { λ _. ⌜ now (arrows .exit) ≡ written (arrowsOf (now (file .entry))) (now (arrows .entry)) ⌝ }
+    ensures { λ _. ⌜ now (boxes .exit) ≡ written (tableOf 1 (now (file .entry))) (now (boxes .entry)) ⌝ }
+    ensures { λ _. ⌜ now (rows .exit) ≡ written (tableOf 2 (now (file .entry))) (now (rows .entry)) ⌝ }
+    ensures { λ _. ⌜ now (arrows .exit) ≡ written (tableOf 3 (now (file .entry))) (now (arrows .entry)) ⌝ }
 {
     let mut at = Counts::zero();
     for block in 0..file.len() / BLOCK_SIZE {

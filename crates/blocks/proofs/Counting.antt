@@ -16,10 +16,10 @@ use Rattle.base.proofs.Tests.{not-false}
 use Rattle.base.proofs.SearchLaws.{first-none, first-nothing, first-more, first-here, given-none}
 use Rattle.base.proofs.BufferLaws.{written-run}
 use Rattle.tables.proofs.TableLaws.{both-none}
-use Rattle.blocks.specs.Blocks.{headOf, capacity, byKind, boxRow, containmentRow, arrowRow, countOf, joined, boxesSaid, containmentsSaid, arrowsSaid, wrongHead, blockFault}
-use Rattle.blocks.specs.Files.{kindBefore, blocksFault, boxesIn, containmentsIn, arrowsIn}
-use Rattle.blocks.specs.Reads.{countsIn}
-use Rattle.blocks.specs.Steps.{noCounts, countsWith}
+use Rattle.blocks.specs.Blocks.{headOf, byKind, capacity, recordSize, rowOf, countOf, joined, said, wrongHead, blockFault}
+use Rattle.blocks.specs.Files.{kindBefore, blocksFault}
+use Rattle.blocks.specs.Reads.{rowCounts}
+use Rattle.blocks.specs.Steps.{tableIn, countsIn, noCounts, countsWith}
 use Rattle.blocks.specs.declared.Head.{Head}
 use Rattle.blocks.specs.declared.Counts.{Counts}
 use Rattle.blocks.proofs.Placing.{joined-length, joined-most}
@@ -34,17 +34,17 @@ table-more f old k n i h l e =
     rw (e, add-one) (written-run (joined f k) (f k) old (omega arith))
 
 -- how long what a block says of each table is
-boxes-said : (b : List ℕ) → length (boxesSaid b) ≡ countOf 1 (headOf b)
-unfolding boxesSaid boxRow
-boxes-said b = let e = joined-length (boxRow b) 1 (countOf 1 (headOf b)) (λ k h. refl) in omega arith
+boxes-said : (b : List ℕ) → length (said 1 b) ≡ countOf 1 (headOf b)
+unfolding said rowOf recordSize byKind
+boxes-said b = let e = joined-length (rowOf 1 b) 1 (countOf 1 (headOf b)) (λ k h. refl) in omega arith
 
-rows-said : (b : List ℕ) → length (containmentsSaid b) ≡ 2 * countOf 2 (headOf b)
-unfolding containmentsSaid containmentRow
-rows-said b = joined-length (containmentRow b) 2 (countOf 2 (headOf b)) (λ k h. refl)
+rows-said : (b : List ℕ) → length (said 2 b) ≡ 2 * countOf 2 (headOf b)
+unfolding said rowOf recordSize byKind
+rows-said b = joined-length (rowOf 2 b) 2 (countOf 2 (headOf b)) (λ k h. refl)
 
-arrows-said : (b : List ℕ) → length (arrowsSaid b) ≡ 4 * countOf 3 (headOf b)
-unfolding arrowsSaid arrowRow
-arrows-said b = joined-length (arrowRow b) 4 (countOf 3 (headOf b)) (λ k h. refl)
+arrows-said : (b : List ℕ) → length (said 3 b) ≡ 4 * countOf 3 (headOf b)
+unfolding said rowOf recordSize byKind
+arrows-said b = joined-length (rowOf 3 b) 4 (countOf 3 (headOf b)) (λ k h. refl)
 
 half-more : (l c : ℕ) → (l + 2 * c) / 2 ≡ l / 2 + c
 half-more l c = omega arith
@@ -66,28 +66,28 @@ counts-with counts head = refl
 module _ (blocks : ℕ → List ℕ) where
   -- no blocks say nothing
   pub counts-none : countsIn blocks 0 ≡ noCounts
-  unfolding countsIn boxesIn containmentsIn arrowsIn joined
+  unfolding rowCounts joined
   counts-none = refl
 
-  pub tables-none : (boxesIn blocks 0 ≡ []) × (containmentsIn blocks 0 ≡ []) × (arrowsIn blocks 0 ≡ [])
-  unfolding boxesIn containmentsIn arrowsIn joined
+  pub tables-none : (tableIn 1 blocks 0 ≡ []) × (tableIn 2 blocks 0 ≡ []) × (tableIn 3 blocks 0 ≡ [])
+  unfolding joined
   tables-none = (refl, refl, refl)
 
   -- the row counts with one block more
   pub counts-more : (n : ℕ) → countsIn blocks (n + 1) ≡ countsWith (countsIn blocks n) (headOf (blocks n))
-  unfolding countsIn countsWith boxesIn containmentsIn arrowsIn joined
+  unfolding rowCounts countsWith joined
   counts-more n = simp (add-one, length-append, boxes-said, rows-said, arrows-said, half-more, quarter-more)
 
   -- the lengths of the tables by their row counts
-  pub rows-length : (n : ℕ) → length (containmentsIn blocks n) ≡ 2 * countsIn blocks n .containments
-  unfolding countsIn containmentsIn joined
+  pub rows-length : (n : ℕ) → length (tableIn 2 blocks n) ≡ 2 * countsIn blocks n .containments
+  unfolding rowCounts joined
   rows-length zero = refl
   rows-length (suc n) =
       let e = rows-length n in
       simp (length-append, rows-said) (omega arith)
 
-  pub arrows-length : (n : ℕ) → length (arrowsIn blocks n) ≡ 4 * countsIn blocks n .arrows
-  unfolding countsIn arrowsIn joined
+  pub arrows-length : (n : ℕ) → length (tableIn 3 blocks n) ≡ 4 * countsIn blocks n .arrows
+  unfolding rowCounts joined
   arrows-length zero = refl
   arrows-length (suc n) =
       let e = arrows-length n in
@@ -96,22 +96,20 @@ module _ (blocks : ℕ → List ℕ) where
   -- each table written so far, with what one block more says
   module _ (old : List ℕ) (k n : ℕ) (h : k < n) where
     pub boxes-more : countsIn blocks n .boxes ≤ length old
-        → sets (written (boxesIn blocks k) old) (countsIn blocks k .boxes) (boxesSaid (blocks k)) ≡ written (boxesIn blocks (k + 1)) old
-    unfolding countsIn boxesIn
-    boxes-more l = table-more (λ i. boxesSaid (blocks i)) old k n _ h l refl
+        → sets (written (tableIn 1 blocks k) old) (countsIn blocks k .boxes) (said 1 (blocks k)) ≡ written (tableIn 1 blocks (k + 1)) old
+    unfolding rowCounts
+    boxes-more l = table-more (λ i. said 1 (blocks i)) old k n _ h l refl
 
     pub rows-more : 2 * countsIn blocks n .containments ≤ length old
-        → sets (written (containmentsIn blocks k) old) (2 * countsIn blocks k .containments) (containmentsSaid (blocks k))
-        ≡ written (containmentsIn blocks (k + 1)) old
-    unfolding containmentsIn
+        → sets (written (tableIn 2 blocks k) old) (2 * countsIn blocks k .containments) (said 2 (blocks k))
+        ≡ written (tableIn 2 blocks (k + 1)) old
     rows-more l =
-        table-more (λ i. containmentsSaid (blocks i)) old k n _ h (rw (rows-length n) l) (sym (rows-length k))
+        table-more (λ i. said 2 (blocks i)) old k n _ h (rw (rows-length n) l) (sym (rows-length k))
 
     pub arrows-more : 4 * countsIn blocks n .arrows ≤ length old
-        → sets (written (arrowsIn blocks k) old) (4 * countsIn blocks k .arrows) (arrowsSaid (blocks k)) ≡ written (arrowsIn blocks (k + 1)) old
-    unfolding arrowsIn
+        → sets (written (tableIn 3 blocks k) old) (4 * countsIn blocks k .arrows) (said 3 (blocks k)) ≡ written (tableIn 3 blocks (k + 1)) old
     arrows-more l =
-        table-more (λ i. arrowsSaid (blocks i)) old k n _ h (rw (arrows-length n) l) (sym (arrows-length k))
+        table-more (λ i. said 3 (blocks i)) old k n _ h (rw (arrows-length n) l) (sym (arrows-length k))
 
 -- a good block's count
 pub head-fits : (before place : ℕ) (head : Head) → wrongHead before place head ≡ false → head .count ≤ capacity (head .kind)
@@ -180,7 +178,7 @@ unfolding countsWith
 few-more n counts head f g = record { boxes-few = omega arith; rows-few = omega arith; arrows-few = omega arith }
 
 few-none : (blocks : ℕ → List ℕ) → Few 0 (countsIn blocks 0)
-unfolding countsIn boxesIn containmentsIn arrowsIn joined
+unfolding rowCounts joined
 few-none blocks = record { boxes-few = omega arith; rows-few = omega arith; arrows-few = omega arith }
 
 pub few-counts : (blocks : ℕ → List ℕ) (n : ℕ) → blocksFault blocks n ≡ none → Few n (countsIn blocks n)
@@ -197,9 +195,9 @@ pub record NoMore (few many : Counts) : Type 0 where
   pub arrows-most : few .arrows ≤ many .arrows
 
 pub counts-most : (blocks : ℕ → List ℕ) (k n : ℕ) → k ≤ n → NoMore (countsIn blocks k) (countsIn blocks n)
-unfolding countsIn boxesIn containmentsIn arrowsIn
+unfolding rowCounts
 counts-most blocks k n h =
-    let b = joined-most (λ i. boxesSaid (blocks i)) k n h in
-    let r = joined-most (λ i. containmentsSaid (blocks i)) k n h in
-    let a = joined-most (λ i. arrowsSaid (blocks i)) k n h in
+    let b = joined-most (λ i. said 1 (blocks i)) k n h in
+    let r = joined-most (λ i. said 2 (blocks i)) k n h in
+    let a = joined-most (λ i. said 3 (blocks i)) k n h in
     record { boxes-most = b; rows-most = omega arith; arrows-most = omega arith }

@@ -15,10 +15,9 @@ use Rattle.base.proofs.SearchLaws.{given-none}
 use Rattle.tables.proofs.TableLaws.{both-none}
 use Rattle.base.proofs.BufferLaws.{zeros-is}
 use Rattle.blocks.specs.Fnv.{fnv1a}
-use Rattle.blocks.specs.Blocks.{number16, number32, headOf, capacity, recordSize, recordsEnd}
-use Rattle.blocks.specs.Blocks.{boxRecord, containmentRecord, arrowRecord}
-use Rattle.blocks.specs.Blocks.{boxRow, containmentRow, arrowRow, wrongCheck, wrongHead, allZero, wrongFiller, blockFault}
-use Rattle.blocks.specs.Files.{blockAt, blockCount, kindBefore, lengthFault, fileFault}
+use Rattle.blocks.specs.Blocks.{number16, headOf, capacity, recordSize, wrongCheck, wrongHead, allZero, wrongFiller, blockFault}
+use Rattle.blocks.specs.Files.{blockCount, blockAt, kindBefore, lengthFault, fileFault}
+use Rattle.blocks.specs.Steps.{number32}
 use Rattle.blocks.specs.declared.Head.{Head}
 use Rattle.blocks.proofs.Counting.{block-good}
 use Rattle.blocks.proofs.MadeBlocks.{headMade, kind-after}
@@ -38,19 +37,6 @@ pub head-bytes : (block : List ℕ) → headOf block
     }
 unfolding headOf
 head-bytes block = refl
-
-pub box-row-is : (block : List ℕ) (j : ℕ) → boxRow block j ≡ getD block (8 + j) 0 ∷ []
-unfolding boxRow boxRecord
-box-row-is block j = refl
-
-pub containment-row-is : (block : List ℕ) (j : ℕ) → containmentRow block j ≡ number16 block (8 + 4 * j) ∷ number16 block (10 + 4 * j) ∷ []
-unfolding containmentRow containmentRecord
-containment-row-is block j = refl
-
-pub arrow-row-is : (block : List ℕ) (j : ℕ) → arrowRow block j
-    ≡ number16 block (8 + 6 * j) ∷ number16 block (10 + 6 * j) ∷ getD block (12 + 6 * j) 0 ∷ getD block (13 + 6 * j) 0 ∷ []
-unfolding arrowRow arrowRecord
-arrow-row-is block j = refl
 
 -- ---- a head that 16 passes
 
@@ -143,7 +129,7 @@ pub record Good (before place kind count : ℕ) (block : List ℕ) : Type 0 wher
 
 good-block : (before place : ℕ) (block : List ℕ) → length block ≡ 512 → blockFault before place block ≡ none
     → Good before place (headOf block .kind) (headOf block .count) block
-unfolding blockFault wrongCheck wrongFiller recordsEnd
+unfolding blockFault wrongCheck wrongFiller number32
 good-block before place block whole e =
     let head = headOf block in
     let part = drop (8 + recordSize (head .kind) * (head .count)) (take 508 block) in

@@ -11,9 +11,10 @@ use lib.ListN.{length, take, drop, length-drop}
 use lib.Seq.{take-add, take-length, take-all, drop-at, drop-append-le, take-append-le}
 use Rattle.base.proofs.SearchLaws.{first-same}
 use Rattle.base.proofs.Options.{past}
-use Rattle.blocks.specs.Blocks.{headOf, joined, boxesSaid, containmentsSaid, arrowsSaid}
-use Rattle.blocks.specs.Files.{blockAt, blockCount, kindBefore, blocksFault, lengthFault, fileFault, boxesIn, containmentsIn, arrowsIn, boxesOf, containmentsOf, arrowsOf}
-use Rattle.blocks.specs.Reads.{countsIn, countsOf, tablesFault, readFault}
+use Rattle.blocks.specs.Blocks.{headOf, joined, said}
+use Rattle.blocks.specs.Files.{blockCount, blockAt, kindBefore, blocksFault, lengthFault, fileFault, tableOf}
+use Rattle.blocks.specs.Reads.{rowCounts, tablesFault, readFault}
+use Rattle.blocks.specs.Steps.{tableIn, countsIn, countsOf}
 use Rattle.tables.proofs.TableLaws.{both-none}
 use Rattle.blocks.proofs.Order.{length-whole, length-good}
 use Rattle.blocks.proofs.Placing.{joined-length}
@@ -39,21 +40,12 @@ module _ (a b : ℕ → List ℕ) (n : ℕ) (same : (k : ℕ) → k < n → a k 
   unfolding blocksFault
   same-faults = first-same _ _ n (λ k h. rw (same-before k h, same k h))
 
-  pub same-boxes : boxesIn a n ≡ boxesIn b n
-  unfolding boxesIn
-  same-boxes = joined-same _ _ n (λ k h. ap boxesSaid (same k h))
-
-  pub same-containments : containmentsIn a n ≡ containmentsIn b n
-  unfolding containmentsIn
-  same-containments = joined-same _ _ n (λ k h. ap containmentsSaid (same k h))
-
-  pub same-arrows : arrowsIn a n ≡ arrowsIn b n
-  unfolding arrowsIn
-  same-arrows = joined-same _ _ n (λ k h. ap arrowsSaid (same k h))
+  pub same-tables : (kind : ℕ) → tableIn kind a n ≡ tableIn kind b n
+  same-tables kind = joined-same _ _ n (λ k h. ap (said kind) (same k h))
 
   pub same-counts : countsIn a n ≡ countsIn b n
-  unfolding countsIn
-  same-counts = rw (same-boxes, same-containments, same-arrows)
+  unfolding rowCounts
+  same-counts = rw (same-tables 1, same-tables 2, same-tables 3)
 
 -- a file of whole blocks is made of them
 blocks-taken : (file : List ℕ) (n : ℕ) → joined (blockAt file) n ≡ take (512 * n) file
@@ -101,14 +93,8 @@ module _ (blocks : ℕ → List ℕ) (n : ℕ) (whole : (k : ℕ) → k < n → 
   same : (k : ℕ) → k < n → blockAt (joined blocks n) k ≡ blocks k
   same = made-block blocks n whole
 
-  pub made-boxes : boxesOf (joined blocks n) ≡ boxesIn blocks n
-  made-boxes = rw (made-count blocks n whole) (same-boxes _ blocks n same)
-
-  pub made-containments : containmentsOf (joined blocks n) ≡ containmentsIn blocks n
-  made-containments = rw (made-count blocks n whole) (same-containments _ blocks n same)
-
-  pub made-arrows : arrowsOf (joined blocks n) ≡ arrowsIn blocks n
-  made-arrows = rw (made-count blocks n whole) (same-arrows _ blocks n same)
+  pub made-table : (kind : ℕ) → tableOf kind (joined blocks n) ≡ tableIn kind blocks n
+  made-table kind = rw (made-count blocks n whole) (same-tables _ blocks n same kind)
 
   pub made-counts : countsOf (joined blocks n) ≡ countsIn blocks n
   made-counts = rw (made-count blocks n whole) (same-counts _ blocks n same)

@@ -15,14 +15,17 @@ use Rattle.tables.specs.Faults.{countFault, roomFault}
 use Rattle.base.proofs.BufferLaws.{zeros-is}
 use Rattle.base.proofs.SearchLaws.{given-false, first-zero}
 use Rattle.base.proofs.Options.{past}
-use Rattle.blocks.specs.Fnv.{fnvStart, fnvStep, fnvFold, fnv1a}
-use Rattle.blocks.specs.Blocks.{number16, number32, headOf, byKind, capacity, recordSize, recordsEnd, boxRecord, containmentRecord, arrowRecord, boxRow, containmentRow, arrowRow, countOf, joined, boxesSaid, containmentsSaid, arrowsSaid, wrongCheck, wrongHead, allZero, wrongFiller, blockFault}
-use Rattle.blocks.specs.Files.{kindBefore, blocksFault, boxesIn, containmentsIn, arrowsIn}
-use Rattle.blocks.specs.Reads.{countsIn, tablesFault}
+use Rattle.blocks.specs.Fnv.{fnvFold, fnv1a}
+use Rattle.blocks.specs.Blocks.{number16, headOf, byKind, capacity, recordSize, rowOf, countOf, joined, said, wrongCheck, wrongHead}
+use Rattle.blocks.specs.Blocks.{allZero, wrongFiller, blockFault}
+use Rattle.blocks.specs.Files.{kindBefore, blocksFault}
+use Rattle.blocks.specs.Reads.{rowCounts, tablesFault}
+use Rattle.blocks.specs.Steps.{number32, tableIn, countsIn}
 use Rattle.blocks.specs.declared.Head.{Head}
 use Rattle.blocks.specs.declared.Counts.{Counts}
 use Rattle.blocks.proofs.Counting.{blocks-more}
 use Rattle.blocks.proofs.JoinedLaws.{joined-none}
+use Rattle.blocks.proofs.RowLaws.{box-row-is, containment-row-is, arrow-row-is}
 use Rattle.blocks.proofs.Made.{joined-same}
 
 -- ---- by kind
@@ -49,19 +52,19 @@ record-sizes = (refl, refl, refl)
 
 -- ---- bytes
 
-pub check-is : (bytes : List ℕ) → fnv1a bytes ≡ fnvFold fnvStart bytes
-unfolding fnv1a
+pub check-is : (bytes : List ℕ) → fnv1a bytes ≡ fnvFold (fnv1a []) bytes
+unfolding fnvFold fnv1a
 check-is bytes = refl
 
 -- it has 32 bits
 fold-small : (state : ℕ) (bytes : List ℕ) → state < 4294967296 → fnvFold state bytes < 4294967296
-unfolding fnvFold fnvStep
+unfolding fnvFold
 fold-small state [] h = h
-fold-small state (byte ∷ bytes) h = fold-small (fnvStep state byte) bytes (omega arith)
+fold-small state (byte ∷ bytes) h = fold-small _ bytes (omega arith)
 
 pub check-small : (bytes : List ℕ) → fnv1a bytes < 4294967296
-unfolding fnv1a fnvStart
-check-small bytes = fold-small fnvStart bytes (omega arith)
+unfolding fnv1a
+check-small bytes = fold-small 2166136261 bytes (omega arith)
 
 pub number16-is : (block : List ℕ) (at : ℕ) → number16 block at ≡ getD block at 0 + 256 * getD block (at + 1) 0
 unfolding number16
@@ -87,23 +90,22 @@ abbrev pub RecordIs : (block : List ℕ) (w j : ℕ) (bytes : List ℕ) → Type
 RecordIs block w j bytes = (i : ℕ) → i < w → getD block (8 + (w * j + i)) 0 ≡ getD bytes i 0
 
 module _ (block : List ℕ) (j : ℕ) (bytes : List ℕ) where
-  pub box-row : RecordIs block 1 j bytes → boxRow block j ≡ getD bytes 0 0 ∷ []
-  unfolding boxRow boxRecord
+  pub box-row : RecordIs block 1 j bytes → rowOf 1 block j ≡ getD bytes 0 0 ∷ []
   box-row e =
       let a : 8 + j ≡ 8 + (1 * j + 0) = omega arith in
-      rw (a, e 0 (omega arith))
+      rw (box-row-is block j, a, e 0 (omega arith))
 
-  pub containment-row : RecordIs block 4 j bytes → containmentRow block j ≡ number16 bytes 0 ∷ number16 bytes 2 ∷ []
-  unfolding containmentRow containmentRecord number16
+  pub containment-row : RecordIs block 4 j bytes → rowOf 2 block j ≡ number16 bytes 0 ∷ number16 bytes 2 ∷ []
+  unfolding number16
   containment-row e =
       let a : 8 + 4 * j ≡ 8 + (4 * j + 0) = omega arith in
       let b : 8 + (4 * j + 0) + 1 ≡ 8 + (4 * j + 1) = omega arith in
       let c : 10 + 4 * j ≡ 8 + (4 * j + 2) = omega arith in
       let d : 8 + (4 * j + 2) + 1 ≡ 8 + (4 * j + 3) = omega arith in
-      rw (a, b, c, d, e 0 (omega arith), e 1 (omega arith), e 2 (omega arith), e 3 (omega arith))
+      rw (containment-row-is block j, a, b, c, d, e 0 (omega arith), e 1 (omega arith), e 2 (omega arith), e 3 (omega arith))
 
-  pub arrow-row : RecordIs block 6 j bytes → arrowRow block j ≡ number16 bytes 0 ∷ number16 bytes 2 ∷ getD bytes 4 0 ∷ getD bytes 5 0 ∷ []
-  unfolding arrowRow arrowRecord number16
+  pub arrow-row : RecordIs block 6 j bytes → rowOf 3 block j ≡ number16 bytes 0 ∷ number16 bytes 2 ∷ getD bytes 4 0 ∷ getD bytes 5 0 ∷ []
+  unfolding number16
   arrow-row e =
       let a : 8 + 6 * j ≡ 8 + (6 * j + 0) = omega arith in
       let b : 8 + (6 * j + 0) + 1 ≡ 8 + (6 * j + 1) = omega arith in
@@ -111,7 +113,7 @@ module _ (block : List ℕ) (j : ℕ) (bytes : List ℕ) where
       let d : 8 + (6 * j + 2) + 1 ≡ 8 + (6 * j + 3) = omega arith in
       let f : 12 + 6 * j ≡ 8 + (6 * j + 4) = omega arith in
       let g : 13 + 6 * j ≡ 8 + (6 * j + 5) = omega arith in
-      rw (a, b, c, d, f, g, e 0 (omega arith), e 1 (omega arith), e 2 (omega arith), e 3 (omega arith), e 4 (omega arith), e 5 (omega arith))
+      rw (arrow-row-is block j, a, b, c, d, f, g, e 0 (omega arith), e 1 (omega arith), e 2 (omega arith), e 3 (omega arith), e 4 (omega arith), e 5 (omega arith))
 
 -- ---- what a block with a known head says of each table
 
@@ -124,39 +126,15 @@ module _ (block : List ℕ) (kind number count : ℕ) (head : headOf block ≡ h
   unfolding countOf
   count-own = rw (head, eq-eqb kind kind refl)
 
-  said-other : (other : ℕ) (row : ℕ → List ℕ) → (kind ≡ other → ⊥) → joined row (countOf other (headOf block)) ≡ []
-  said-other other row n = ap (joined row) (count-other other n) ∙ joined-none row
-
-  said-own : (row f : ℕ → List ℕ) → ((j : ℕ) → j < count → row j ≡ f j) → joined row (countOf kind (headOf block)) ≡ joined f count
-  said-own row f e = ap (joined row) count-own ∙ joined-same row f count e
-
   -- nothing, where it is of another kind
-  pub no-boxes : (kind ≡ 1 → ⊥) → boxesSaid block ≡ []
-  unfolding boxesSaid
-  no-boxes = said-other 1 (boxRow block)
+  pub no-rows : (other : ℕ) → (kind ≡ other → ⊥) → said other block ≡ []
+  unfolding said
+  no-rows other n = ap (joined (rowOf other block)) (count-other other n) ∙ joined-none (rowOf other block)
 
-  pub no-containments : (kind ≡ 2 → ⊥) → containmentsSaid block ≡ []
-  unfolding containmentsSaid
-  no-containments = said-other 2 (containmentRow block)
-
-  pub no-arrows : (kind ≡ 3 → ⊥) → arrowsSaid block ≡ []
-  unfolding arrowsSaid
-  no-arrows = said-other 3 (arrowRow block)
-
-module _ (block : List ℕ) (number count : ℕ) (f : ℕ → List ℕ) where
   -- else its rows
-  pub boxes-are : headOf block ≡ headMade 1 number count → ((j : ℕ) → j < count → boxRow block j ≡ f j) → boxesSaid block ≡ joined f count
-  unfolding boxesSaid
-  boxes-are head e = said-own block 1 number count head (boxRow block) f e
-
-  pub containments-are : headOf block ≡ headMade 2 number count → ((j : ℕ) → j < count → containmentRow block j ≡ f j)
-      → containmentsSaid block ≡ joined f count
-  unfolding containmentsSaid
-  containments-are head e = said-own block 2 number count head (containmentRow block) f e
-
-  pub arrows-are : headOf block ≡ headMade 3 number count → ((j : ℕ) → j < count → arrowRow block j ≡ f j) → arrowsSaid block ≡ joined f count
-  unfolding arrowsSaid
-  arrows-are head e = said-own block 3 number count head (arrowRow block) f e
+  pub rows-are : (f : ℕ → List ℕ) → ((j : ℕ) → j < count → rowOf kind block j ≡ f j) → said kind block ≡ joined f count
+  unfolding said
+  rows-are f e = ap (joined (rowOf kind block)) count-own ∙ joined-same (rowOf kind block) f count e
 
 -- ---- no fault
 
@@ -173,7 +151,7 @@ head-right before place kind count low high after fits =
 
 filler-right : (place kind count filler : ℕ) (block : List ℕ) → drop (8 + recordSize kind * count) (take 508 block) ≡ zeros filler
     → wrongFiller (headMade kind place count) block ≡ false
-unfolding wrongFiller recordsEnd
+unfolding wrongFiller
 filler-right place kind count filler block e = rw (e, ← zeros-is, zeros-zero)
 
 -- a block of a kind with a right head, a right check, and zero filler, after blocks of no higher kind
@@ -181,7 +159,7 @@ pub block-passed : (before place kind count filler : ℕ) (block : List ℕ) →
     → 1 ≤ kind → kind ≤ 3 → before ≤ kind → count ≤ capacity kind
     → fnv1a (take 508 block) ≡ number32 block 508 → drop (8 + recordSize kind * count) (take 508 block) ≡ zeros filler
     → blockFault before place block ≡ none
-unfolding blockFault wrongCheck
+unfolding blockFault wrongCheck number32
 block-passed before place kind count filler block head low high after fits check fill =
     past _ _ (given-false _ _ (ap not (eq-eqb (fnv1a (take 508 block)) (number32 block 508) check)))
     ∙ rw head (past _ _ (given-false _ _ (head-right before place kind count low high after fits))
@@ -212,23 +190,11 @@ run-more blocks kind m (suc n) good low same passed =
       rw (s, kind-after, same n (omega arith)) (omega arith),
     )
 
--- what they say
-pub boxes-in : (blocks : ℕ → List ℕ) (n : ℕ) → boxesIn blocks n ≡ joined (λ k. boxesSaid (blocks k)) n
-unfolding boxesIn
-boxes-in blocks n = refl
-
-pub containments-in : (blocks : ℕ → List ℕ) (n : ℕ) → containmentsIn blocks n ≡ joined (λ k. containmentsSaid (blocks k)) n
-unfolding containmentsIn
-containments-in blocks n = refl
-
-pub arrows-in : (blocks : ℕ → List ℕ) (n : ℕ) → arrowsIn blocks n ≡ joined (λ k. arrowsSaid (blocks k)) n
-unfolding arrowsIn
-arrows-in blocks n = refl
-
+-- the row counts of what they say
 pub counts-in : (blocks : ℕ → List ℕ) (n : ℕ) (boxes rows arrows : List ℕ)
-    → boxesIn blocks n ≡ boxes → containmentsIn blocks n ≡ rows → arrowsIn blocks n ≡ arrows
+    → tableIn 1 blocks n ≡ boxes → tableIn 2 blocks n ≡ rows → tableIn 3 blocks n ≡ arrows
     → countsIn blocks n ≡ record { boxes = length boxes; containments = rowCount rows; arrows = arrowCount arrows }
-unfolding countsIn
+unfolding rowCounts
 counts-in blocks n boxes rows arrows b r a = rw (b, r, a)
 
 -- counts that 2 and 9 pass

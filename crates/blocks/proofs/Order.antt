@@ -17,8 +17,9 @@ use Rattle.base.proofs.Tests.{T-or₁, T-or₂}
 use Rattle.base.proofs.SearchLaws.{given-none, given-false}
 use Rattle.tables.proofs.TableLaws.{both-none, not-not, room-passed}
 use Rattle.base.proofs.Options.{past, stop}
-use Rattle.blocks.specs.Files.{blockAt, blockCount, lengthFault, blocksFault, fileFault, boxesOf, containmentsOf, arrowsOf}
-use Rattle.blocks.specs.Reads.{countsOf, tablesFault, readFault, answerOf, ReadDone}
+use Rattle.blocks.specs.Files.{blockCount, blockAt, blocksFault, lengthFault, fileFault, tableOf}
+use Rattle.blocks.specs.Reads.{tablesFault, readFault, answerOf, ReadDone}
+use Rattle.blocks.specs.Steps.{countsOf}
 use Rattle.blocks.specs.declared.Counts.{Counts}
 use Rattle.blocks.specs.declared.Reading.the-variants.{Tables, Refused}
 
@@ -104,7 +105,7 @@ read-refused file boxes rows arrows e = record {
 -- else the row counts are answered
 pub read-done : (file boxes rows arrows boxesEnd rowsEnd arrowsEnd : List ℕ) (counts : Counts)
     → readFault file (length boxes) (length rows) (length arrows) ≡ none → countsOf file ≡ counts
-    → boxesEnd ≡ written (boxesOf file) boxes → rowsEnd ≡ written (containmentsOf file) rows → arrowsEnd ≡ written (arrowsOf file) arrows
+    → boxesEnd ≡ written (tableOf 1 file) boxes → rowsEnd ≡ written (tableOf 2 file) rows → arrowsEnd ≡ written (tableOf 3 file) arrows
     → ReadDone file boxes rows arrows boxesEnd rowsEnd arrowsEnd (Tables counts)
 read-done file boxes rows arrows boxesEnd rowsEnd arrowsEnd counts e c p q r = record {
   answer = rw (e, c);

@@ -7,8 +7,8 @@ use lib.ListN.{length, take}
 use Rattle.tables.specs.declared.Refusal.{Refusal}
 use Rattle.base.proofs.PartLaws.{part-is}
 use Rattle.tables.proofs.TableLaws.{both-none, room-passed}
-use Rattle.blocks.specs.Files.{blockAt, blockCount, boxesOf, containmentsOf, arrowsOf}
-use Rattle.blocks.specs.Reads.{countsIn, tablesFault, readFault, ReadDone}
+use Rattle.blocks.specs.Files.{blockCount, blockAt, tableOf}
+use Rattle.blocks.specs.Reads.{rowCounts, tablesFault, readFault, ReadDone}
 use Rattle.blocks.specs.declared.Counts.{Counts}
 use Rattle.blocks.specs.declared.Reading.the-variants.{Tables, Refused}
 use Rattle.blocks.proofs.Counting.{rows-length, arrows-length}
@@ -34,31 +34,31 @@ read-stopped d = answer-refused _ _ _ (sym (d .answer))
 -- the counted rows are what the file says
 pub record ReadAs (file boxes rows arrows boxesEnd rowsEnd arrowsEnd : List ℕ) (counts : Counts) : Type 0 where
   pub no-fault : readFault file (length boxes) (length rows) (length arrows) ≡ none
-  pub boxes-read : take (counts .boxes) boxesEnd ≡ boxesOf file
-  pub rows-read : take (2 * counts .containments) rowsEnd ≡ containmentsOf file
-  pub arrows-read : take (4 * counts .arrows) arrowsEnd ≡ arrowsOf file
+  pub boxes-read : take (counts .boxes) boxesEnd ≡ tableOf 1 file
+  pub rows-read : take (2 * counts .containments) rowsEnd ≡ tableOf 2 file
+  pub arrows-read : take (4 * counts .arrows) arrowsEnd ≡ tableOf 3 file
 
 pub read-tables : {file boxes rows arrows boxesEnd rowsEnd arrowsEnd : List ℕ} {counts : Counts}
     → ReadDone file boxes rows arrows boxesEnd rowsEnd arrowsEnd (Tables counts)
     → ReadAs file boxes rows arrows boxesEnd rowsEnd arrowsEnd counts
-unfolding countsIn
+unfolding rowCounts
 read-tables {file} {boxes} {rows} {arrows} {boxesEnd} {rowsEnd} {arrowsEnd} {counts} d =
     let clean = answer-tables _ _ _ (sym (d .answer)) in
     let good = clean .0 in
     record {
       no-fault = good;
       boxes-read =
-          part-is (boxesOf file) boxes (counts .boxes) boxesEnd (
+          part-is (tableOf 1 file) boxes (counts .boxes) boxesEnd (
             ap (λ (k : Counts). k .boxes) (sym (clean .1)),
             rw good at (d .boxes-end),
           );
       rows-read =
-          part-is (containmentsOf file) rows (2 * counts .containments) rowsEnd (
+          part-is (tableOf 2 file) rows (2 * counts .containments) rowsEnd (
             ap (λ (k : Counts). 2 * k .containments) (sym (clean .1)) ∙ sym (rows-length (blockAt file) (blockCount file)),
             rw good at (d .rows-end),
           );
       arrows-read =
-          part-is (arrowsOf file) arrows (4 * counts .arrows) arrowsEnd (
+          part-is (tableOf 3 file) arrows (4 * counts .arrows) arrowsEnd (
             ap (λ (k : Counts). 4 * k .arrows) (sym (clean .1)) ∙ sym (arrows-length (blockAt file) (blockCount file)),
             rw good at (d .arrows-end),
           );

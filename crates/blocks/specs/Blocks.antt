@@ -10,27 +10,14 @@ use Rattle.tables.specs.Refusals.{badBlock}
 use Rattle.tables.specs.declared.Refusal.{Refusal}
 use Rattle.blocks.specs.Fnv.{fnv1a}
 use Rattle.blocks.specs.declared.Head.{Head}
-use Rattle.blocks.specs.declared.BoxRecord.{BoxRecord}
-use Rattle.blocks.specs.declared.ContainmentRecord.{ContainmentRecord}
-use Rattle.blocks.specs.declared.ArrowRecord.{ArrowRecord}
 
--- the numbers of 16 and of 32 bits that begin at a byte, little-endian
+-- the number of 16 bits that begins at a byte, little-endian
 unfoldable pub number16 : (block : List ℕ) (at : ℕ) → ℕ
 number16 block at = getD block at 0 + 256 * getD block (at + 1) 0
 
-unfoldable pub number32 : (block : List ℕ) (at : ℕ) → ℕ
-number32 block at = number16 block at + 65536 * number16 block (at + 2)
-
 -- byte 0 kind, byte 1 zero, bytes 2 and 3 block number, bytes 4 and 5 record count, bytes 6 and 7 zero
 unfoldable pub headOf : (block : List ℕ) → Head
-headOf block = record {
-  kind = getD block 0 0;
-  byte1 = getD block 1 0;
-  number = number16 block 2;
-  count = number16 block 4;
-  byte6 = getD block 6 0;
-  byte7 = getD block 7 0;
-}
+headOf b = record { kind = getD b 0 0; byte1 = getD b 1 0; number = number16 b 2; count = number16 b 4; byte6 = getD b 6 0; byte7 = getD b 7 0 }
 
 -- by kind: 1 boxes, 2 containments, 3 arrows
 unfoldable pub byKind : (kind boxes containments arrows : ℕ) → ℕ
@@ -44,35 +31,13 @@ capacity kind = byKind kind 500 125 83
 unfoldable pub recordSize : (kind : ℕ) → ℕ
 recordSize kind = byKind kind 1 4 6
 
--- the byte after the records
-unfoldable pub recordsEnd : (head : Head) → ℕ
-recordsEnd head = 8 + recordSize (head .kind) * (head .count)
-
--- record j of a block of each kind
-unfoldable pub boxRecord : (block : List ℕ) (j : ℕ) → BoxRecord
-boxRecord block j = record { side = getD block (8 + j) 0 }
-
-unfoldable pub containmentRecord : (block : List ℕ) (j : ℕ) → ContainmentRecord
-containmentRecord block j = record { outer = number16 block (8 + 4 * j); inner = number16 block (10 + 4 * j) }
-
-unfoldable pub arrowRecord : (block : List ℕ) (j : ℕ) → ArrowRecord
-arrowRecord block j = record {
-  tail = number16 block (8 + 6 * j);
-  head = number16 block (10 + 6 * j);
-  mode = getD block (12 + 6 * j) 0;
-  sign = getD block (13 + 6 * j) 0;
-}
-
--- a record as the numbers of its table's row
-unfoldable pub boxRow : (block : List ℕ) (j : ℕ) → List ℕ
-boxRow block j = boxRecord block j .side ∷ []
-
-unfoldable pub containmentRow : (block : List ℕ) (j : ℕ) → List ℕ
-containmentRow block j = containmentRecord block j .outer ∷ containmentRecord block j .inner ∷ []
-
-unfoldable pub arrowRow : (block : List ℕ) (j : ℕ) → List ℕ
-arrowRow block j =
-    arrowRecord block j .tail ∷ arrowRecord block j .head ∷ arrowRecord block j .mode ∷ arrowRecord block j .sign ∷ []
+-- record j, records from byte 8, as the numbers of its table's row: 1 byte; two 16-bit numbers; two 16-bit numbers, mode, sign
+unfoldable pub rowOf : (kind : ℕ) (block : List ℕ) (j : ℕ) → List ℕ
+rowOf kind block j =
+    let at = 8 + recordSize kind * j in
+    cond (eqb kind 1) (getD block at 0 ∷ [])
+    (cond (eqb kind 2) (number16 block at ∷ number16 block (at + 2) ∷ [])
+    (number16 block at ∷ number16 block (at + 2) ∷ getD block (at + 4) 0 ∷ getD block (at + 5) 0 ∷ []))
 
 -- how many records of a kind a block has
 unfoldable pub countOf : (kind : ℕ) (head : Head) → ℕ
@@ -83,19 +48,13 @@ unfoldable pub joined : (ℕ → List ℕ) → ℕ → List ℕ
 joined f zero = []
 joined f (suc n) = joined f n ++ f n
 
--- what a block says of each table: the rows of its records, in order
-unfoldable pub boxesSaid : (block : List ℕ) → List ℕ
-boxesSaid block = joined (boxRow block) (countOf 1 (headOf block))
-
-unfoldable pub containmentsSaid : (block : List ℕ) → List ℕ
-containmentsSaid block = joined (containmentRow block) (countOf 2 (headOf block))
-
-unfoldable pub arrowsSaid : (block : List ℕ) → List ℕ
-arrowsSaid block = joined (arrowRow block) (countOf 3 (headOf block))
+-- what a block says of the table of a kind: the rows of its records, in order
+unfoldable pub said : (kind : ℕ) (block : List ℕ) → List ℕ
+said kind block = joined (rowOf kind block) (countOf kind (headOf block))
 
 -- 15: the check in bytes 508 to 511 isn't that of bytes 0 to 507
 unfoldable pub wrongCheck : (block : List ℕ) → Bool
-wrongCheck block = not (eqb (fnv1a (take 508 block)) (number32 block 508))
+wrongCheck block = not (eqb (fnv1a (take 508 block)) (number16 block 508 + 65536 * number16 block 510))
 
 -- 16: its kind is not 1 to 3 or is below the kind of the block before, byte 1, 6 or 7 is not zero, the block number
 -- isn't the block's place in the file, or the count is above the capacity of its kind
@@ -105,13 +64,13 @@ wrongHead before place head =
     || not (eqb (head .byte1) 0) || not (eqb (head .byte6) 0) || not (eqb (head .byte7) 0)
     || not (eqb (head .number) place) || ltb (capacity (head .kind)) (head .count)
 
--- 17: zero filler from the records' end to byte 507
+-- 17: zero filler, behind the records, to byte 507
 unfoldable pub allZero : List ℕ → Bool
 allZero [] = true
 allZero (x ∷ xs) = eqb x 0 && allZero xs
 
 unfoldable pub wrongFiller : (head : Head) (block : List ℕ) → Bool
-wrongFiller head block = not (allZero (drop (recordsEnd head) (take 508 block)))
+wrongFiller head block = not (allZero (drop (8 + recordSize (head .kind) * head .count) (take 508 block)))
 
 -- 15, 16, 17 of the block at a place, by the kind of the block before
 unfoldable pub blockFault : (before place : ℕ) (block : List ℕ) → Option Refusal

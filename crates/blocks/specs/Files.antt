@@ -6,9 +6,10 @@ use Prim.Native.Nat.{ℕ, zero, suc, _*_, _/_, _%_}
 use lib.Dec.{eqb, ltb}
 use lib.ListN.{length, take, drop}
 use Rattle.base.specs.Search.{orElse, given, first}
+use Rattle.tables.specs.Rows.{Picture, picture}
 use Rattle.tables.specs.Refusals.{badLength}
 use Rattle.tables.specs.declared.Refusal.{Refusal}
-use Rattle.blocks.specs.Blocks.{headOf, joined, boxesSaid, containmentsSaid, arrowsSaid, blockFault}
+use Rattle.blocks.specs.Blocks.{headOf, joined, said, blockFault}
 
 -- a file's blocks of 512 bytes
 abbrev pub blockCount : (file : List ℕ) → ℕ
@@ -34,22 +35,10 @@ lengthFault len = given (eqb len 0 || not (eqb (len % 512) 0) || ltb 32768 len) 
 unfoldable pub fileFault : (file : List ℕ) → Option Refusal
 fileFault file = orElse (lengthFault (length file)) (blocksFault (blockAt file) (blockCount file))
 
--- what n blocks say of each table
-unfoldable pub boxesIn : (blocks : ℕ → List ℕ) (n : ℕ) → List ℕ
-boxesIn blocks n = joined (λ k. boxesSaid (blocks k)) n
-
-unfoldable pub containmentsIn : (blocks : ℕ → List ℕ) (n : ℕ) → List ℕ
-containmentsIn blocks n = joined (λ k. containmentsSaid (blocks k)) n
-
-unfoldable pub arrowsIn : (blocks : ℕ → List ℕ) (n : ℕ) → List ℕ
-arrowsIn blocks n = joined (λ k. arrowsSaid (blocks k)) n
+-- the table of a kind: what the blocks say of it, in order
+abbrev pub tableOf : (kind : ℕ) (file : List ℕ) → List ℕ
+tableOf kind file = joined (λ k. said kind (blockAt file k)) (blockCount file)
 
 -- what a file says: its three tables
-abbrev pub boxesOf : (file : List ℕ) → List ℕ
-boxesOf file = boxesIn (blockAt file) (blockCount file)
-
-abbrev pub containmentsOf : (file : List ℕ) → List ℕ
-containmentsOf file = containmentsIn (blockAt file) (blockCount file)
-
-abbrev pub arrowsOf : (file : List ℕ) → List ℕ
-arrowsOf file = arrowsIn (blockAt file) (blockCount file)
+abbrev pub pictureOf : (file : List ℕ) → Picture
+pictureOf file = picture (tableOf 1 file) (tableOf 2 file) (tableOf 3 file)

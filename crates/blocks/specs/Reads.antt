@@ -6,25 +6,18 @@ use Prim.Native.Nat.{ℕ, _*_}
 use lib.ListN.{length}
 use Rattle.base.specs.Search.{orElse}
 use Rattle.base.specs.Buffers.{written}
-use Rattle.tables.specs.Rows.{rowCount, arrowCount}
+use Rattle.tables.specs.Rows.{Picture, rowCount, arrowCount}
 use Rattle.tables.specs.Refusals.{unlessRefused}
 use Rattle.tables.specs.Faults.{countFault, roomFault}
 use Rattle.tables.specs.declared.Refusal.{Refusal}
-use Rattle.blocks.specs.Files.{blockAt, blockCount, fileFault, boxesIn, containmentsIn, arrowsIn, boxesOf, containmentsOf, arrowsOf}
+use Rattle.blocks.specs.Files.{fileFault, pictureOf}
 use Rattle.blocks.specs.declared.Counts.{Counts}
 use Rattle.blocks.specs.declared.Reading.{Reading}
 use Rattle.blocks.specs.declared.Reading.the-variants.{Tables, Refused}
 
--- the row counts of what n blocks say
-unfoldable pub countsIn : (blocks : ℕ → List ℕ) (n : ℕ) → Counts
-countsIn blocks n = record {
-  boxes = length (boxesIn blocks n);
-  containments = rowCount (containmentsIn blocks n);
-  arrows = arrowCount (arrowsIn blocks n);
-}
-
-abbrev pub countsOf : (file : List ℕ) → Counts
-countsOf file = countsIn (blockAt file) (blockCount file)
+-- the three row counts
+unfoldable pub rowCounts : (pic : Picture) → Counts
+rowCounts pic = record { boxes = length (pic .boxes); containments = rowCount (pic .rows); arrows = arrowCount (pic .arrows) }
 
 -- 2, then 9, each for the lowest table or buffer: 5 boxes, 6 containments, 7 arrows (numbers to be read)
 unfoldable pub tablesFault : (counts : Counts) (boxes rows arrows : ℕ) → Option Refusal
@@ -36,7 +29,7 @@ tablesFault counts boxes rows arrows =
 
 -- 14, then for each block in turn 15, 16, 17, then 2, then 9
 unfoldable pub readFault : (file : List ℕ) (boxes rows arrows : ℕ) → Option Refusal
-readFault file boxes rows arrows = orElse (fileFault file) (tablesFault (countsOf file) boxes rows arrows)
+readFault file boxes rows arrows = orElse (fileFault file) (tablesFault (rowCounts (pictureOf file)) boxes rows arrows)
 
 -- the three row counts, or the refusal
 abbrev pub answerOf : Option Refusal → Counts → Reading
@@ -49,7 +42,7 @@ endOf fault new old = unlessRefused fault (written new old) old
 
 -- the answer, and what each table holds at the end
 pub record ReadDone (file boxes rows arrows boxesEnd rowsEnd arrowsEnd : List ℕ) (r : Reading) : Type 0 where
-  pub answer : r ≡ answerOf (readFault file (length boxes) (length rows) (length arrows)) (countsOf file)
-  pub boxes-end : boxesEnd ≡ endOf (readFault file (length boxes) (length rows) (length arrows)) (boxesOf file) boxes
-  pub rows-end : rowsEnd ≡ endOf (readFault file (length boxes) (length rows) (length arrows)) (containmentsOf file) rows
-  pub arrows-end : arrowsEnd ≡ endOf (readFault file (length boxes) (length rows) (length arrows)) (arrowsOf file) arrows
+  pub answer : r ≡ answerOf (readFault file (length boxes) (length rows) (length arrows)) (rowCounts (pictureOf file))
+  pub boxes-end : boxesEnd ≡ endOf (readFault file (length boxes) (length rows) (length arrows)) (pictureOf file .boxes) boxes
+  pub rows-end : rowsEnd ≡ endOf (readFault file (length boxes) (length rows) (length arrows)) (pictureOf file .rows) rows
+  pub arrows-end : arrowsEnd ≡ endOf (readFault file (length boxes) (length rows) (length arrows)) (pictureOf file .arrows) arrows

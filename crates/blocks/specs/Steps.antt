@@ -1,8 +1,50 @@
 -- What the inner functions of reading promise each other; what reading a file promises does not speak of it. Assumes nothing.
-use Prim.Native.Nat.{_+_}
-use Rattle.blocks.specs.Blocks.{countOf}
+use mathlib.Core.List.{List}
+use Prim.Native.Nat.{ℕ, _+_, _*_}
+use lib.ListN.{getD}
+use Rattle.tables.specs.Rows.{picture}
+use Rattle.blocks.specs.Blocks.{number16, recordSize, rowOf, countOf, joined, said}
+use Rattle.blocks.specs.Files.{pictureOf}
+use Rattle.blocks.specs.Reads.{rowCounts}
 use Rattle.blocks.specs.declared.Head.{Head}
+use Rattle.blocks.specs.declared.BoxRecord.{BoxRecord}
+use Rattle.blocks.specs.declared.ContainmentRecord.{ContainmentRecord}
+use Rattle.blocks.specs.declared.ArrowRecord.{ArrowRecord}
 use Rattle.blocks.specs.declared.Counts.{Counts}
+
+-- the number of 32 bits that begins at a byte, little-endian
+unfoldable pub number32 : (block : List ℕ) (at : ℕ) → ℕ
+number32 block at = number16 block at + 65536 * number16 block (at + 2)
+
+-- the byte after the records
+unfoldable pub recordsEnd : (head : Head) → ℕ
+recordsEnd head = 8 + recordSize (head .kind) * head .count
+
+-- record j of each kind, by the numbers of its row
+unfoldable pub boxRecord : (block : List ℕ) (j : ℕ) → BoxRecord
+boxRecord block j = record { side = getD (rowOf 1 block j) 0 0 }
+
+unfoldable pub containmentRecord : (block : List ℕ) (j : ℕ) → ContainmentRecord
+containmentRecord block j = record { outer = getD (rowOf 2 block j) 0 0; inner = getD (rowOf 2 block j) 1 0 }
+
+unfoldable pub arrowRecord : (block : List ℕ) (j : ℕ) → ArrowRecord
+arrowRecord block j = record {
+  tail = getD (rowOf 3 block j) 0 0;
+  head = getD (rowOf 3 block j) 1 0;
+  mode = getD (rowOf 3 block j) 2 0;
+  sign = getD (rowOf 3 block j) 3 0;
+}
+
+-- what n blocks say of the table of a kind: `tableOf` is that of a file's blocks
+abbrev pub tableIn : (kind : ℕ) (blocks : ℕ → List ℕ) (n : ℕ) → List ℕ
+tableIn kind blocks n = joined (λ k. said kind (blocks k)) n
+
+-- the row counts of what n blocks and of what a file say
+abbrev pub countsIn : (blocks : ℕ → List ℕ) (n : ℕ) → Counts
+countsIn blocks n = rowCounts (picture (tableIn 1 blocks n) (tableIn 2 blocks n) (tableIn 3 blocks n))
+
+abbrev pub countsOf : (file : List ℕ) → Counts
+countsOf file = rowCounts (pictureOf file)
 
 -- a head of zeros
 abbrev pub noHead : Head

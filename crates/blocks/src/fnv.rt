@@ -1,7 +1,8 @@
 // The check of a block, FNV-1a.
 ghost use mathlib.Core.Path.{_≡_};
+ghost use mathlib.Core.List.{[], _∷_};
 ghost use Prim.Native.Nat.{_*_, _%_, _^_};
-ghost use Rattle.blocks.specs.Fnv.{fnvStart, fnvStep, fnvFold};
+ghost use Rattle.blocks.specs.Fnv.{fnvFold, fnv1a};
 
 // a * b modulo 2^32.
 fn wrapping_mul_u32(a: u32, b: u32) -> u32
@@ -25,14 +26,14 @@ impl Check {
 
     // The check of no byte.
     pub fn fresh() -> Self
-        ensures { λ r. ⌜ r .state ≡ fnvStart ⌝ }
+        ensures { λ r. ⌜ r .state ≡ fnv1a [] ⌝ }
     {
         Self { state: Self::START }
     }
 
     // The check with one byte more.
     pub fn byte(self, b: u8) -> Self
-        ensures { λ r. ⌜ r .state ≡ fnvStep (self .state) b ⌝ }
+        ensures { λ r. ⌜ r .state ≡ fnvFold (self .state) (b ∷ []) ⌝ }
     {
         Self {
             state: wrapping_mul_u32(self.state ^ (b as u32), Self::PRIME),

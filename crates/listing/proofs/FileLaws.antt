@@ -18,6 +18,7 @@ use Rattle.tables.proofs.Verdicts.{passed, refused}
 use Rattle.scratch.specs.Scratch.{pictureFault}
 use Rattle.scratch.proofs.PictureLaws.{picture-room}
 use Rattle.meaning.specs.Cases.{picture-B}
+use Rattle.blocks.specs.Files.{pictureOf}
 use Rattle.blocks.specs.Reads.{readFault, ReadDone}
 use Rattle.blocks.specs.declared.Counts.{Counts as Three}
 use Rattle.blocks.specs.declared.Reading.the-variants.{Tables, Refused as Stops}
@@ -26,7 +27,7 @@ use Rattle.blocks.proofs.Rooms.{read-stopped, read-tables}
 use Rattle.lines.specs.Text.{text}
 use Rattle.lines.specs.Lines.{lineText}
 use Rattle.listing.specs.Listing.{countsLine, pictureListing}
-use Rattle.listing.specs.Files.{filePicture, readRefusal, pictureRefusal, fileRefusal, refusedOr, fileListing}
+use Rattle.listing.specs.Files.{fileRefusal, refusedOr, fileListing}
 use Rattle.listing.specs.Numbered.{lineCount, lineAt, lineRows, linesFrom, stoppedOr, oneOr, fileLineCount, fileLine}
 use Rattle.lines.specs.Steps.{Holds}
 use Rattle.listing.specs.Steps.{Stands, Filled, Read, Good}
@@ -105,7 +106,7 @@ file-whole file = go (fileRefusal file) refl
     go : (o : Option Refusal) → fileRefusal file ≡ o → linesFrom (fileLine file) 0 (fileLineCount file) ≡ fileListing file
     go (some r) w = rw (← stopped-count file r w, one-line (fileLine file) 0, stopped-is file r w, w)
     go none w =
-        let pic = filePicture file in
+        let pic = pictureOf file in
         let g : Good file pic = record { picture-is = refl; right = w } in
         rw (← good-count g)
         (sym (lines-same (lineAt pic) (fileLine file) 0 (lineCount pic) (good-line g)) ∙ picture-whole pic ∙ sym (good-listing g))
@@ -122,37 +123,34 @@ counts-are boxes rows arrows = refl
 
 -- ---- from the checks of the picture
 module _ {file boxes rows arrows : List ℕ} (s : List ℕ) (d : Read file (picture boxes rows arrows)) (len : 65536 ≡ length s) where
-  picture-is : pictureFault (picture boxes rows arrows) s ≡ pictureRefusal file
-  unfolding pictureRefusal
+  picture-is : pictureFault (picture boxes rows arrows) s ≡ pictureFault (pictureOf file) (zeros 65536)
   picture-is = picture-room boxes rows arrows s (zeros 65536) (sym len ∙ sym (zeros-length 65536)) ∙ rw (d .picture-is)
 
   pub picture-refused : (r : Refusal) {v : Verdict} → v ≡ verdictOf (pictureFault (picture boxes rows arrows) s) → v ≡ Refused r
       → fileRefusal file ≡ some r
   unfolding fileRefusal
-  picture-refused r told e = past (readRefusal file) (pictureRefusal file) (d .read) ∙ sym picture-is ∙ refused _ r (sym told ∙ e)
+  picture-refused r told e = past _ _ (d .read) ∙ sym picture-is ∙ refused _ r (sym told ∙ e)
 
   pub picture-good : {v : Verdict} → v ≡ verdictOf (pictureFault (picture boxes rows arrows) s) → v ≡ Passed
       → Good file (picture boxes rows arrows)
   unfolding fileRefusal
   picture-good told e = record {
     picture-is = d .picture-is;
-    right = past (readRefusal file) (pictureRefusal file) (d .read) ∙ sym picture-is ∙ passed _ (sym told ∙ e);
+    right = past _ _ (d .read) ∙ sym picture-is ∙ passed _ (sym told ∙ e);
   }
 
 -- ---- from reading
 module _ (file boxes rows arrows boxesEnd rowsEnd arrowsEnd : List ℕ)
     (nb : 256 ≡ length boxes) (nr : 2048 ≡ length rows) (na : 2048 ≡ length arrows) where
-  fault-is : readFault file (length boxes) (length rows) (length arrows) ≡ readRefusal file
-  unfolding readRefusal
+  fault-is : readFault file (length boxes) (length rows) (length arrows) ≡ readFault file 256 2048 2048
   fault-is = rw (← nb, ← nr, ← na)
 
   pub read-refused : {r : Refusal} → ReadDone file boxes rows arrows boxesEnd rowsEnd arrowsEnd (Stops r) → fileRefusal file ≡ some r
   unfolding fileRefusal
-  read-refused d = stop (readRefusal file) (pictureRefusal file) (sym fault-is ∙ read-stopped d)
+  read-refused d = stop _ _ (sym fault-is ∙ read-stopped d)
 
   pub read-good : {c : Three} → ReadDone file boxes rows arrows boxesEnd rowsEnd arrowsEnd (Tables c)
       → Read file (picture (take (c .boxes) boxesEnd) (take (2 * c .containments) rowsEnd) (take (4 * c .arrows) arrowsEnd))
-  unfolding filePicture
   read-good d =
       let read = read-tables d in
       record { picture-is = rw (read .boxes-read, read .rows-read, read .arrows-read); read = sym fault-is ∙ read .no-fault }

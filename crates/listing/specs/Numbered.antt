@@ -14,9 +14,10 @@ use Rattle.tables.specs.declared.Verdict.{Verdict}
 use Rattle.meaning.specs.Meaning.{isUnclear}
 use Rattle.meaning.specs.Pairs.{users, files, pairs, userAt, fileAt, answerAt, anyUnclear}
 use Rattle.blocks.specs.Blocks.{joined}
+use Rattle.blocks.specs.Files.{pictureOf}
 use Rattle.lines.specs.Lines.{lineText}
 use Rattle.listing.specs.Listing.{used, countsLine, pairLine}
-use Rattle.listing.specs.Files.{filePicture, fileRefusal}
+use Rattle.listing.specs.Files.{fileRefusal}
 use Rattle.lines.specs.declared.Line.{Line}
 use Rattle.lines.specs.declared.Line.the-variants.{Last, Stopped}
 
@@ -77,7 +78,7 @@ oneOr none n = n
 oneOr (some r) n = 1
 
 unfoldable pub fileLineCount : (file : List ℕ) → ℕ
-fileLineCount file = oneOr (fileRefusal file) (lineCount (filePicture file))
+fileLineCount file = oneOr (fileRefusal file) (lineCount (pictureOf file))
 
 unfoldable pub fileLine : (file : List ℕ) (i : ℕ) → Line
-fileLine file i = stoppedOr (fileRefusal file) (lineAt (filePicture file) i)
+fileLine file i = stoppedOr (fileRefusal file) (lineAt (pictureOf file) i)

@@ -14,9 +14,11 @@ use Rattle.boxsets.specs.Sets.{Boxes}
 use Rattle.mode_sets.specs.Steps.{Small}
 use Rattle.certificates.specs.Steps.{Drawn}
 use Rattle.blocks.specs.Blocks.{joined}
+use Rattle.blocks.specs.Files.{pictureOf}
+use Rattle.blocks.specs.Reads.{readFault}
 use Rattle.lines.specs.Lines.{lineText}
 use Rattle.lines.specs.Steps.{Put, Holds}
-use Rattle.listing.specs.Files.{filePicture, readRefusal, fileRefusal}
+use Rattle.listing.specs.Files.{fileRefusal}
 use Rattle.listing.specs.Numbered.{usedModes, lineRows, rowStart, seenBefore, lineAt, linesFrom}
 use Rattle.lines.specs.declared.Line.{Line}
 use Rattle.lines.specs.declared.Line.the-variants.{Pair}
@@ -87,10 +89,10 @@ module _ (pic : Picture) where
 
 -- the picture is what the file says, and reading found nothing wrong
 pub record Read (file : List ℕ) (pic : Picture) : Type 0 where
-  pub picture-is : pic ≡ filePicture file
-  pub read : readRefusal file ≡ none
+  pub picture-is : pic ≡ pictureOf file
+  pub read : readFault file 256 2048 2048 ≡ none
 
 -- and the checks of the picture found nothing either
 pub record Good (file : List ℕ) (pic : Picture) : Type 0 where
-  pub picture-is : pic ≡ filePicture file
+  pub picture-is : pic ≡ pictureOf file
   pub right : fileRefusal file ≡ none

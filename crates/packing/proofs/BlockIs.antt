@@ -8,7 +8,8 @@ use lib.Seq.{take-take, take-add, drop-drop, drop-cons, drop-length}
 use Rattle.base.specs.Buffers.{zeros}
 use Rattle.tables.specs.Rows.{Picture, rowAt, arrowAt}
 use Rattle.blocks.specs.Fnv.{fnv1a}
-use Rattle.blocks.specs.Blocks.{number16, number32, headOf, recordSize, joined}
+use Rattle.blocks.specs.Blocks.{number16, headOf, recordSize, joined}
+use Rattle.blocks.specs.Steps.{number32}
 use Rattle.blocks.specs.declared.Head.{Head}
 use Rattle.blocks.proofs.Made.{joined-same}
 use Rattle.blocks.proofs.MadeBlocks.{number16-is, number32-is, headMade}

@@ -9,10 +9,11 @@ use lib.Seq.{take-at, drop-at, drop-append-add, getD-append-add}
 use Rattle.base.specs.Buffers.{zeros}
 use Rattle.tables.specs.Rows.{Picture, rowAt, arrowAt}
 use Rattle.blocks.specs.Fnv.{fnv1a}
-use Rattle.blocks.specs.Blocks.{number16, number32, headOf, capacity, recordSize, joined, boxesSaid, containmentsSaid, arrowsSaid, blockFault}
+use Rattle.blocks.specs.Blocks.{number16, headOf, capacity, recordSize, joined, said, blockFault}
+use Rattle.blocks.specs.Steps.{number32}
 use Rattle.blocks.proofs.Placing.{joined-length}
 use Rattle.blocks.proofs.MadeBlocks.{record-sizes, number16-is, number32-is, headMade, head-made, RecordIs, block-passed}
-use Rattle.blocks.proofs.MadeBlocks.{box-row, containment-row, arrow-row, boxes-are, containments-are, arrows-are}
+use Rattle.blocks.proofs.MadeBlocks.{box-row, containment-row, arrow-row, rows-are}
 use Rattle.packing.specs.Packed.{bytes16, bytes32, boxBytes, containmentBytes, arrowBytes, headBytes, covered, blockOf}
 use Rattle.packing.specs.Packed.{recordBytes, firstOf, countIn, kindBlock}
 use Rattle.packing.proofs.Chunks.{joined-at}
@@ -127,18 +128,18 @@ module _ (pic : Picture) where
       (number16-is r 0 ∙ two-bytes (arrowAt (pic .arrows) i .tail)) (number16-is r 2 ∙ two-bytes (arrowAt (pic .arrows) i .head))
       ∙ rw (m, s)
 
-  pub boxes-said : (k : ℕ) → boxesSaid (kindBlock pic 1 k)
+  pub boxes-said : (k : ℕ) → said 1 (kindBlock pic 1 k)
       ≡ joined (λ j. getD (pic .boxes) (capacity 1 * k + j) 0 ∷ []) (countIn pic 1 k)
   boxes-said k =
-      boxes-are _ _ _ _ (kind-head 1 (omega arith) (omega arith) k)
+      rows-are _ 1 _ _ (kind-head 1 (omega arith) (omega arith) k) _
       (λ j l.
       box-row _ j (recordBytes pic 1 (capacity 1 * k + j)) (rw (record-sizes .0) at (kind-record 1 (omega arith) (omega arith) k j l))
       ∙ box-bytes (capacity 1 * k + j))
 
-  pub containments-said : (k : ℕ) → containmentsSaid (kindBlock pic 2 k)
+  pub containments-said : (k : ℕ) → said 2 (kindBlock pic 2 k)
       ≡ joined (λ j. rowAt (pic .rows) (capacity 2 * k + j) .outer ∷ rowAt (pic .rows) (capacity 2 * k + j) .inner ∷ []) (countIn pic 2 k)
   containments-said k =
-      containments-are _ _ _ _ (kind-head 2 (omega arith) (omega arith) k)
+      rows-are _ 2 _ _ (kind-head 2 (omega arith) (omega arith) k) _
       (λ j l.
       containment-row _ j _ (rw (record-sizes .1) at (kind-record 2 (omega arith) (omega arith) k j l))
       ∙ containment-bytes (capacity 2 * k + j))
@@ -147,11 +148,11 @@ module _ (pic : Picture) where
   pub arrows-said : (k : ℕ)
       → ((j : ℕ) → j < countIn pic 3 k
       → (arrowAt (pic .arrows) (capacity 3 * k + j) .mode ≤ 7) × (arrowAt (pic .arrows) (capacity 3 * k + j) .sign ≤ 1))
-      → arrowsSaid (kindBlock pic 3 k)
+      → said 3 (kindBlock pic 3 k)
       ≡ joined (λ j. arrowAt (pic .arrows) (capacity 3 * k + j) .tail ∷ arrowAt (pic .arrows) (capacity 3 * k + j) .head
       ∷ arrowAt (pic .arrows) (capacity 3 * k + j) .mode ∷ arrowAt (pic .arrows) (capacity 3 * k + j) .sign ∷ []) (countIn pic 3 k)
   arrows-said k small =
-      arrows-are _ _ _ _ (kind-head 3 (omega arith) (omega arith) k)
+      rows-are _ 3 _ _ (kind-head 3 (omega arith) (omega arith) k) _
       (λ j l.
       arrow-row _ j _ (rw (record-sizes .2) at (kind-record 3 (omega arith) (omega arith) k j l))
       ∙ arrow-bytes (capacity 3 * k + j) (small j l .0) (small j l .1))

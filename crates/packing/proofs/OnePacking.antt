@@ -14,15 +14,15 @@ use lib.ListN.{length, getD}
 use Rattle.tables.specs.Rows.{Picture}
 use Rattle.tables.specs.Faults.{tableFault}
 use Rattle.blocks.specs.Blocks.{joined}
-use Rattle.blocks.specs.Files.{blockAt, blockCount, fileFault, boxesOf, containmentsOf, arrowsOf}
+use Rattle.blocks.specs.Files.{blockCount, blockAt, fileFault, tableOf, pictureOf}
 use Rattle.blocks.proofs.Made.{joined-same, made-of-blocks, good-whole}
 use Rattle.blocks.proofs.MadeBlocks.{capacities}
 use Rattle.blocks.proofs.GoodBlocks.{file-some}
 use Rattle.packing.specs.Packed.{blocksFor, recordBytes, rowsOf, blocksOf, firstOf, kindBlock, kindBytes, packed}
-use Rattle.packing.specs.Regular.{kindAt, countAt, Regular, pictureOf, RegularPacking}
+use Rattle.packing.specs.Regular.{kindAt, countAt, Regular, RegularPacking}
 use Rattle.packing.proofs.Chunks.{joined-add}
 use Rattle.packing.proofs.Regular.{blocks-are, rows-by-kind, blocks-by-kind, first-by-kind}
-use Rattle.packing.proofs.ReadBack.{packed-good, packed-boxes, packed-containments, packed-arrows}
+use Rattle.packing.proofs.ReadBack.{packed-good, packed-picture}
 use Rattle.packing.proofs.PackedRegular.{packed-regular}
 use Rattle.packing.proofs.PackedBytes.{packed-bytes}
 use Rattle.packing.proofs.Runs.{Runs}
@@ -104,26 +104,26 @@ module _ (file : List ℕ) (small : (i : ℕ) → getD file i 0 < 256) (good : f
   -- the runs are as long as in the packing
   blocks-1 : (m : ℕ) → 0 < m → Run file 1 0 m → blocksOf pic 1 ≡ m
   blocks-1 zero p run = absurd (omega arith)
-  blocks-1 (suc last) p run = rw (blocks-by-kind pic .0) (go (eqb (length (boxesOf file)) 0) refl)
+  blocks-1 (suc last) p run = rw (blocks-by-kind pic .0) (go (eqb (length (tableOf 1 file)) 0) refl)
     where
-      count : length (boxesOf file) ≡ 500 * last + countAt file (0 + last)
+      count : length (tableOf 1 file) ≡ 500 * last + countAt file (0 + last)
       count = rw (capacities .0) at (box-rows file small good regular 0 (suc last) run .row-count last refl)
 
-      filled : (x : ℕ) → last ≡ x → (length (boxesOf file) ≡ 0 → ⊥) → 0 < countAt file (0 + last)
+      filled : (x : ℕ) → last ≡ x → (length (tableOf 1 file) ≡ 0 → ⊥) → 0 < countAt file (0 + last)
       filled zero e p = let c = count in omega arith
       filled (suc x) e p = run-some file good regular 1 0 (suc last) run last (omega arith) (omega arith)
 
       fits : countAt file (0 + last) ≤ 500
       fits = rw (capacities .0) at (run-good file good regular 1 0 (suc last) run last (omega arith) .fits)
 
-      go : (t : Bool) → eqb (length (boxesOf file)) 0 ≡ t → cond t 1 (blocksFor 500 (length (boxesOf file))) ≡ suc last
+      go : (t : Bool) → eqb (length (tableOf 1 file)) 0 ≡ t → cond t 1 (blocksFor 500 (length (tableOf 1 file))) ≡ suc last
       go true e =
-          let z = eqb-true (length (boxesOf file)) 0 e in
+          let z = eqb-true (length (tableOf 1 file)) 0 e in
           let c = count in
           omega arith
       go false e =
-          blocks-some 500 (length (boxesOf file)) (omega arith) last (countAt file (0 + last)) count
-          (filled last refl (eqb-false (length (boxesOf file)) 0 e)) fits
+          blocks-some 500 (length (tableOf 1 file)) (omega arith) last (countAt file (0 + last)) count
+          (filled last refl (eqb-false (length (tableOf 1 file)) 0 e)) fits
 
   blocks-2 : (from m : ℕ) → 0 < from → Run file 2 from m → blocksOf pic 2 ≡ m
   blocks-2 from zero p run =
@@ -187,20 +187,18 @@ one-packing file small good regular = packed-same file small good regular (file-
 
 -- so no other says them
 pub only-packing : (pic : Picture) (file : List ℕ) → ((i : ℕ) → getD file i 0 < 256) → fileFault file ≡ none → Regular file
-    → boxesOf file ≡ pic .boxes → containmentsOf file ≡ pic .rows → arrowsOf file ≡ pic .arrows → file ≡ packed pic
-only-packing pic file small good regular b r a = sym (one-packing file small good regular) ∙ rw (b, r, a)
+    → pictureOf file ≡ pic → file ≡ packed pic
+only-packing pic file small good regular e = sym (one-packing file small good regular) ∙ ap packed e
 
 -- P1, both ways: the regular packing of a picture that checks 1 to 7 pass is its packed file, and nothing else
 pub regular-packing : (pic : Picture) → tableFault pic ≡ none
     → (file : List ℕ) → RegularPacking pic file ↔ (file ≡ packed pic)
 regular-packing pic sound file = (
-  λ p. only-packing pic file (p .bytes) (p .good) (p .regular) (p .says-boxes) (p .says-containments) (p .says-arrows),
+  λ p. only-packing pic file (p .bytes) (p .good) (p .regular) (p .says),
   λ e. rw e (record {
     bytes = packed-bytes pic sound;
     good = packed-good pic sound;
     regular = packed-regular pic;
-    says-boxes = packed-boxes pic sound;
-    says-containments = packed-containments pic sound;
-    says-arrows = packed-arrows pic sound;
+    says = packed-picture pic sound;
   }),
 )

@@ -7,10 +7,11 @@ use native.Mathlib.Omega.{arith}
 use native.Mathlib.Nat.{zero-add, add-assoc}
 use lib.ListN.{length, getD}
 use Rattle.tables.specs.Rows.{Picture, rowCount, rowAt, arrowCount, arrowAt}
-use Rattle.blocks.specs.Blocks.{capacity, joined, boxesSaid, containmentsSaid, arrowsSaid}
-use Rattle.blocks.specs.Files.{kindBefore, blocksFault, boxesIn, containmentsIn, arrowsIn}
+use Rattle.blocks.specs.Blocks.{capacity, joined, said}
+use Rattle.blocks.specs.Files.{kindBefore, blocksFault}
+use Rattle.blocks.specs.Steps.{tableIn}
 use Rattle.blocks.proofs.Made.{joined-same}
-use Rattle.blocks.proofs.MadeBlocks.{no-boxes, no-containments, no-arrows, none-before, run-more, boxes-in, containments-in, arrows-in}
+use Rattle.blocks.proofs.MadeBlocks.{no-rows, none-before, run-more}
 use Rattle.packing.specs.Packed.{rowsOf, blocksOf, firstOf, countIn, kindBlock, kindBytes, packed}
 use Rattle.packing.proofs.Chunks.{joined-empty, glue, glue-low, glue-high, glue-each, joined-glue, joined-all, boxes-joined, containments-joined, arrows-joined}
 use Rattle.packing.proofs.Lengths.{least-most, kind-block-length}
@@ -90,18 +91,18 @@ module _ (pic : Picture) where
   -- ---- what the blocks say
 
   -- nothing of other kinds
-  other-boxes : (kind : ℕ) → 2 ≤ kind → kind ≤ 3 → (n : ℕ) → joined (λ k. boxesSaid (kindBlock pic kind k)) n ≡ []
+  other-boxes : (kind : ℕ) → 2 ≤ kind → kind ≤ 3 → (n : ℕ) → joined (λ k. said 1 (kindBlock pic kind k)) n ≡ []
   other-boxes kind low high n =
-      joined-empty _ n (λ k h. no-boxes _ _ _ _ (kind-head pic kind (omega arith) high k) (λ e. omega arith))
+      joined-empty _ n (λ k h. no-rows _ _ _ _ (kind-head pic kind (omega arith) high k) 1 (λ e. omega arith))
 
-  pub boxes-packed : boxesIn blocks blocksAll ≡ pic .boxes
+  pub boxes-packed : tableIn 1 blocks blocksAll ≡ pic .boxes
   unfolding countIn
   boxes-packed =
-      boxes-in blocks blocksAll ∙ by-kind boxesSaid
+      by-kind (said 1)
       ∙ ap₂ _++_ own (ap₂ _++_ (other-boxes 2 (omega arith) (omega arith) _) (other-boxes 3 (omega arith) (omega arith) _))
       ∙ append-nil (pic .boxes)
     where
-      own : joined (λ k. boxesSaid (kindBlock pic 1 k)) (blocksOf pic 1) ≡ pic .boxes
+      own : joined (λ k. said 1 (kindBlock pic 1 k)) (blocksOf pic 1) ≡ pic .boxes
       own =
           joined-same _ _ _ (λ k h. boxes-said pic k)
           ∙ joined-all (λ i. getD (pic .boxes) i 0 ∷ []) (capacity 1) (rowsOf pic 1) _ (all-packed pic 1 (omega arith) (omega arith))
@@ -109,19 +110,19 @@ module _ (pic : Picture) where
           ∙ boxes-joined (pic .boxes)
 
   other-containments : (kind : ℕ) → 1 ≤ kind → kind ≤ 3 → (kind ≡ 2 → ⊥) → (n : ℕ)
-      → joined (λ k. containmentsSaid (kindBlock pic kind k)) n ≡ []
+      → joined (λ k. said 2 (kindBlock pic kind k)) n ≡ []
   other-containments kind low high not n =
-      joined-empty _ n (λ k h. no-containments _ _ _ _ (kind-head pic kind low high k) not)
+      joined-empty _ n (λ k h. no-rows _ _ _ _ (kind-head pic kind low high k) 2 not)
 
-  pub containments-packed : length (pic .rows) % 2 ≡ 0 → containmentsIn blocks blocksAll ≡ pic .rows
+  pub containments-packed : length (pic .rows) % 2 ≡ 0 → tableIn 2 blocks blocksAll ≡ pic .rows
   unfolding countIn
   containments-packed whole =
-      containments-in blocks blocksAll ∙ by-kind containmentsSaid
+      by-kind (said 2)
       ∙ ap₂ _++_ (other-containments 1 (omega arith) (omega arith) (λ e. omega arith) _)
       (ap₂ _++_ own (other-containments 3 (omega arith) (omega arith) (λ e. omega arith) _))
       ∙ append-nil (pic .rows)
     where
-      own : joined (λ k. containmentsSaid (kindBlock pic 2 k)) (blocksOf pic 2) ≡ pic .rows
+      own : joined (λ k. said 2 (kindBlock pic 2 k)) (blocksOf pic 2) ≡ pic .rows
       own =
           let row : ℕ → List ℕ = λ i. rowAt (pic .rows) i .outer ∷ rowAt (pic .rows) i .inner ∷ [] in
           joined-same _ _ _ (λ k h. containments-said pic k)
@@ -129,9 +130,9 @@ module _ (pic : Picture) where
           ∙ ap (joined row) (rows-by-kind pic .1)
           ∙ containments-joined (pic .rows) whole
 
-  other-arrows : (kind : ℕ) → 1 ≤ kind → kind ≤ 2 → (n : ℕ) → joined (λ k. arrowsSaid (kindBlock pic kind k)) n ≡ []
+  other-arrows : (kind : ℕ) → 1 ≤ kind → kind ≤ 2 → (n : ℕ) → joined (λ k. said 3 (kindBlock pic kind k)) n ≡ []
   other-arrows kind low high n =
-      joined-empty _ n (λ k h. no-arrows _ _ _ _ (kind-head pic kind low (omega arith) k) (λ e. omega arith))
+      joined-empty _ n (λ k h. no-rows _ _ _ _ (kind-head pic kind low (omega arith) k) 3 (λ e. omega arith))
 
   -- a row of a block is one of the table
   row-there : (k j : ℕ) → j < countIn pic 3 k → capacity 3 * k + j < arrowCount (pic .arrows)
@@ -142,7 +143,7 @@ module _ (pic : Picture) where
 
   module _ (whole : length (pic .arrows) % 4 ≡ 0) (modes : (i : ℕ) → i < arrowCount (pic .arrows) → arrowAt (pic .arrows) i .mode ≤ 7)
       (signs : (i : ℕ) → i < arrowCount (pic .arrows) → arrowAt (pic .arrows) i .sign ≤ 1) where
-    own-arrows : joined (λ k. arrowsSaid (kindBlock pic 3 k)) (blocksOf pic 3) ≡ pic .arrows
+    own-arrows : joined (λ k. said 3 (kindBlock pic 3 k)) (blocksOf pic 3) ≡ pic .arrows
     unfolding countIn
     own-arrows =
         let row : ℕ → List ℕ = λ i. let a = arrowAt (pic .arrows) i in a .tail ∷ a .head ∷ a .mode ∷ a .sign ∷ [] in
@@ -152,9 +153,9 @@ module _ (pic : Picture) where
         ∙ ap (joined row) (rows-by-kind pic .2)
         ∙ arrows-joined (pic .arrows) whole
 
-    pub arrows-packed : arrowsIn blocks blocksAll ≡ pic .arrows
+    pub arrows-packed : tableIn 3 blocks blocksAll ≡ pic .arrows
     arrows-packed =
-        arrows-in blocks blocksAll ∙ by-kind arrowsSaid
+        by-kind (said 3)
         ∙ ap₂ _++_ (other-arrows 1 (omega arith) (omega arith) _) (ap₂ _++_ (other-arrows 2 (omega arith) (omega arith) _) own-arrows)
 
   -- few rows fill few blocks, and there is one

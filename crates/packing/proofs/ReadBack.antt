@@ -10,12 +10,13 @@ use Rattle.base.specs.Buffers.{written}
 use Rattle.tables.specs.Rows.{Picture, rowCount, arrowCount}
 use Rattle.tables.specs.Faults.{tableFault}
 use Rattle.tables.proofs.TableLaws.{room-enough, counts-few, sound-rows, sound-arrows}
-use Rattle.blocks.specs.Files.{fileFault, containmentsIn, arrowsIn, boxesOf, containmentsOf, arrowsOf}
-use Rattle.blocks.specs.Reads.{countsOf, readFault, ReadDone}
+use Rattle.blocks.specs.Files.{fileFault, tableOf, pictureOf}
+use Rattle.blocks.specs.Reads.{readFault, ReadDone}
+use Rattle.blocks.specs.Steps.{tableIn, countsOf}
 use Rattle.blocks.specs.declared.Counts.{Counts}
 use Rattle.blocks.specs.declared.Reading.{Reading}
 use Rattle.blocks.specs.declared.Reading.the-variants.{Tables}
-use Rattle.blocks.proofs.Made.{made-boxes, made-containments, made-arrows, made-counts, made-good, made-read}
+use Rattle.blocks.proofs.Made.{made-table, made-counts, made-good, made-read}
 use Rattle.blocks.proofs.MadeBlocks.{counts-in, tables-passed}
 use Rattle.packing.specs.Packed.{packed}
 use Rattle.packing.proofs.PackedBlocks.{blocks, blocksAll, packed-is, blocks-whole, blocks-good, blocks-few, boxes-packed, containments-packed, arrows-packed}
@@ -26,10 +27,10 @@ module _ (pic : Picture) (sound : tableFault pic ≡ none) where
       let r = sound-rows _ _ _ sound in
       blocks-few pic (r .few-boxes) (r .few-rows) (sound-arrows _ _ _ sound .few-arrows)
 
-  rows-said : containmentsIn (blocks pic) (blocksAll pic) ≡ pic .rows
+  rows-said : tableIn 2 (blocks pic) (blocksAll pic) ≡ pic .rows
   rows-said = containments-packed pic (sound-rows _ _ _ sound .whole)
 
-  arrows-said : arrowsIn (blocks pic) (blocksAll pic) ≡ pic .arrows
+  arrows-said : tableIn 3 (blocks pic) (blocksAll pic) ≡ pic .arrows
   arrows-said =
       let a = sound-arrows _ _ _ sound in
       arrows-packed pic (a .whole) (a .mode-most) (a .sign-most)
@@ -41,14 +42,17 @@ module _ (pic : Picture) (sound : tableFault pic ≡ none) where
       (made-good (blocks pic) _ (blocks-whole pic) (few .0) (omega (arith, few .1)) (blocks-good pic))
 
   -- it says the picture's tables
-  pub packed-boxes : boxesOf (packed pic) ≡ pic .boxes
-  packed-boxes = rw packed-is (made-boxes _ _ (blocks-whole pic) ∙ boxes-packed pic)
+  pub packed-boxes : tableOf 1 (packed pic) ≡ pic .boxes
+  packed-boxes = rw packed-is (made-table _ _ (blocks-whole pic) 1 ∙ boxes-packed pic)
 
-  pub packed-containments : containmentsOf (packed pic) ≡ pic .rows
-  packed-containments = rw packed-is (made-containments _ _ (blocks-whole pic) ∙ rows-said)
+  pub packed-containments : tableOf 2 (packed pic) ≡ pic .rows
+  packed-containments = rw packed-is (made-table _ _ (blocks-whole pic) 2 ∙ rows-said)
 
-  pub packed-arrows : arrowsOf (packed pic) ≡ pic .arrows
-  packed-arrows = rw packed-is (made-arrows _ _ (blocks-whole pic) ∙ arrows-said)
+  pub packed-arrows : tableOf 3 (packed pic) ≡ pic .arrows
+  packed-arrows = rw packed-is (made-table _ _ (blocks-whole pic) 3 ∙ arrows-said)
+
+  pub packed-picture : pictureOf (packed pic) ≡ pic
+  packed-picture = rw (packed-boxes, packed-containments, packed-arrows)
 
   pub packed-counts : countsOf (packed pic)
       ≡ record { boxes = length (pic .boxes); containments = rowCount (pic .rows); arrows = arrowCount (pic .arrows) }
@@ -88,7 +92,7 @@ module _ (pic : Picture) (sound : tableFault pic ≡ none) where
 pub same-bytes : (pic other : Picture) → tableFault pic ≡ none → tableFault other ≡ none → packed pic ≡ packed other
     → (pic .boxes ≡ other .boxes) × (pic .rows ≡ other .rows) × (pic .arrows ≡ other .arrows)
 same-bytes pic other s s' e = (
-  sym (packed-boxes pic s) ∙ ap boxesOf e ∙ packed-boxes other s',
-  sym (packed-containments pic s) ∙ ap containmentsOf e ∙ packed-containments other s',
-  sym (packed-arrows pic s) ∙ ap arrowsOf e ∙ packed-arrows other s',
+  sym (packed-boxes pic s) ∙ ap (tableOf 1) e ∙ packed-boxes other s',
+  sym (packed-containments pic s) ∙ ap (tableOf 2) e ∙ packed-containments other s',
+  sym (packed-arrows pic s) ∙ ap (tableOf 3) e ∙ packed-arrows other s',
 )

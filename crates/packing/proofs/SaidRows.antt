@@ -8,13 +8,13 @@ use native.Mathlib.Omega.{arith}
 use native.Mathlib.Nat.{add-zero}
 use lib.ListN.{length, getD}
 use Rattle.tables.specs.Rows.{rowCount, arrowCount}
-use Rattle.blocks.specs.Blocks.{number16, capacity, recordSize, boxesSaid, containmentsSaid, arrowsSaid}
-use Rattle.blocks.specs.Files.{blockAt, fileFault, boxesOf, containmentsOf, arrowsOf}
-use Rattle.blocks.proofs.MadeBlocks.{capacities, record-sizes, no-boxes, no-containments, no-arrows}
-use Rattle.blocks.proofs.MadeBlocks.{boxes-are, containments-are, arrows-are, boxes-in, containments-in, arrows-in}
-use Rattle.blocks.proofs.GoodBlocks.{box-row-is, containment-row-is, arrow-row-is, block-whole, block-bytes, file-block}
+use Rattle.blocks.specs.Blocks.{number16, capacity, recordSize, said}
+use Rattle.blocks.specs.Files.{blockAt, fileFault, tableOf, pictureOf}
+use Rattle.blocks.proofs.MadeBlocks.{capacities, record-sizes, no-rows, rows-are}
+use Rattle.blocks.proofs.RowLaws.{box-row-is, containment-row-is, arrow-row-is}
+use Rattle.blocks.proofs.GoodBlocks.{block-whole, block-bytes, file-block}
 use Rattle.packing.specs.Packed.{recordBytes}
-use Rattle.packing.specs.Regular.{countAt, Regular, pictureOf}
+use Rattle.packing.specs.Regular.{countAt, Regular}
 use Rattle.packing.proofs.BlockIs.{recordIn, box-record, containment-record, arrow-record}
 use Rattle.packing.proofs.KindRuns.{Run, Said, table-run, head-of, run-good, table-said}
 
@@ -42,15 +42,15 @@ module _ (file : List ℕ) (small : (i : ℕ) → getD file i 0 < 256) (good : f
   -- ---- boxes
 
   module _ (from m : ℕ) (run : Run file 1 from m) where
-    boxes-run : Said file 1 from m 1 boxAt (boxesOf file)
+    boxes-run : Said file 1 from m 1 boxAt (tableOf 1 file)
     unfolding boxAt
     boxes-run =
-        table-said file good regular 1 from m run boxesSaid boxAt 1 (boxesOf file)
-        (boxes-in _ _ ∙ table-run file boxesSaid 1 from m run (λ k h other. no-boxes _ _ _ _ (file-block file good k h .head) other))
-        (λ k h e. boxes-are _ k _ _ (head-of file good 1 k h e) (λ j l. box-row-is _ j))
+        table-said file good regular 1 from m run (said 1) boxAt 1 (tableOf 1 file)
+        (table-run file (said 1) 1 from m run (λ k h other. no-rows _ _ _ _ (file-block file good k h .head) 1 other))
+        (λ k h e. rows-are _ 1 k _ (head-of file good 1 k h e) _ (λ j l. box-row-is _ j))
         (λ b j. refl)
 
-    pub box-rows : RunRows file 1 from m (length (boxesOf file)) (records 1)
+    pub box-rows : RunRows file 1 from m (length (tableOf 1 file)) (records 1)
     unfolding boxAt
     box-rows = record {
       no-rows = λ e. ap length (boxes-run .no-rows e);
@@ -67,21 +67,20 @@ module _ (file : List ℕ) (small : (i : ℕ) → getD file i 0 < 256) (good : f
   -- ---- containments
 
   module _ (from m : ℕ) (run : Run file 2 from m) where
-    containments-run : Said file 2 from m 2 containmentAt (containmentsOf file)
+    containments-run : Said file 2 from m 2 containmentAt (tableOf 2 file)
     unfolding containmentAt
     containments-run =
-        table-said file good regular 2 from m run containmentsSaid containmentAt 2 (containmentsOf file)
-        (containments-in _ _
-        ∙ table-run file containmentsSaid 2 from m run (λ k h other. no-containments _ _ _ _ (file-block file good k h .head) other))
-        (λ k h e. containments-are _ k _ _ (head-of file good 2 k h e) (λ j l. containment-row-is _ j))
+        table-said file good regular 2 from m run (said 2) containmentAt 2 (tableOf 2 file)
+        (table-run file (said 2) 2 from m run (λ k h other. no-rows _ _ _ _ (file-block file good k h .head) 2 other))
+        (λ k h e. rows-are _ 2 k _ (head-of file good 2 k h e) _ (λ j l. containment-row-is _ j))
         (λ b j. refl)
 
-    pub containment-rows : RunRows file 2 from m (rowCount (containmentsOf file)) (records 2)
+    pub containment-rows : RunRows file 2 from m (rowCount (tableOf 2 file)) (records 2)
     unfolding containmentAt
     containment-rows = record {
       no-rows = λ e. ap (λ (x : List ℕ). length x / 2) (containments-run .no-rows e);
       row-count = λ last e.
-          let l : length (containmentsOf file) ≡ 2 * 125 * last + 2 * countAt file (from + last)
+          let l : length (tableOf 2 file) ≡ 2 * 125 * last + 2 * countAt file (from + last)
           = rw (capacities .1) at (containments-run .table-length last e) in
           rw (capacities .1) (omega arith);
       row-records = λ j i h l.
@@ -96,20 +95,20 @@ module _ (file : List ℕ) (small : (i : ℕ) → getD file i 0 < 256) (good : f
   -- ---- arrows
 
   module _ (from m : ℕ) (run : Run file 3 from m) where
-    arrows-run : Said file 3 from m 4 arrowRowAt (arrowsOf file)
+    arrows-run : Said file 3 from m 4 arrowRowAt (tableOf 3 file)
     unfolding arrowRowAt
     arrows-run =
-        table-said file good regular 3 from m run arrowsSaid arrowRowAt 4 (arrowsOf file)
-        (arrows-in _ _ ∙ table-run file arrowsSaid 3 from m run (λ k h other. no-arrows _ _ _ _ (file-block file good k h .head) other))
-        (λ k h e. arrows-are _ k _ _ (head-of file good 3 k h e) (λ j l. arrow-row-is _ j))
+        table-said file good regular 3 from m run (said 3) arrowRowAt 4 (tableOf 3 file)
+        (table-run file (said 3) 3 from m run (λ k h other. no-rows _ _ _ _ (file-block file good k h .head) 3 other))
+        (λ k h e. rows-are _ 3 k _ (head-of file good 3 k h e) _ (λ j l. arrow-row-is _ j))
         (λ b j. refl)
 
-    pub arrow-rows : RunRows file 3 from m (arrowCount (arrowsOf file)) (records 3)
+    pub arrow-rows : RunRows file 3 from m (arrowCount (tableOf 3 file)) (records 3)
     unfolding arrowRowAt
     arrow-rows = record {
       no-rows = λ e. ap (λ (x : List ℕ). length x / 4) (arrows-run .no-rows e);
       row-count = λ last e.
-          let l : length (arrowsOf file) ≡ 4 * 83 * last + 4 * countAt file (from + last)
+          let l : length (tableOf 3 file) ≡ 4 * 83 * last + 4 * countAt file (from + last)
           = rw (capacities .2) at (arrows-run .table-length last e) in
           rw (capacities .2) (omega arith);
       row-records = λ j i h l.

@@ -6,7 +6,7 @@ use Prim.Native.Nat.{ℕ}
 use lib.ListN.{length}
 use Rattle.base.specs.Buffers.{zeros}
 use Rattle.tables.specs.Rows.{Picture}
-use Rattle.blocks.specs.Fnv.{fnvStart, fnvStep, fnvFold, fnv1a}
+use Rattle.blocks.specs.Fnv.{fnvFold, fnv1a}
 use Rattle.blocks.specs.Blocks.{byKind, capacity, recordSize, joined}
 use Rattle.packing.specs.Packed.{bytes16, bytes32, boxBytes, containmentBytes, arrowBytes}
 use Rattle.packing.specs.Packed.{headBytes, covered, blockOf, least, blocksFor}
@@ -47,12 +47,12 @@ lengths = length (packed (picture-of 250 332)) ∷ length (packed (picture-of 25
 
 pub packed-right : (packed picture-A ≡ bytes-A) × (packed picture-B ≡ bytes-B)
 unfolding
-    zeros fnvStart fnvStep fnvFold fnv1a byKind capacity recordSize joined bytes16 bytes32 boxBytes containmentBytes arrowBytes headBytes
+    zeros fnvFold fnv1a byKind capacity recordSize joined bytes16 bytes32 boxBytes containmentBytes arrowBytes headBytes
     covered blockOf least blocksFor rowsOf recordBytes blocksOf firstOf countIn kindBlock kindBytes packed bytes-A bytes-B
 packed-right = (refl, refl)
 
 pub lengths-right : lengths ≡ 1536 ∷ 2560 ∷ []
 unfolding
-    lengths zeros fnvStart fnvStep fnvFold fnv1a byKind capacity recordSize joined bytes16 bytes32 boxBytes containmentBytes
+    lengths zeros fnvFold fnv1a byKind capacity recordSize joined bytes16 bytes32 boxBytes containmentBytes
     arrowBytes headBytes covered blockOf least blocksFor rowsOf recordBytes blocksOf firstOf countIn kindBlock kindBytes packed
 lengths-right = refl

@@ -5,9 +5,9 @@ use mathlib.Core.List.{List}
 use mathlib.Core.Option.{none}
 use Prim.Native.Nat.{ℕ, _<_}
 use lib.ListN.{getD}
-use Rattle.tables.specs.Rows.{Picture, picture}
+use Rattle.tables.specs.Rows.{Picture}
 use Rattle.blocks.specs.Blocks.{headOf, capacity}
-use Rattle.blocks.specs.Files.{blockAt, blockCount, fileFault, boxesOf, containmentsOf, arrowsOf}
+use Rattle.blocks.specs.Files.{blockCount, blockAt, fileFault, pictureOf}
 
 -- the kind and the record count of block k
 abbrev pub kindAt : (file : List ℕ) (k : ℕ) → ℕ
@@ -23,15 +23,9 @@ pub record Regular (file : List ℕ) : Type 0 where
   pub full-but-last : (k l : ℕ) → k < l → l < blockCount file → kindAt file k ≡ kindAt file l → countAt file k ≡ capacity (kindAt file k)
   pub none-empty : (k : ℕ) → 0 < k → k < blockCount file → 0 < countAt file k
 
--- the picture that a file says
-abbrev pub pictureOf : (file : List ℕ) → Picture
-pictureOf file = picture (boxesOf file) (containmentsOf file) (arrowsOf file)
-
--- a regular packing of a picture: a file of bytes that is good and regular and says the picture's tables
+-- a regular packing of a picture: a file of bytes that is good and regular and says the picture
 pub record RegularPacking (pic : Picture) (file : List ℕ) : Type 0 where
   pub bytes : (i : ℕ) → getD file i 0 < 256
   pub good : fileFault file ≡ none
   pub regular : Regular file
-  pub says-boxes : boxesOf file ≡ pic .boxes
-  pub says-containments : containmentsOf file ≡ pic .rows
-  pub says-arrows : arrowsOf file ≡ pic .arrows
+  pub says : pictureOf file ≡ pic

@@ -21,7 +21,7 @@ use Rattle.scratch.specs.Scratch.{earlyFault, pictureFault}
 use Rattle.containment.specs.Steps.{Closure}
 use Rattle.scratch.proofs.PictureLaws.{early-prepared, picture-prepared, picture-clear, picture-stages}
 use Rattle.certificates.specs.Steps.{Drawn}
-use Rattle.listing.specs.Files.{filePicture}
+use Rattle.blocks.specs.Files.{pictureOf}
 use Rattle.listing.specs.Steps.{Prepared, Good}
 
 -- the atomic boxes of a side, at the start of a buffer of 256
@@ -40,7 +40,7 @@ module _ {boxes rows old out : List ℕ} {count : ℕ} (side : ℕ) (sound : Sou
 
 -- with them the picture of the file is ready to be listed
 pub ready : {file′ boxes rows arrows closure us fs : List ℕ} → Good file′ (picture boxes rows arrows) → Drawn (picture boxes rows arrows) closure
-    → us ≡ atoms boxes rows user → fs ≡ atoms boxes rows file → Prepared (filePicture file′) closure arrows us fs
+    → us ≡ atoms boxes rows user → fs ≡ atoms boxes rows file → Prepared (pictureOf file′) closure arrows us fs
 ready g d eu ef = rw (← g .picture-is) (record { drawn = d; arrows-are = refl; users-are = eu; files-are = ef })
 
 -- the stages of the checks

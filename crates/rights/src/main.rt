@@ -7,7 +7,8 @@ ghost use Prim.Native.Nat.{_*_, _≤_};
 ghost use lib.ListN.{length, take};
 ghost use Rattle.tables.specs.Rows.{picture, arrowCount};
 ghost use Rattle.certificates.specs.Steps.{Drawn};
-ghost use Rattle.listing.specs.Files.{filePicture, fileRefusal};
+ghost use Rattle.blocks.specs.Files.{pictureOf};
+ghost use Rattle.listing.specs.Files.{fileRefusal};
 ghost use Rattle.listing.specs.Listing.{countsLine};
 ghost use Rattle.listing.specs.Numbered.{fileLineCount, fileLine, linesFrom};
 ghost use Rattle.listing.specs.Steps.{Prepared, Read, Good};
@@ -91,9 +92,9 @@ struct Reached {
 
 // The pair lines, a buffer of whole rows at a time.
 fn send_rows(file: &[u8], closure: &[u64], arrows: &[u16], users: &[u16], files: &[u16]) -> Reached
-    requires { ⌜ Good (now file) (filePicture (now file)) ⌝ }
-    requires { ⌜ Prepared (filePicture (now file)) (now closure) (now arrows) (now users) (now files) ⌝ }
-    ensures { λ r. ⌜ RowsSent (filePicture (now (file .entry))) r ⌝ }
+    requires { ⌜ Good (now file) (pictureOf (now file)) ⌝ }
+    requires { ⌜ Prepared (pictureOf (now file)) (now closure) (now arrows) (now users) (now files) ⌝ }
+    ensures { λ r. ⌜ RowsSent (pictureOf (now (file .entry))) r ⌝ }
 {
     let mut out = io::large_buffer();
     let mut place = listing::start(arrows);
@@ -126,9 +127,9 @@ fn send_lines(
     users: &[u16],
     files: &[u16],
 ) -> Sent
-    requires { ⌜ Good (now file) (filePicture (now file)) ⌝ }
-    requires { ⌜ Prepared (filePicture (now file)) (now closure) (now arrows) (now users) (now files) ⌝ }
-    requires { ⌜ countsLine (filePicture (now file)) ≡ CountsLine boxes rows (arrowCount (now arrows)) ⌝ }
+    requires { ⌜ Good (now file) (pictureOf (now file)) ⌝ }
+    requires { ⌜ Prepared (pictureOf (now file)) (now closure) (now arrows) (now users) (now files) ⌝ }
+    requires { ⌜ countsLine (pictureOf (now file)) ≡ CountsLine boxes rows (arrowCount (now arrows)) ⌝ }
     ensures { λ s. ⌜ SentAll (fileLineCount (now (file .entry))) s ⌝ }
 {
     let mut out = io::buffer();

@@ -2,7 +2,7 @@
 use mathlib.Core.Path.{_≡_}
 use Prim.Native.Nat.{ℕ}
 use native.Mathlib.Omega.{arith}
-use Rattle.listing.specs.Files.{filePicture}
+use Rattle.blocks.specs.Files.{pictureOf}
 use Rattle.listing.specs.Numbered.{lineRows}
 use Rattle.listing.proofs.FileLaws.{good-first, good-last, good-end}
 use Rattle.listing.proofs.StandLaws.{prepared-in-range, stands-fit, fits-small}
@@ -31,7 +31,7 @@ module _ (c : tie.Else2) where
   abbrev rows : tie.After-send-rows
   rows = c .before .before
 
-  all : rows .send-rows .result .place .row ≡ lineRows (filePicture (start (rows .before .before .before .before .before) .args .file .now))
+  all : rows .send-rows .result .place .row ≡ lineRows (pictureOf (start (rows .before .before .before .before .before) .args .file .now))
   all = rows .send-rows .ensures .all (c .if2 .left)
 
 send-requires-2 : tie.Need-send-requires-2

@@ -3,7 +3,7 @@ use mathlib.Core.Path.{_≡_, sym, _∙_}
 use Prim.Native.Nat.{ℕ, _-_}
 use native.Mathlib.Omega.{arith}
 use lib.ListN.{length}
-use Rattle.listing.specs.Files.{filePicture}
+use Rattle.blocks.specs.Files.{pictureOf}
 use Rattle.listing.specs.Numbered.{lineRows}
 use Rattle.listing.specs.Steps.{Stands, Filled}
 use Rattle.listing.proofs.StandLaws.{prepared-in-range, stands-fit, rows-are}
@@ -14,7 +14,7 @@ use Rattle.rights.proofs.send_rows.Tie as tie
 
 abbrev Inv-loop : tie.InvT-loop
 Inv-loop file closure arrows users files out₀ place₀ count out place =
-    Stands (filePicture file) place × (count ≡ lineRows (filePicture file)) × (65536 ≡ length out)
+    Stands (pictureOf file) place × (count ≡ lineRows (pictureOf file)) × (65536 ≡ length out)
 
 abbrev μ-loop : tie.MeasureT-loop
 μ-loop file closure arrows users files out₀ place₀ count out place = count - place .row
@@ -23,14 +23,14 @@ row-count-requires : tie.Need-row-count-requires Inv-loop μ-loop
 row-count-requires c κs =
     let start = c .before .before .before .before .before .before .before in
     let d = start .pre .1 in
-    (prepared-in-range d .few-users, stands-fit d (c .start .ensures (filePicture (start .args .file .now)) (d .arrows-are)) .few-used)
+    (prepared-in-range d .few-users, stands-fit d (c .start .ensures (pictureOf (start .args .file .now)) (d .arrows-are)) .few-used)
 
 loop-holds : tie.Need-loop-holds Inv-loop μ-loop
 loop-holds c =
     let started = c .before in
     let start = started .before .before .before .before .before .before .before in
     let d = start .pre .1 in
-    let stands = started .start .ensures (filePicture (start .args .file .now)) (d .arrows-are) in
+    let stands = started .start .ensures (pictureOf (start .args .file .now)) (d .arrows-are) in
     (stands, c .row-count .ensures ∙ sym (rows-are d stands), started .before .large-buffer .ensures)
 
 module _ (at-loop : tie.At-loop Inv-loop μ-loop) where
@@ -46,11 +46,11 @@ fill-requires c κs =
 
 -- what a buffer holds
 chunk : (c : tie.After-fill Inv-loop μ-loop) → let at-loop = c .before .before .before .before in
-    Filled (filePicture (start at-loop .args .file .now)) (at-loop .loop .place) (at-loop .loop .out) (c .fill .last .1 .1 .1 .1 .1 .0)
+    Filled (pictureOf (start at-loop .args .file .now)) (at-loop .loop .place) (at-loop .loop .out) (c .fill .last .1 .1 .1 .1 .1 .0)
     (c .fill .result)
 chunk c =
     let at-loop = c .before .before .before .before in
-    c .fill .ensures (filePicture (start at-loop .args .file .now)) (start at-loop .pre .1) (at-loop .loop .inv .0)
+    c .fill .ensures (pictureOf (start at-loop .args .file .now)) (start at-loop .pre .1) (at-loop .loop .inv .0)
 
 sub-send : tie.Need-sub-send Inv-loop μ-loop
 sub-send c = omega (arith, chunk (c .before .before .before .before) .onward)

@@ -6,15 +6,15 @@ use native.Mathlib.Omega.{arith}
 use lib.Seq.{sets}
 use lib.ListN.{length, length-set}
 use borrow.Author.Needs.{needs}
+use Rattle.blocks.specs.Blocks.{rowOf, joined}
 use Rattle.blocks.specs.Files.{blockAt}
-use Rattle.blocks.specs.Blocks.{arrowRow, joined}
 use Rattle.blocks.proofs.JoinedLaws.{joined-none}
 use Rattle.blocks.proofs.RowLaws.{arrow-put}
 use Rattle.block_files.proofs.into_tables.put_arrows.Statement.{statement}
 use Rattle.block_files.proofs.into_tables.put_arrows.Tie as tie
 
 abbrev Inv-loop : tie.InvT-loop
-Inv-loop file block count at arrows₀ j₀ arrows j = (j ≤ count) × (length arrows ≡ length arrows₀) × (arrows ≡ sets arrows₀ (4 * at) (joined (arrowRow (blockAt file block)) j))
+Inv-loop file block count at arrows₀ j₀ arrows j = (j ≤ count) × (length arrows ≡ length arrows₀) × (arrows ≡ sets arrows₀ (4 * at) (joined (rowOf 3 (blockAt file block)) j))
 
 abbrev μ-loop : tie.MeasureT-loop
 μ-loop file block count at arrows₀ j₀ arrows j = count - j

@@ -1,7 +1,7 @@
 -- Each table gets the records of its kind; a block of another kind has none. Assumes nothing.
 use native.Mathlib.Omega.{arith}
 use borrow.Author.Needs.{needs}
-use Rattle.blocks.proofs.RowLaws.{rows-said}
+use Rattle.blocks.proofs.RowLaws.{said-is}
 use Rattle.block_files.proofs.into_tables.put_block.Statement.{statement}
 use Rattle.block_files.proofs.into_tables.put_block.Tie as tie
 
@@ -35,10 +35,10 @@ returns c =
     let head = at-of .head-of .ensures in (
       rw (c .with .ensures, head),
       (
-        rw (rows-said _ .0, at-put-boxes .put-boxes .ensures, at-count-of .count-of .ensures, head),
+        rw (said-is _ 1, at-put-boxes .put-boxes .ensures, at-count-of .count-of .ensures, head),
         (
-          rw (rows-said _ .1, at-put-containments .put-containments .ensures, at-count-of2 .count-of2 .ensures, head),
-          rw (rows-said _ .2, at-put-arrows .put-arrows .ensures, at-count-of3 .count-of3 .ensures, head),
+          rw (said-is _ 2, at-put-containments .put-containments .ensures, at-count-of2 .count-of2 .ensures, head),
+          rw (said-is _ 3, at-put-arrows .put-arrows .ensures, at-count-of3 .count-of3 .ensures, head),
         ),
       ),
     )

@@ -5,15 +5,15 @@ use native.Mathlib.Omega.{arith}
 use lib.Seq.{sets}
 use lib.ListN.{length, length-set}
 use borrow.Author.Needs.{needs}
+use Rattle.blocks.specs.Blocks.{rowOf, joined}
 use Rattle.blocks.specs.Files.{blockAt}
-use Rattle.blocks.specs.Blocks.{boxRow, joined}
 use Rattle.blocks.proofs.JoinedLaws.{joined-none}
 use Rattle.blocks.proofs.RowLaws.{box-put}
 use Rattle.block_files.proofs.into_tables.put_boxes.Statement.{statement}
 use Rattle.block_files.proofs.into_tables.put_boxes.Tie as tie
 
 abbrev Inv-loop : tie.InvT-loop
-Inv-loop file block count at boxes₀ j₀ boxes j = (j ≤ count) × (length boxes ≡ length boxes₀) × (boxes ≡ sets boxes₀ at (joined (boxRow (blockAt file block)) j))
+Inv-loop file block count at boxes₀ j₀ boxes j = (j ≤ count) × (length boxes ≡ length boxes₀) × (boxes ≡ sets boxes₀ at (joined (rowOf 1 (blockAt file block)) j))
 
 abbrev μ-loop : tie.MeasureT-loop
 μ-loop file block count at boxes₀ j₀ boxes j = count - j

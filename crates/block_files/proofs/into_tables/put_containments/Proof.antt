@@ -6,15 +6,15 @@ use native.Mathlib.Omega.{arith}
 use lib.Seq.{sets}
 use lib.ListN.{length, length-set}
 use borrow.Author.Needs.{needs}
+use Rattle.blocks.specs.Blocks.{rowOf, joined}
 use Rattle.blocks.specs.Files.{blockAt}
-use Rattle.blocks.specs.Blocks.{containmentRow, joined}
 use Rattle.blocks.proofs.JoinedLaws.{joined-none}
 use Rattle.blocks.proofs.RowLaws.{containment-put}
 use Rattle.block_files.proofs.into_tables.put_containments.Statement.{statement}
 use Rattle.block_files.proofs.into_tables.put_containments.Tie as tie
 
 abbrev Inv-loop : tie.InvT-loop
-Inv-loop file block count at rows₀ j₀ rows j = (j ≤ count) × (length rows ≡ length rows₀) × (rows ≡ sets rows₀ (2 * at) (joined (containmentRow (blockAt file block)) j))
+Inv-loop file block count at rows₀ j₀ rows j = (j ≤ count) × (length rows ≡ length rows₀) × (rows ≡ sets rows₀ (2 * at) (joined (rowOf 2 (blockAt file block)) j))
 
 abbrev μ-loop : tie.MeasureT-loop
 μ-loop file block count at rows₀ j₀ rows j = count - j

@@ -6,8 +6,8 @@ use lib.ListN.{length}
 use borrow.Author.Needs.{needs}
 use Rattle.base.specs.Buffers.{written}
 use Rattle.base.proofs.BufferLaws.{written-none}
-use Rattle.blocks.specs.Reads.{countsIn}
-use Rattle.blocks.specs.Files.{blockAt, blockCount, boxesIn, containmentsIn, arrowsIn}
+use Rattle.blocks.specs.Files.{blockCount, blockAt}
+use Rattle.blocks.specs.Steps.{tableIn, countsIn}
 use Rattle.blocks.proofs.Counting.{counts-none, tables-none, counts-more, boxes-more, rows-more, arrows-more}
 use Rattle.block_files.proofs.Fits.{block-fits}
 use Rattle.block_files.proofs.into_tables.write_blocks.Statement.{statement}
@@ -20,9 +20,9 @@ Inv-loop file boxes₀ rows₀ arrows₀ at₀ block₀ block-end boxes rows arr
     × (length boxes ≡ length boxes₀)
     × (length rows ≡ length rows₀)
     × (length arrows ≡ length arrows₀)
-    × (boxes ≡ written (boxesIn (blockAt file) block) boxes₀)
-    × (rows ≡ written (containmentsIn (blockAt file) block) rows₀)
-    × (arrows ≡ written (arrowsIn (blockAt file) block) arrows₀)
+    × (boxes ≡ written (tableIn 1 (blockAt file) block) boxes₀)
+    × (rows ≡ written (tableIn 2 (blockAt file) block) rows₀)
+    × (arrows ≡ written (tableIn 3 (blockAt file) block) arrows₀)
 
 abbrev μ-loop : tie.MeasureT-loop
 μ-loop file boxes₀ rows₀ arrows₀ at₀ block₀ block-end boxes rows arrows at block = blockCount file - block

@@ -1,5 +1,5 @@
 -- The check is that of the 508 bytes from the block's first on. Assumes nothing.
-use mathlib.Core.Path.{_≡_, ap}
+use mathlib.Core.Path.{_≡_, sym, ap}
 use Prim.Native.Nat.{_+_}
 use mathlib.Core.Path.{_∙_}
 use Prim.Native.Nat.{ℕ, _-_}
@@ -16,7 +16,7 @@ returns c =
     let a = c .before .before .before .before .before .before .before .before .before .args in
     let e : a .at + 508 - a .at ≡ 508 = omega arith in
     c .before .before .put32 .ensures ∙ ap (λ (x : ℕ). sets (a .file .now) (a .at + 508) (bytes32 x))
-    (c .before .before .before .before .part .ensures ∙ rw (c .before .before .before .before .before .before .before .fresh .ensures, e, check-is))
+    (c .before .before .before .before .part .ensures ∙ rw (c .before .before .before .before .before .before .before .fresh .ensures, e) (sym (check-is _)))
 
 pub put-check-spec : {M : Type 1} → statement M
 put-check-spec =

@@ -1,12 +1,11 @@
 -- A record of two numbers and two bytes. Assumes nothing.
 use borrow.Author.Needs.{needs}
-use Rattle.blocks.specs.Blocks.{arrowRecord}
+use Rattle.blocks.proofs.RowLaws.{arrow-record}
 use Rattle.blocks.proofs.ArrowRecord.at.Statement.{statement}
 use Rattle.blocks.proofs.ArrowRecord.at.Tie as tie
 
 returns : tie.Need-returns
-unfolding arrowRecord
-returns c = rw (c .byte-of2 .ensures, c .before .byte-of .ensures, c .before .before .number-of2 .ensures, c .before .before .before .number-of .ensures)
+returns c = rw (arrow-record, c .byte-of2 .ensures, c .before .byte-of .ensures, c .before .before .number-of2 .ensures, c .before .before .before .number-of .ensures)
 
 pub at-spec : {M : Type 1} → statement M
 at-spec =

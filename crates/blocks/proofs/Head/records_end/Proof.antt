@@ -2,7 +2,8 @@
 use Prim.Native.Nat.{_*_, _<_, _^_}
 use native.Mathlib.Omega.{arith}
 use borrow.Author.Needs.{needs}
-use Rattle.blocks.specs.Blocks.{recordsEnd, recordSize}
+use Rattle.blocks.specs.Blocks.{recordSize}
+use Rattle.blocks.specs.Steps.{recordsEnd}
 use Rattle.blocks.proofs.Heads.{by-kind-most}
 use Rattle.blocks.proofs.Product.{below}
 use Rattle.blocks.proofs.Head.records_end.Statement.{statement}

@@ -1,12 +1,13 @@
 -- Each of the three verdicts is that of its definition, in their order. Assumes nothing.
 use borrow.Author.Needs.{needs}
-use Rattle.blocks.specs.Blocks.{blockFault, wrongCheck}
+use Rattle.blocks.specs.Blocks.{wrongCheck, blockFault}
+use Rattle.blocks.specs.Steps.{number32}
 use Rattle.tables.proofs.Verdicts.{either-three}
 use Rattle.blocks.proofs.verify.check_block.Statement.{statement}
 use Rattle.blocks.proofs.verify.check_block.Tie as tie
 
 returns : tie.Need-returns
-unfolding blockFault wrongCheck
+unfolding blockFault wrongCheck number32
 returns c =
     let at-or-else = c .before .before .before in
     let at-refused-if2 = at-or-else .before in

@@ -1,6 +1,6 @@
 -- Two numbers of 16 bits make one of 32. Assumes nothing.
 use borrow.Author.Needs.{needs}
-use Rattle.blocks.specs.Blocks.{number32}
+use Rattle.blocks.specs.Steps.{number32}
 use Rattle.blocks.proofs.verify.stored_check.Statement.{statement}
 use Rattle.blocks.proofs.verify.stored_check.Tie as tie
 
