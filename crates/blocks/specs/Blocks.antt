@@ -17,7 +17,8 @@ number16 block at = getD block at 0 + 256 * getD block (at + 1) 0
 
 -- byte 0 kind, byte 1 zero, bytes 2 and 3 block number, bytes 4 and 5 record count, bytes 6 and 7 zero
 unfoldable pub headOf : (block : List ℕ) → Head
-headOf b = record { kind = getD b 0 0; byte1 = getD b 1 0; number = number16 b 2; count = number16 b 4; byte6 = getD b 6 0; byte7 = getD b 7 0 }
+headOf b =
+    record { kind = getD b 0 0; byte1 = getD b 1 0; number = number16 b 2; count = number16 b 4; byte6 = getD b 6 0; byte7 = getD b 7 0 }
 
 -- by kind: 1 boxes, 2 containments, 3 arrows
 unfoldable pub byKind : (kind boxes containments arrows : ℕ) → ℕ
@@ -31,7 +32,8 @@ capacity kind = byKind kind 500 125 83
 unfoldable pub recordSize : (kind : ℕ) → ℕ
 recordSize kind = byKind kind 1 4 6
 
--- record j, records from byte 8, as the numbers of its table's row: 1 byte; two 16-bit numbers; two 16-bit numbers, mode, sign
+-- record j of a block of a kind, as the numbers of its table's row. Records from byte 8: a box 1 byte, a containment two 16-bit numbers,
+-- an arrow two 16-bit numbers, mode, sign
 unfoldable pub rowOf : (kind : ℕ) (block : List ℕ) (j : ℕ) → List ℕ
 rowOf kind block j =
     let at = 8 + recordSize kind * j in
@@ -64,7 +66,7 @@ wrongHead before place head =
     || not (eqb (head .byte1) 0) || not (eqb (head .byte6) 0) || not (eqb (head .byte7) 0)
     || not (eqb (head .number) place) || ltb (capacity (head .kind)) (head .count)
 
--- 17: zero filler, behind the records, to byte 507
+-- 17: a byte of the filler, from behind the records to byte 507, is not zero
 unfoldable pub allZero : List ℕ → Bool
 allZero [] = true
 allZero (x ∷ xs) = eqb x 0 && allZero xs

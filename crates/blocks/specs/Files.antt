@@ -31,7 +31,7 @@ blocksFault blocks n = first (λ k. blockFault (kindBefore blocks k) k (blocks k
 unfoldable pub lengthFault : (len : ℕ) → Option Refusal
 lengthFault len = given (eqb len 0 || not (eqb (len % 512) 0) || ltb 32768 len) (badLength len)
 
--- 14, then the blocks
+-- 14, then for each block in turn 15, 16, 17
 unfoldable pub fileFault : (file : List ℕ) → Option Refusal
 fileFault file = orElse (lengthFault (length file)) (blocksFault (blockAt file) (blockCount file))
 

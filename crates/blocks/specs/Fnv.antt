@@ -8,6 +8,6 @@ unfoldable pub fnvFold : (state : ℕ) → List ℕ → ℕ
 fnvFold state [] = state
 fnvFold state (byte ∷ bytes) = fnvFold (bitXor state byte * 16777619 % 2 ^ 32) bytes
 
--- start 2,166,136,261
+-- the check: start 2,166,136,261
 unfoldable pub fnv1a : (bytes : List ℕ) → ℕ
 fnv1a bytes = fnvFold 2166136261 bytes
