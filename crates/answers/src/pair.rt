@@ -10,6 +10,7 @@ ghost use Rattle.meaning.specs.Meaning.{answer};
 ghost use Rattle.mode_sets.specs.Steps.{Small};
 ghost use Rattle.certificates.specs.Steps.{Drawn};
 ghost use Rattle.answers.specs.Calls.{askedFault};
+ghost use Rattle.containment.specs.Steps.{closureWords};
 use atoms::is_atom;
 use base::wide;
 use boxsets::single;
@@ -43,7 +44,7 @@ pub fn check_asked(boxes: &[u8], rows: &[u16], u: usize, f: usize) -> Verdict
 
 // The answer for a pair of one mode: a row with one file.
 pub fn answer_pair(closure: &[u64], arrows: &[u16], mode: u16, u: usize, f: usize) -> Entry
-    requires { ⌜ (length (now closure) ≡ 2048) × Small (now arrows) × (u < 256) × (f < 256) ⌝ }
+    requires { ⌜ (length (now closure) ≡ closureWords) × Small (now arrows) × (u < 256) × (f < 256) ⌝ }
     ensures { λ r. ⌜ ((pic : Picture) → Drawn pic (now (closure .entry)) → now (arrows .entry) ≡ pic .arrows
         → u < length (pic .boxes) → f < length (pic .boxes) → r ≡ answer pic mode u f) ⌝ }
 {

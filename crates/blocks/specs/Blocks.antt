@@ -22,8 +22,7 @@ headOf b =
 
 -- by kind: 1 boxes, 2 containments, 3 arrows
 unfoldable pub byKind : (kind boxes containments arrows : ℕ) → ℕ
-byKind kind boxes containments arrows =
-    cond (eqb kind 1) boxes (cond (eqb kind 2) containments (cond (eqb kind 3) arrows 0))
+byKind kind boxes containments arrows = cond (eqb kind 1) boxes (cond (eqb kind 2) containments (cond (eqb kind 3) arrows 0))
 
 -- how many records a block holds at most, and how many bytes each has
 unfoldable pub capacity : (kind : ℕ) → ℕ

@@ -38,6 +38,10 @@ low x = least (isIn x) 256
 abbrev pub setAt : (t : List ℕ) (r : ℕ) → Set
 setAt t r = record { a = getD t (4 * r) 0; b = getD t (4 * r + 1) 0; c = getD t (4 * r + 2) 0; d = getD t (4 * r + 3) 0 }
 
+-- the words of a table with a set for each of 256 boxes
+abbrev pub tableWords : ℕ
+tableWords = 1024
+
 -- set r of the table has k
 unfoldable pub has : (t : List ℕ) (r k : ℕ) → Bool
 has t r k = isIn (setAt t r) k

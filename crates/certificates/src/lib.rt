@@ -10,9 +10,10 @@ ghost use lib.ListN.{length};
 ghost use Rattle.base.specs.Steps.{anyBelow};
 ghost use Rattle.tables.specs.Rows.{Picture};
 ghost use Rattle.boxsets.specs.Sets.{isIn, has};
-ghost use Rattle.mode_sets.specs.Steps.{ModeSets};
+ghost use Rattle.mode_sets.specs.Steps.{ModeSets, headsWords};
 ghost use Rattle.certificates.specs.Blocks.{inOne, blocks, certified};
 ghost use Rattle.certificates.specs.Steps.{Drawn, NearBy};
+ghost use Rattle.containment.specs.Steps.{closureWords};
 use base::wide;
 use boxsets::Set;
 use boxsets::dropped;
@@ -36,7 +37,7 @@ pub struct Near {
 
 // The boxes that are nested in b. What overrides what goes by this and by `nesting` alone.
 fn nested_in(closure: &[u64], b: usize) -> Set
-    requires { ⌜ (length (now closure) ≡ 2048) × (b < 256) ⌝ }
+    requires { ⌜ (length (now closure) ≡ closureWords) × (b < 256) ⌝ }
     ensures { λ r. ⌜ ((k : ℕ) → isIn r k ≡ (has (now (closure .entry)) b k && not (has (now (closure .entry)) (256 + b) k))) ⌝ }
 {
     minus(set_at(closure, b), set_at(closure, 256 + b))
@@ -44,7 +45,7 @@ fn nested_in(closure: &[u64], b: usize) -> Set
 
 // The boxes in which b is nested.
 fn nesting(closure: &[u64], b: usize) -> Set
-    requires { ⌜ (length (now closure) ≡ 2048) × (b < 256) ⌝ }
+    requires { ⌜ (length (now closure) ≡ closureWords) × (b < 256) ⌝ }
     ensures { λ r. ⌜ ((k : ℕ) → isIn r k ≡ (has (now (closure .entry)) (256 + b) k && not (has (now (closure .entry)) b k))) ⌝ }
 {
     minus(set_at(closure, 256 + b), set_at(closure, b))
@@ -52,7 +53,7 @@ fn nesting(closure: &[u64], b: usize) -> Set
 
 // The heads of the mode's arrows of a sign from some tails.
 fn heads_of(heads: &[u64], sign: usize, tails: Set) -> Set
-    requires { ⌜ (length (now heads) ≡ 2056) × (sign ≤ 1) ⌝ }
+    requires { ⌜ (length (now heads) ≡ headsWords) × (sign ≤ 1) ⌝ }
     ensures { λ r. ⌜ ((g : ℕ) → isIn r g ≡ anyBelow (λ t. isIn tails t && has (now (heads .entry)) (256 * sign + t) g) 256) ⌝ }
 {
     union_of(heads, 256 * sign, tails)
@@ -60,7 +61,7 @@ fn heads_of(heads: &[u64], sign: usize, tails: Set) -> Set
 
 // The same, tail by tail: quicker where there are few, as around a user.
 fn few_heads(heads: &[u64], sign: usize, tails: Set) -> Set
-    requires { ⌜ (length (now heads) ≡ 2056) × (sign ≤ 1) ⌝ }
+    requires { ⌜ (length (now heads) ≡ headsWords) × (sign ≤ 1) ⌝ }
     ensures { λ r. ⌜ ((g : ℕ) → isIn r g ≡ anyBelow (λ t. isIn tails t && has (now (heads .entry)) (256 * sign + t) g) 256) ⌝ }
 {
     let mut found = nothing();
@@ -76,7 +77,7 @@ fn few_heads(heads: &[u64], sign: usize, tails: Set) -> Set
 // The files of a set that are in none of the boxes. What a box has is done with it, boxes and files. Each turn takes at least the lowest
 // box, which has itself, so 256 turns are enough.
 fn outside_all(closure: &[u64], files: Set, boxes: Set) -> Set
-    requires { ⌜ length (now closure) ≡ 2048 ⌝ }
+    requires { ⌜ length (now closure) ≡ closureWords ⌝ }
     ensures { λ r. ⌜ ((pic : Picture) → Drawn pic (now (closure .entry)) → ((b : ℕ) → T (isIn boxes b) → b < length (pic .boxes))
         → (f : ℕ) → isIn r f ≡ (isIn files f && not (inOne pic (isIn boxes) f))) ⌝ }
 {
@@ -95,7 +96,7 @@ fn outside_all(closure: &[u64], files: Set, boxes: Set) -> Set
 
 // The arrows of a sign around a user.
 pub fn arrows_near(closure: &[u64], heads: &[u64], sign: usize, user: usize, asked: Set) -> Near
-    requires { ⌜ (length (now closure) ≡ 2048) × (length (now heads) ≡ 2056) × (sign ≤ 1) × (user < 256) ⌝ }
+    requires { ⌜ (length (now closure) ≡ closureWords) × (length (now heads) ≡ headsWords) × (sign ≤ 1) × (user < 256) ⌝ }
     ensures { λ r. ⌜ r .sign ≡ sign ⌝ }
     ensures { λ r. ⌜ ((pic : Picture) (m : ℕ) → Drawn pic (now (closure .entry)) → ModeSets (pic .arrows) m (now (heads .entry))
         → user < length (pic .boxes) → NearBy pic m sign user (isIn asked) r) ⌝ }
@@ -115,7 +116,8 @@ pub fn arrows_near(closure: &[u64], heads: &[u64], sign: usize, user: usize, ask
 // one that it does not override. It does not override an arrow whose head is nested in its own, one whose tail is nested in its own, and
 // one neither of whose ends has its own nested in it.
 fn unblocked(closure: &[u64], heads: &[u64], near: Near, a: Arrow, files: Set) -> Set
-    requires { ⌜ (length (now closure) ≡ 2048) × (length (now heads) ≡ 2056) × (near .sign ≤ 1) × (a .tail < 256) × (a .head < 256) ⌝ }
+    requires { ⌜ (length (now closure) ≡ closureWords) × (length (now heads) ≡ headsWords) × (near .sign ≤ 1)
+        × (a .tail < 256) × (a .head < 256) ⌝ }
     ensures { λ r. ⌜ ((pic : Picture) (m u : ℕ) (asked : ℕ → Bool) → Drawn pic (now (closure .entry))
         → ModeSets (pic .arrows) m (now (heads .entry)) → NearBy pic m (near .sign) u asked near
         → (a .tail < length (pic .boxes)) × (a .head < length (pic .boxes)) × (u < length (pic .boxes))
@@ -141,7 +143,8 @@ fn unblocked(closure: &[u64], heads: &[u64], near: Near, a: Arrow, files: Set) -
 // Of the files that are left, those at which an arrow around the user is a certificate. A file that no opposite arrow reaches needs no look
 // at those.
 pub fn certified(closure: &[u64], heads: &[u64], near: Near, a: Arrow, left: Set) -> Set
-    requires { ⌜ (length (now closure) ≡ 2048) × (length (now heads) ≡ 2056) × (near .sign ≤ 1) × (a .tail < 256) × (a .head < 256) ⌝ }
+    requires { ⌜ (length (now closure) ≡ closureWords) × (length (now heads) ≡ headsWords) × (near .sign ≤ 1)
+        × (a .tail < 256) × (a .head < 256) ⌝ }
     ensures { λ r. ⌜ ((pic : Picture) (m u : ℕ) (asked : ℕ → Bool) → Drawn pic (now (closure .entry))
         → ModeSets (pic .arrows) m (now (heads .entry)) → NearBy pic m (near .sign) u asked near
         → (a .tail < length (pic .boxes)) × (a .head < length (pic .boxes)) × (u < length (pic .boxes))

@@ -18,7 +18,7 @@ use Rattle.boxsets.proofs.WordLaws.{eqb-turned, eqb-shifted}
 use Rattle.boxsets.proofs.MemberLaws.{in-beyond}
 use Rattle.boxsets.proofs.TableLaws.{has-in, zeros-has}
 use Rattle.containment.specs.Contains.{direct}
-use Rattle.containment.specs.Steps.{Both, Turns, through, rounds}
+use Rattle.containment.specs.Steps.{Both, Turns, through, rounds, closureWords}
 use Rattle.containment.proofs.RowBoxes.{RowBoxes}
 
 pub both-same : (n : ℕ) (f g : ℕ → ℕ → Bool) (t : List ℕ) → ((a b : ℕ) → f a b ≡ g a b) → Both n f t → Both n g t
@@ -56,12 +56,12 @@ module _ (f : ℕ → ℕ → Bool) (o i : ℕ) (t u v : List ℕ) (ho : o < 256
 
 -- ---- mark_rows
 
-pub marked-none : (t : List ℕ) → t ≡ zeros 2048 → Both 256 (direct []) t
+pub marked-none : (t : List ℕ) → t ≡ zeros closureWords → Both 256 (direct []) t
 unfolding direct
 marked-none t e = rw e (record {
-  len = zeros-length 2048;
-  down = λ a b l. zeros-has 2048 a b;
-  up = λ a b l. zeros-has 2048 (256 + b) a;
+  len = zeros-length closureWords;
+  down = λ a b l. zeros-has closureWords a b;
+  up = λ a b l. zeros-has closureWords (256 + b) a;
 })
 
 or-turned : (p q : Bool) → (p || q) ≡ (q || p)

@@ -19,9 +19,13 @@ pub record RowsBelow (n : ℕ) (rows : List ℕ) : Type 0 where
   pub outer-below : (k : ℕ) → k < rowCount rows → rowAt rows k .outer < n
   pub inner-below : (k : ℕ) → k < rowCount rows → rowAt rows k .inner < n
 
+-- the words of a table with two sets for each box: what it contains, and what contains it
+abbrev pub closureWords : ℕ
+closureWords = 2048
+
 -- the table says f for n boxes: set a has b exactly if f a b, and set 256 + b has a exactly if f a b
 pub record Both (n : ℕ) (f : ℕ → ℕ → Bool) (t : List ℕ) : Type 0 where
-  pub len : length t ≡ 2048
+  pub len : length t ≡ closureWords
   pub down : (a b : ℕ) → a < n → has t a b ≡ f a b
   pub up : (a b : ℕ) → b < n → has t (256 + b) a ≡ f a b
 

@@ -5,13 +5,13 @@ ghost use Prim.Native.Nat.{_<_, _≤_};
 ghost use lib.ListN.{length};
 ghost use Rattle.base.specs.Buffers.{zeros};
 ghost use Rattle.containment.specs.Contains.{direct};
-ghost use Rattle.containment.specs.Steps.{RowsBelow, through, rounds, selves, Both, Turns};
+ghost use Rattle.containment.specs.Steps.{RowsBelow, through, rounds, selves, Both, Turns, closureWords};
 use tables::Containment;
 
 // Adds each row's pair of boxes.
 pub fn mark_rows(rows: &[u16], closure: &mut [u64])
     requires { ⌜ RowsBelow 256 (now rows) ⌝ }
-    requires { ⌜ now closure ≡ zeros 2048 ⌝ }
+    requires { ⌜ now closure ≡ zeros closureWords ⌝ }
     ensures { λ _. ⌜ Both 256 (direct (now (rows .entry))) (now (closure .exit)) ⌝ }
 {
     let mut k = rows.len() / 2;
@@ -27,7 +27,7 @@ pub fn mark_rows(rows: &[u16], closure: &mut [u64])
 
 // Adds the ways through box k. Most boxes have none: they contain nothing, or nothing contains them.
 fn round(closure: &mut [u64], k: usize)
-    requires { ⌜ (length (now closure) ≡ 2048) × (k < 256) ⌝ }
+    requires { ⌜ (length (now closure) ≡ closureWords) × (k < 256) ⌝ }
     ensures { λ _. ⌜ Turns (λ f. through f k) (now (closure .entry)) (now (closure .exit)) ⌝ }
 {
     let down = set_tables::set_at(closure, k);
@@ -44,7 +44,7 @@ fn round(closure: &mut [u64], k: usize)
 
 // Adds the ways through each of n boxes in turn.
 pub fn close(closure: &mut [u64], n: usize)
-    requires { ⌜ (length (now closure) ≡ 2048) × (n ≤ 256) ⌝ }
+    requires { ⌜ (length (now closure) ≡ closureWords) × (n ≤ 256) ⌝ }
     ensures { λ _. ⌜ Turns (λ f. rounds f n) (now (closure .entry)) (now (closure .exit)) ⌝ }
 {
     for k in 0..n {
@@ -54,7 +54,7 @@ pub fn close(closure: &mut [u64], n: usize)
 
 // Adds each of n boxes to its own two sets.
 pub fn add_selves(closure: &mut [u64], n: usize)
-    requires { ⌜ (length (now closure) ≡ 2048) × (n ≤ 256) ⌝ }
+    requires { ⌜ (length (now closure) ≡ closureWords) × (n ≤ 256) ⌝ }
     ensures { λ _. ⌜ Turns (λ f. selves f n) (now (closure .entry)) (now (closure .exit)) ⌝ }
 {
     for b in 0..n {

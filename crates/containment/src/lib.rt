@@ -6,23 +6,26 @@ ghost use Prim.Native.Nat.{_≤_};
 ghost use lib.ListN.{length};
 ghost use Rattle.base.specs.Buffers.{zeros};
 ghost use Rattle.tables.specs.Refusals.{verdictOf};
-ghost use Rattle.containment.specs.Steps.{ownFault};
+ghost use Rattle.containment.specs.Steps.{ownFault, closureWords};
 pub use closing::add_selves;
 pub use closing::close;
 pub use closing::mark_rows;
 use tables::Refusal;
 use tables::Verdict;
 
+// The words of a closure: two sets for each box.
+const CLOSURE_WORDS: usize = 2048;
+
 // An empty closure, for `mark_rows` to fill.
-pub fn no_closure() -> [u64; 2048]
-    ensures { λ r. ⌜ r ≡ zeros 2048 ⌝ }
+pub fn no_closure() -> [u64; CLOSURE_WORDS]
+    ensures { λ r. ⌜ r ≡ zeros closureWords ⌝ }
 {
-    [0u64; 2048]
+    [0u64; CLOSURE_WORDS]
 }
 
 // Check 10, by sets that have what each box contains: the lowest box whose set has it.
 pub fn check_loops(n: usize, closure: &[u64]) -> Verdict
-    requires { ⌜ (length (now closure) ≡ 2048) × (n ≤ 256) ⌝ }
+    requires { ⌜ (length (now closure) ≡ closureWords) × (n ≤ 256) ⌝ }
     ensures { λ r. ⌜ r ≡ verdictOf (ownFault n (now (closure .entry))) ⌝ }
 {
     for b in 0..n {

@@ -16,6 +16,7 @@ ghost use Rattle.mode_sets.specs.Steps.{Small};
 ghost use Rattle.certificates.specs.Steps.{Drawn};
 ghost use Rattle.user_rows.specs.Steps.{Sized, Moded};
 ghost use Rattle.judging.specs.Steps.{Signed, signUsed};
+ghost use Rattle.containment.specs.Steps.{closureWords};
 pub use atom_sets::atom_set;
 use atoms::atoms_of;
 use atoms::no_boxes;
@@ -95,7 +96,7 @@ fn judge_mode(
     users: &[u16],
     files: Set,
 ) -> Verdict
-    requires { ⌜ (length (now closure) ≡ 2048) × Small (now arrows) × (mode < 256) × Boxes (now users) ⌝ }
+    requires { ⌜ (length (now closure) ≡ closureWords) × Small (now arrows) × (mode < 256) × Boxes (now users) ⌝ }
     ensures { λ r. ⌜ ((pic : Picture) → Drawn pic (now (closure .entry)) → now (arrows .entry) ≡ pic .arrows
         → now (users .entry) ≡ atoms (pic .boxes) (pic .rows) user → ((f : ℕ) → isIn files f ≡ atom (pic .boxes) (pic .rows) file f)
         → isIn both mode ≡ (signUsed (pic .arrows) mode negative && signUsed (pic .arrows) mode positive)
@@ -112,7 +113,7 @@ fn judge_mode(
 
 // Check 12 for all modes.
 fn judge_modes(closure: &[u64], arrows: &[u16], users: &[u16], files: Set) -> Verdict
-    requires { ⌜ (length (now closure) ≡ 2048) × Small (now arrows) × Signed (now arrows) × Boxes (now users) ⌝ }
+    requires { ⌜ (length (now closure) ≡ closureWords) × Small (now arrows) × Signed (now arrows) × Boxes (now users) ⌝ }
     ensures { λ r. ⌜ ((pic : Picture) → Drawn pic (now (closure .entry)) → now (arrows .entry) ≡ pic .arrows
         → now (users .entry) ≡ atoms (pic .boxes) (pic .rows) user → ((f : ℕ) → isIn files f ≡ atom (pic .boxes) (pic .rows) file f)
         → r ≡ verdictOf (anyUnclear pic)) ⌝ }

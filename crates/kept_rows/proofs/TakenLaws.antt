@@ -13,6 +13,7 @@ use Rattle.mode_sets.specs.Steps.{Small, ModeSets}
 use Rattle.mode_sets.proofs.CallerLaws.{own-numbers}
 use Rattle.mode_sets.proofs.OwnLaws.{own-most}
 use Rattle.user_rows.specs.Steps.{Sized, Moded}
+use Rattle.containment.specs.Steps.{closureWords}
 
 -- a buffer of zeros has its places
 pub room : (n : ℕ) {l : List ℕ} → l ≡ zeros n → n ≤ length l
@@ -23,7 +24,7 @@ pub record Taken (arrows : List ℕ) (m count : ℕ) (own heads : List ℕ) : Ty
   pub sets : ModeSets arrows m heads
   pub within : count ≤ length own
   pub len : count ≡ length (take count own)
-  pub sized : (closure : List ℕ) → length closure ≡ 2048 → Sized closure heads arrows (take count own)
+  pub sized : (closure : List ℕ) → length closure ≡ closureWords → Sized closure heads arrows (take count own)
   pub moded : (pic : Picture) → arrows ≡ pic .arrows → Moded pic m heads arrows (take count own)
 
 module _ (arrows : List ℕ) (m : ℕ) (small : Small arrows) (old : List ℕ) (count : ℕ) (own heads : List ℕ) where

@@ -7,10 +7,11 @@ ghost use Prim.Native.Nat.{ℕ, _<_};
 ghost use lib.ListN.{length};
 ghost use Rattle.tables.specs.Rows.{Picture};
 ghost use Rattle.tables.specs.Steps.{SoundArrows};
-ghost use Rattle.mode_sets.specs.Steps.{ModeSets};
+ghost use Rattle.mode_sets.specs.Steps.{ModeSets, headsWords};
 ghost use Rattle.certificates.specs.Steps.{Drawn};
 ghost use Rattle.user_rows.specs.Steps.{Sized, Moded, blankRow};
 ghost use Rattle.kept_rows.specs.Steps.{TailsNear, Keeps, KeepsNumbers};
+ghost use Rattle.containment.specs.Steps.{closureWords};
 use base::fill;
 use boxsets::Set;
 use boxsets::joined;
@@ -48,7 +49,7 @@ pub fn no_arrows(asked: Set) -> Kept
 
 // The tails of the mode's arrows around a user.
 fn tails_near(closure: &[u64], heads: &[u64], user: usize) -> Set
-    requires { ⌜ (length (now closure) ≡ 2048) × (length (now heads) ≡ 2056) × (user < 256) ⌝ }
+    requires { ⌜ (length (now closure) ≡ closureWords) × (length (now heads) ≡ headsWords) × (user < 256) ⌝ }
     ensures { λ r. ⌜ ((pic : Picture) (m : ℕ) → Drawn pic (now (closure .entry)) → ModeSets (pic .arrows) m (now (heads .entry))
         → user < length (pic .boxes) → TailsNear pic m user r) ⌝ }
 {

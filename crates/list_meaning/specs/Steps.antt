@@ -7,7 +7,7 @@ use Prim.Native.Nat.{ℕ, _<_}
 use lib.ListN.{length}
 use Rattle.tables.specs.Rows.{Picture, user, file, arrowAt}
 use Rattle.tables.specs.Atoms.{atom}
-use Rattle.boxsets.specs.Sets.{has}
+use Rattle.boxsets.specs.Sets.{has, tableWords}
 use Rattle.meaning.specs.Meaning.{reaches, answer, isGranted}
 use Rattle.meaning.specs.Pairs.{unclearFault}
 use Rattle.list_meaning.specs.Order.{anyOf}
@@ -16,7 +16,7 @@ use Rattle.list_meaning.specs.declared.Listed.{Listed}
 
 -- set u has f exactly if (u, f) is a pair at which the test holds
 pub record Table (pic : Picture) (test : ℕ → ℕ → Bool) (t : List ℕ) : Type 0 where
-  pub len : length t ≡ 1024
+  pub len : length t ≡ tableWords
   pub each : (u f : ℕ) → u < 256
       → has t u f ≡ ((atom (pic .boxes) (pic .rows) user u && atom (pic .boxes) (pic .rows) file f) && test u f)
 

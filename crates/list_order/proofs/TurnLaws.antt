@@ -12,7 +12,7 @@ use lib.Seq.{getD-set-other}
 use Rattle.base.specs.Buffers.{written, zeros}
 use Rattle.base.proofs.BufferLaws.{written-none, written-more, zeros-length}
 use Rattle.tables.specs.Rows.{Picture, arrowCount, arrowAt}
-use Rattle.boxsets.specs.Sets.{isIn, setAt}
+use Rattle.boxsets.specs.Sets.{isIn, setAt, tableWords}
 use Rattle.mode_sets.specs.Mode.{ownArrows}
 use Rattle.list_meaning.specs.Greedy.{addable, next, listTo}
 use Rattle.list_meaning.specs.Steps.{Table, unreached}
@@ -114,7 +114,7 @@ module _ (pic : Picture) (m : ℕ) (closure arrows own granted out₀ : List ℕ
 -- the loop as a whole: how it stands, whatever picture the sets are of
 pub record Ordering (closure arrows own granted left₀ out₀ left out done : List ℕ) (count from : ℕ) : Type 0 where
   pub count-most : count ≤ length own
-  pub left-len : length left ≡ 1024
+  pub left-len : length left ≡ tableWords
   pub out-len : length out ≡ length out₀
   pub done-len : length done ≡ 512
   pub marked : Done closure arrows own left granted done
@@ -124,7 +124,7 @@ pub record Ordering (closure arrows own granted left₀ out₀ left out done : L
       → Growing pic m closure arrows own granted out₀ left out count
 
 module _ (closure arrows own granted left₀ out₀ : List ℕ) where
-  pub ordering-none : length left₀ ≡ 1024 → length own ≤ 512 → Ordering closure arrows own granted left₀ out₀ left₀ out₀ (zeros 512) 0 0
+  pub ordering-none : length left₀ ≡ tableWords → length own ≤ 512 → Ordering closure arrows own granted left₀ out₀ left₀ out₀ (zeros 512) 0 0
   ordering-none l h = record {
     count-most = omega arith;
     left-len = l;

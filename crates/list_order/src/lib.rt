@@ -7,10 +7,11 @@ ghost use Prim.Native.Nat.{ℕ, _≤_, _<_};
 ghost use lib.ListN.{length};
 ghost use Rattle.base.specs.Buffers.{zeros};
 ghost use Rattle.tables.specs.Rows.{Picture, arrowCount, arrowAt};
-ghost use Rattle.boxsets.specs.Sets.{isIn, inWord, setAt};
+ghost use Rattle.boxsets.specs.Sets.{isIn, inWord, setAt, tableWords};
 ghost use Rattle.mode_sets.specs.Steps.{Small, Numbers};
 ghost use Rattle.list_meaning.specs.Steps.{Table, unreached};
 ghost use Rattle.list_order.specs.Steps.{Done, SpentBefore, NextFree, MarkedTo, Takes, Clear, Ordered};
+ghost use Rattle.containment.specs.Steps.{closureWords};
 use base::wide;
 use boxsets::Set;
 use boxsets::drop_bit;
@@ -22,10 +23,10 @@ use set_tables::set_at;
 use tables::Arrow;
 
 // Marks for arrow numbers.
-fn no_marks() -> [u8; 512]
+fn no_marks() -> [u8; Arrow::LIMIT]
     ensures { λ r. ⌜ r ≡ zeros 512 ⌝ }
 {
-    [0u8; 512]
+    [0u8; Arrow::LIMIT]
 }
 
 // The first place whose arrow is free, or one past the last. What is spent stays so: it is marked and not looked at again, and the places
@@ -39,7 +40,7 @@ fn next_free(
     done: &mut [u8],
     from: usize,
 ) -> usize
-    requires { ⌜ (length (now closure) ≡ 2048) × (length (now left) ≡ 1024) × (length (now granted) ≡ 1024) ⌝ }
+    requires { ⌜ (length (now closure) ≡ closureWords) × (length (now left) ≡ tableWords) × (length (now granted) ≡ tableWords) ⌝ }
     requires { ⌜ Small (now arrows) × Numbers (now arrows) (now own) × (length (now own) ≤ length (now done)) ⌝ }
     requires { ⌜ Done (now closure) (now arrows) (now own) (now left) (now granted) (now done) ⌝ }
     requires { ⌜ (from ≤ length (now own)) × SpentBefore (now closure) (now arrows) (now own) (now left) (now granted) from ⌝ }
@@ -77,7 +78,7 @@ fn first_open(done: &[u8], from: usize, count: usize) -> usize
 
 // Takes the files from what each of the users of word q has left.
 fn take_word(word: u64, q: usize, files: Set, left: &mut [u64])
-    requires { ⌜ (q < 4) × (length (now left) ≡ 1024) ⌝ }
+    requires { ⌜ (q < 4) × (length (now left) ≡ tableWords) ⌝ }
     ensures { λ _. ⌜ Takes (inWord q word) files (now (left .entry)) (now (left .exit)) ⌝ }
 {
     let mut rest = word;
@@ -91,7 +92,7 @@ fn take_word(word: u64, q: usize, files: Set, left: &mut [u64])
 
 // Takes the files from what each of the users has left.
 fn take_files(users: Set, files: Set, left: &mut [u64])
-    requires { ⌜ length (now left) ≡ 1024 ⌝ }
+    requires { ⌜ length (now left) ≡ tableWords ⌝ }
     ensures { λ _. ⌜ Takes (isIn users) files (now (left .entry)) (now (left .exit)) ⌝ }
 {
     take_word(users.a, 0, files, left);
@@ -102,7 +103,7 @@ fn take_files(users: Set, files: Set, left: &mut [u64])
 
 // Takes the pairs of arrow k from what is left.
 fn take_arrow(closure: &[u64], arrows: &[u16], k: usize, left: &mut [u64])
-    requires { ⌜ (length (now closure) ≡ 2048) × (length (now left) ≡ 1024)
+    requires { ⌜ (length (now closure) ≡ closureWords) × (length (now left) ≡ tableWords)
         × Small (now arrows) × (k < arrowCount (now arrows)) ⌝ }
     ensures { λ _. ⌜ Takes (isIn (setAt (now (closure .entry)) (arrowAt (now (arrows .entry)) k .tail)))
         (setAt (now (closure .entry)) (arrowAt (now (arrows .entry)) k .head)) (now (left .entry)) (now (left .exit)) ⌝ }
@@ -123,7 +124,7 @@ pub fn order(
     granted: &[u64],
     out: &mut [u16],
 ) -> usize
-    requires { ⌜ (length (now closure) ≡ 2048) × (length (now left) ≡ 1024) × (length (now granted) ≡ 1024) ⌝ }
+    requires { ⌜ (length (now closure) ≡ closureWords) × (length (now left) ≡ tableWords) × (length (now granted) ≡ tableWords) ⌝ }
     requires { ⌜ Small (now arrows) × Numbers (now arrows) (now own)
         × (length (now own) ≤ 512) × (length (now own) ≤ length (now out)) ⌝ }
     ensures { λ r. ⌜ ((pic : Picture) (m : ℕ)

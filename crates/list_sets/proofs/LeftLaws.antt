@@ -19,7 +19,7 @@ use Rattle.tables.specs.Atoms.{atom, atoms}
 use Rattle.tables.specs.Refusals.{noOrder, refusal, verdictOf}
 use Rattle.tables.specs.declared.Verdict.the-variants.{Passed, Refused}
 use Rattle.tables.proofs.AtomPlaces.{atoms-found, atoms-has, atom-there}
-use Rattle.boxsets.specs.Sets.{isIn, low, has, Put}
+use Rattle.boxsets.specs.Sets.{isIn, low, has, Put, tableWords}
 use Rattle.boxsets.specs.declared.Set.{Set}
 use Rattle.boxsets.proofs.TableLaws.{put-hit, put-miss, zeros-has}
 use Rattle.boxsets.proofs.LowLaws.{low-least}
@@ -39,11 +39,11 @@ oneOf us i u = anyBelow (λ j. eqb (getD us j 0) u) i
 
 -- each of the first i users has the files of her row, and no other box has any
 pub record Filled (us : List ℕ) (row : ℕ → ℕ → Bool) (i : ℕ) (t : List ℕ) : Type 0 where
-  pub len : length t ≡ 1024
+  pub len : length t ≡ tableWords
   pub each : (u f : ℕ) → has t u f ≡ (oneOf us i u && row u f)
 
 module _ (us : List ℕ) (row : ℕ → ℕ → Bool) where
-  pub filled-none : (t : List ℕ) → t ≡ zeros 1024 → Filled us row 0 t
+  pub filled-none : (t : List ℕ) → t ≡ zeros tableWords → Filled us row 0 t
   filled-none t e = record { len = ap length e ∙ zeros-length 1024; each = λ u f. rw (e, any-zero) (zeros-has 1024 u f) }
 
   one-more : (i u : ℕ) → oneOf us (i + 1) u ≡ (oneOf us i u || eqb (getD us i 0) u)

@@ -12,7 +12,7 @@ use Rattle.tables.specs.Atoms.{atom}
 use Rattle.tables.specs.Refusals.{refusal, verdictOf}
 use Rattle.tables.specs.declared.Verdict.the-variants.{Passed, Refused}
 use Rattle.tables.proofs.Verdicts.{refused}
-use Rattle.boxsets.specs.Sets.{isIn, low, Put}
+use Rattle.boxsets.specs.Sets.{isIn, low, Put, tableWords}
 use Rattle.boxsets.specs.declared.Set.{Set}
 use Rattle.meaning.specs.Pairs.{users, unclearFault}
 use Rattle.meaning.proofs.RowPairs.{rows-start}
@@ -34,7 +34,7 @@ module _ (pic : Picture) (m : ℕ) (closure arrows us : List ℕ) (files : Set) 
     pub clear : Clear pic m i
     pub filled : Filled us row i granted
 
-  pub sorting-none : (granted : List ℕ) → granted ≡ zeros 1024 → Sorting 0 granted
+  pub sorting-none : (granted : List ℕ) → granted ≡ zeros tableWords → Sorting 0 granted
   sorting-none granted e = record { clear = rows-start pic (unclear pic m); filled = filled-none us row granted e }
 
   -- each user is a box of the picture

@@ -10,10 +10,11 @@ ghost use Rattle.tables.specs.Rows.{Picture};
 ghost use Rattle.mode_sets.specs.Mode.{ownArrows};
 ghost use Rattle.mode_sets.specs.Steps.{Small};
 ghost use Rattle.user_rows.specs.Steps.{Sized, Moded, Ready};
-ghost use Rattle.boxsets.specs.Sets.{Boxes};
+ghost use Rattle.boxsets.specs.Sets.{Boxes, tableWords};
 ghost use Rattle.list_meaning.specs.Greedy.{greedy, orderFault};
 ghost use Rattle.list_meaning.specs.Steps.{Table, unreached, grantedTo};
 ghost use Rattle.list_sets.specs.Steps.{Check12};
+ghost use Rattle.containment.specs.Steps.{closureWords};
 use base::wide;
 use boxsets::Set;
 use boxsets::is_empty;
@@ -41,11 +42,14 @@ pub struct Sorted {
     pub unclear: Verdict,
 }
 
+// The words of a table with a set for each box.
+const TABLE_WORDS: usize = 1024;
+
 // A set for each box.
-pub fn no_sets() -> [u64; 1024]
-    ensures { λ r. ⌜ r ≡ zeros 1024 ⌝ }
+pub fn no_sets() -> [u64; TABLE_WORDS]
+    ensures { λ r. ⌜ r ≡ zeros tableWords ⌝ }
 {
-    [0u64; 1024]
+    [0u64; TABLE_WORDS]
 }
 
 // Check 12, and the granted files of each user.
@@ -58,8 +62,8 @@ fn sort_rows(
     asked: Asked,
     granted: &mut [u64],
 ) -> Verdict
-    requires { ⌜ Sized (now closure) (now heads) (now arrows) (now own) × Boxes (now users) × (now granted ≡ zeros 1024) ⌝ }
-    ensures { λ _. ⌜ length (now (granted .exit)) ≡ 1024 ⌝ }
+    requires { ⌜ Sized (now closure) (now heads) (now arrows) (now own) × Boxes (now users) × (now granted ≡ zeros tableWords) ⌝ }
+    ensures { λ _. ⌜ length (now (granted .exit)) ≡ tableWords ⌝ }
     ensures { λ r. ⌜ ((pic : Picture) → Ready pic (now (closure .entry)) (now (arrows .entry)) (now (users .entry)) (asked .files)
         → Moded pic (asked .mode) (now (heads .entry)) (now (arrows .entry)) (now (own .entry))
         → Check12 pic (asked .mode) r (now (granted .exit))) ⌝ }
@@ -88,11 +92,11 @@ pub fn sort_mode(
     own: &mut [u16],
     granted: &mut [u64],
 ) -> Sorted
-    requires { ⌜ (length (now closure) ≡ 2048) × Small (now arrows) × Boxes (now users) × (512 ≤ length (now own))
-        × (now granted ≡ zeros 1024) ⌝ }
+    requires { ⌜ (length (now closure) ≡ closureWords) × Small (now arrows) × Boxes (now users) × (512 ≤ length (now own))
+        × (now granted ≡ zeros tableWords) ⌝ }
     ensures { λ r. ⌜ (r .own ≡ length (ownArrows (now (arrows .entry)) (asked .mode)))
         × (now (own .exit) ≡ written (ownArrows (now (arrows .entry)) (asked .mode)) (now (own .entry))) ⌝ }
-    ensures { λ _. ⌜ length (now (granted .exit)) ≡ 1024 ⌝ }
+    ensures { λ _. ⌜ length (now (granted .exit)) ≡ tableWords ⌝ }
     ensures { λ r. ⌜ ((pic : Picture) → Ready pic (now (closure .entry)) (now (arrows .entry)) (now (users .entry)) (asked .files)
         → Check12 pic (asked .mode) (r .unclear) (now (granted .exit))) ⌝ }
 {
@@ -114,8 +118,8 @@ pub fn sort_mode(
 
 // All files for each user.
 pub fn fill_left(users: &[u16], files: Set, left: &mut [u64])
-    requires { ⌜ Boxes (now users) × (now left ≡ zeros 1024) ⌝ }
-    ensures { λ _. ⌜ length (now (left .exit)) ≡ 1024 ⌝ }
+    requires { ⌜ Boxes (now users) × (now left ≡ zeros tableWords) ⌝ }
+    ensures { λ _. ⌜ length (now (left .exit)) ≡ tableWords ⌝ }
     ensures { λ _. ⌜ ((pic : Picture) (closure arrows : List ℕ) → Ready pic closure arrows (now (users .entry)) files
         → Table pic (unreached pic []) (now (left .exit))) ⌝ }
 {
@@ -126,7 +130,7 @@ pub fn fill_left(users: &[u16], files: Set, left: &mut [u64])
 
 // The first granted pair that is left: refusal 13 names it.
 pub fn check_left(users: &[u16], left: &[u64], granted: &[u64], mode: u16) -> Verdict
-    requires { ⌜ Boxes (now users) × (length (now left) ≡ 1024) × (length (now granted) ≡ 1024) ⌝ }
+    requires { ⌜ Boxes (now users) × (length (now left) ≡ tableWords) × (length (now granted) ≡ tableWords) ⌝ }
     ensures { λ r. ⌜ ((pic : Picture) (closure arrows : List ℕ) (files : Set) → Ready pic closure arrows (now (users .entry)) files
         → Table pic (grantedTo pic mode) (now (granted .entry)) → Table pic (unreached pic (greedy pic mode)) (now (left .entry))
         → r ≡ verdictOf (orderFault pic mode)) ⌝ }

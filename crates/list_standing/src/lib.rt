@@ -5,9 +5,10 @@ ghost use Prim.Native.Nat.{ℕ, _<_};
 ghost use lib.Dec.{eqb};
 ghost use lib.ListN.{length};
 ghost use Rattle.tables.specs.Rows.{arrowCount, arrowAt};
-ghost use Rattle.boxsets.specs.Sets.{isIn, inWord, has};
+ghost use Rattle.boxsets.specs.Sets.{isIn, inWord, has, tableWords};
 ghost use Rattle.mode_sets.specs.Steps.{Small};
 ghost use Rattle.list_standing.specs.Steps.{someIn, wrongAt, standingOf, standingBy, markOf};
+ghost use Rattle.containment.specs.Steps.{closureWords};
 use base::wide;
 use boxsets::Set;
 use boxsets::drop_bit;
@@ -27,7 +28,7 @@ pub enum Standing {
 
 // Whether one of the users of word q has one of the files left.
 fn left_word(word: u64, q: usize, files: Set, left: &[u64]) -> bool
-    requires { ⌜ (q < 4) × (length (now left) ≡ 1024) ⌝ }
+    requires { ⌜ (q < 4) × (length (now left) ≡ tableWords) ⌝ }
     ensures { λ r. ⌜ r ≡ someIn (inWord q word) files (has (now (left .entry))) ⌝ }
 {
     let mut rest = word;
@@ -43,7 +44,7 @@ fn left_word(word: u64, q: usize, files: Set, left: &[u64]) -> bool
 
 // Whether one of the users has one of the files left.
 fn any_left(users: Set, files: Set, left: &[u64]) -> bool
-    requires { ⌜ length (now left) ≡ 1024 ⌝ }
+    requires { ⌜ length (now left) ≡ tableWords ⌝ }
     ensures { λ r. ⌜ r ≡ someIn (isIn users) files (has (now (left .entry))) ⌝ }
 {
     if left_word(users.a, 0, files, left) {
@@ -70,7 +71,7 @@ fn wrong_of(files: Set, granted: Set, sign: u16) -> Set
 
 // Whether an arrow of the sign would give the wrong answer to one of the files that a user of word q has left.
 fn wrong_word(word: u64, q: usize, files: Set, left: &[u64], granted: &[u64], sign: u16) -> bool
-    requires { ⌜ (q < 4) × (length (now left) ≡ 1024) × (length (now granted) ≡ 1024) ⌝ }
+    requires { ⌜ (q < 4) × (length (now left) ≡ tableWords) × (length (now granted) ≡ tableWords) ⌝ }
     ensures { λ r. ⌜ r ≡ someIn (inWord q word) files (wrongAt (now (left .entry)) (now (granted .entry)) sign) ⌝ }
 {
     let mut rest = word;
@@ -87,7 +88,7 @@ fn wrong_word(word: u64, q: usize, files: Set, left: &[u64], granted: &[u64], si
 
 // Whether it would give it to one of the files that one of the users has left.
 fn any_wrong(users: Set, files: Set, left: &[u64], granted: &[u64], sign: u16) -> bool
-    requires { ⌜ (length (now left) ≡ 1024) × (length (now granted) ≡ 1024) ⌝ }
+    requires { ⌜ (length (now left) ≡ tableWords) × (length (now granted) ≡ tableWords) ⌝ }
     ensures { λ r. ⌜ r ≡ someIn (isIn users) files (wrongAt (now (left .entry)) (now (granted .entry)) sign) ⌝ }
 {
     if wrong_word(users.a, 0, files, left, granted, sign) {
@@ -104,7 +105,7 @@ fn any_wrong(users: Set, files: Set, left: &[u64], granted: &[u64], sign: u16) -
 
 // How an arrow of the sign stands that reaches these users and files.
 fn standing_of(users: Set, files: Set, left: &[u64], granted: &[u64], sign: u16) -> Standing
-    requires { ⌜ (length (now left) ≡ 1024) × (length (now granted) ≡ 1024) ⌝ }
+    requires { ⌜ (length (now left) ≡ tableWords) × (length (now granted) ≡ tableWords) ⌝ }
     ensures { λ r. ⌜ r ≡ standingOf (someIn (isIn users) files (wrongAt (now (left .entry)) (now (granted .entry)) sign))
         (someIn (isIn users) files (has (now (left .entry)))) ⌝ }
 {
@@ -119,7 +120,7 @@ fn standing_of(users: Set, files: Set, left: &[u64], granted: &[u64], sign: u16)
 
 // How arrow k stands, by the closure.
 fn standing_by(closure: &[u64], arrows: &[u16], left: &[u64], granted: &[u64], k: usize) -> Standing
-    requires { ⌜ (length (now closure) ≡ 2048) × (length (now left) ≡ 1024) × (length (now granted) ≡ 1024)
+    requires { ⌜ (length (now closure) ≡ closureWords) × (length (now left) ≡ tableWords) × (length (now granted) ≡ tableWords)
         × Small (now arrows) × (k < arrowCount (now arrows)) ⌝ }
     ensures { λ r. ⌜ r ≡ standingBy (now (closure .entry)) (now (left .entry)) (now (granted .entry))
         (arrowAt (now (arrows .entry)) k) ⌝ }
@@ -132,7 +133,7 @@ fn standing_by(closure: &[u64], arrows: &[u16], left: &[u64], granted: &[u64], k
 
 // The same as a mark.
 pub fn look(closure: &[u64], arrows: &[u16], left: &[u64], granted: &[u64], k: usize) -> u8
-    requires { ⌜ (length (now closure) ≡ 2048) × (length (now left) ≡ 1024) × (length (now granted) ≡ 1024)
+    requires { ⌜ (length (now closure) ≡ closureWords) × (length (now left) ≡ tableWords) × (length (now granted) ≡ tableWords)
         × Small (now arrows) × (k < arrowCount (now arrows)) ⌝ }
     ensures { λ r. ⌜ r ≡ markOf (standingBy (now (closure .entry)) (now (left .entry)) (now (granted .entry))
         (arrowAt (now (arrows .entry)) k)) ⌝ }

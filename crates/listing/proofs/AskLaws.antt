@@ -20,6 +20,7 @@ use Rattle.mode_sets.proofs.CallerLaws.{own-numbers}
 use Rattle.mode_sets.proofs.OwnLaws.{own-most}
 use Rattle.user_rows.specs.Steps.{Sized, Moded, Sorts}
 use Rattle.user_rows.specs.declared.Row.{Row}
+use Rattle.containment.specs.Steps.{closureWords}
 
 module _ {arrows old own : List ℕ} {count : ℕ} (m : ℕ) (small : Small arrows) (room : old ≡ zeros 512)
     (w : Wrote (ownArrows arrows m) old count own) where
@@ -35,7 +36,7 @@ module _ {arrows old own : List ℕ} {count : ℕ} (m : ℕ) (small : Small arro
   own-is = part-is (ownArrows arrows m) old count own w
 
   module _ {heads : List ℕ} (sets : ModeSets arrows m heads) where
-    pub own-sized : {closure : List ℕ} → length closure ≡ 2048 → Sized closure heads arrows (take count own)
+    pub own-sized : {closure : List ℕ} → length closure ≡ closureWords → Sized closure heads arrows (take count own)
     own-sized e = record { closure-len = e; heads-len = sets .len; small = small; numbers = rw own-is (own-numbers arrows m) }
 
     pub own-moded : {pic : Picture} → arrows ≡ pic .arrows → Moded pic m heads arrows (take count own)

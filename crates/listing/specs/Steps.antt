@@ -25,12 +25,13 @@ use Rattle.lines.specs.declared.Line.the-variants.{Pair}
 use Rattle.listing.specs.declared.Place.{Place}
 use Rattle.listing.specs.declared.Told.{Told}
 use Rattle.listing.specs.declared.Chunk.{Chunk}
+use Rattle.containment.specs.Steps.{closureWords}
 
 -- ---- what keeps every index in range
 
 -- the tables that rows are made from
 pub record InRange (closure arrows us fs : List ℕ) : Type 0 where
-  pub closure-len : length closure ≡ 2048
+  pub closure-len : length closure ≡ closureWords
   pub small : Small arrows
   pub users-small : Boxes us
   pub files-small : Boxes fs
@@ -90,7 +91,7 @@ module _ (pic : Picture) where
 -- the picture is what the file says, and reading found nothing wrong
 pub record Read (file : List ℕ) (pic : Picture) : Type 0 where
   pub picture-is : pic ≡ pictureOf file
-  pub read : readFault file 256 2048 2048 ≡ none
+  pub read : readFault file 256 closureWords closureWords ≡ none
 
 -- and the checks of the picture found nothing either
 pub record Good (file : List ℕ) (pic : Picture) : Type 0 where

@@ -10,6 +10,7 @@ ghost use Rattle.mode_sets.specs.Steps.{Small};
 ghost use Rattle.certificates.specs.Steps.{Drawn};
 ghost use Rattle.user_rows.specs.Steps.{Sorts, blankRow};
 ghost use Rattle.listing.specs.Steps.{RowPut};
+ghost use Rattle.containment.specs.Steps.{closureWords};
 use super::Told;
 use base::wide;
 use lines::Line;
@@ -27,7 +28,7 @@ fn answers_of(
     files: &[u16],
     numbers: &mut [u16],
 ) -> Row
-    requires { ⌜ (length (now closure) ≡ 2048) × Small (now arrows) × (user < 256)
+    requires { ⌜ (length (now closure) ≡ closureWords) × Small (now arrows) × (user < 256)
         × Boxes (now files) × (now numbers ≡ blankRow) ⌝ }
     ensures { λ r. ⌜ ((pic : Picture) → Drawn pic (now (closure .entry)) → now (arrows .entry) ≡ pic .arrows
         → user < length (pic .boxes) → Sorts pic mode user (among (now (files .entry))) r
@@ -51,7 +52,7 @@ pub fn put_row(
     out: &mut [u8],
     at: usize,
 ) -> Told
-    requires { ⌜ (length (now closure) ≡ 2048) × Small (now arrows) × (user < 256) × Boxes (now files) ⌝ }
+    requires { ⌜ (length (now closure) ≡ closureWords) × Small (now arrows) × (user < 256) × Boxes (now files) ⌝ }
     requires { ⌜ at + length (now files) * 111 ≤ length (now out) ⌝ }
     ensures { λ _. ⌜ length (now (out .exit)) ≡ length (now (out .entry)) ⌝ }
     ensures { λ r. ⌜ ((pic : Picture) → Drawn pic (now (closure .entry)) → now (arrows .entry) ≡ pic .arrows

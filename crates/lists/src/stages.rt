@@ -11,12 +11,13 @@ ghost use Rattle.meaning.specs.Meaning.{modeArrows};
 ghost use Rattle.meaning.specs.Pairs.{pairs};
 ghost use Rattle.mode_sets.specs.Steps.{Small, Numbers};
 ghost use Rattle.user_rows.specs.Steps.{Ready};
-ghost use Rattle.boxsets.specs.Sets.{Boxes};
+ghost use Rattle.boxsets.specs.Sets.{Boxes, tableWords};
 ghost use Rattle.list_meaning.specs.Greedy.{greedy, orderFault};
 ghost use Rattle.list_meaning.specs.Calls.{listAnswer, listAfter};
 ghost use Rattle.list_meaning.specs.Steps.{Listing};
 ghost use Rattle.list_meaning.specs.Lists.{listRoom};
 ghost use Rattle.list_order.specs.Steps.{Clear};
+ghost use Rattle.containment.specs.Steps.{closureWords};
 use base::fill;
 use list_meaning::Listed;
 use list_order::order;
@@ -68,7 +69,7 @@ fn list_clear(
     granted: &[u64],
     out: &mut [u16],
 ) -> Listed
-    requires { ⌜ (length (now closure) ≡ 2048) × (length (now granted) ≡ 1024) × Boxes (now users) ⌝ }
+    requires { ⌜ (length (now closure) ≡ closureWords) × (length (now granted) ≡ tableWords) × Boxes (now users) ⌝ }
     requires { ⌜ Small (now arrows) × Numbers (now arrows) (now own) × (length (now own) ≤ 512) ⌝ }
     requires { ⌜ (length (now own) ≤ length (now out)) × (length (modeArrows (now arrows) (asked .mode)) ≤ length (now out)) ⌝ }
     ensures { λ r. ⌜ ((pic : Picture)
@@ -93,7 +94,7 @@ pub fn list_mode(
     out: &mut [u16],
     work: &mut [u8],
 ) -> Listed
-    requires { ⌜ (length (now closure) ≡ 2048) × Small (now arrows) × Boxes (now users) ⌝ }
+    requires { ⌜ (length (now closure) ≡ closureWords) × Small (now arrows) × Boxes (now users) ⌝ }
     requires { ⌜ (length (modeArrows (now arrows) (asked .mode)) ≤ length (now out)) × (asked .pairs ≤ length (now work)) ⌝ }
     ensures { λ r. ⌜ ((pic : Picture) → Ready pic (now (closure .entry)) (now (arrows .entry)) (now (users .entry)) (asked .files)
         → asked .pairs ≡ pairs pic

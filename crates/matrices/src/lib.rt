@@ -9,6 +9,7 @@ ghost use Rattle.boxsets.specs.Sets.{Boxes};
 ghost use Rattle.meaning.specs.Pairs.{matrixBytes, matrixNumbers};
 ghost use Rattle.mode_sets.specs.Steps.{Small};
 ghost use Rattle.certificates.specs.Steps.{Drawn};
+ghost use Rattle.containment.specs.Steps.{closureWords};
 use atoms::atoms_of;
 use atoms::no_boxes;
 use base::wide;
@@ -32,7 +33,7 @@ fn fill_matrix(
     bytes: &mut [u8],
     numbers: &mut [u16],
 )
-    requires { ⌜ (length (now closure) ≡ 2048) × Small (now arrows) × Boxes (now users) × Boxes (now files)
+    requires { ⌜ (length (now closure) ≡ closureWords) × Small (now arrows) × Boxes (now users) × Boxes (now files)
         × (length (now users) * length (now files) ≤ length (now bytes))
         × (length (now users) * length (now files) ≤ length (now numbers)) ⌝ }
     ensures { λ _. ⌜ ((pic : Picture) → Drawn pic (now (closure .entry)) → now (arrows .entry) ≡ pic .arrows

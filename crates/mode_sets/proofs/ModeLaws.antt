@@ -22,7 +22,7 @@ use Rattle.boxsets.proofs.WordLaws.{eqb-turned, eqb-shifted}
 use Rattle.meaning.specs.Meaning.{hasMode}
 use Rattle.meaning.proofs.ModeLaws.{hasMode-is}
 use Rattle.mode_sets.specs.Mode.{same, leaves, headsBelow, tailsBelow, isOwn}
-use Rattle.mode_sets.specs.Steps.{SetsBelow, Took}
+use Rattle.mode_sets.specs.Steps.{SetsBelow, Took, headsWords}
 use Rattle.mode_sets.proofs.SameLaws.{same-parts, same-is}
 
 -- ---- one arrow is added
@@ -171,12 +171,12 @@ module _ (arrows : List ℕ) (m : ℕ) where
 
   -- ---- the turns of the loop
 
-  pub sets-none : SetsBelow arrows m 0 (zeros 2056)
+  pub sets-none : SetsBelow arrows m 0 (zeros headsWords)
   unfolding headsBelow tailsBelow
   sets-none = record {
-    len = zeros-length 2056;
-    heads-are = λ s t g ls lt. zeros-has 2056 (256 * s + t) g ∙ sym (any-zero _);
-    tails-are = λ s t ls. zeros-has 2056 (512 + s) t ∙ sym (any-zero _);
+    len = zeros-length headsWords;
+    heads-are = λ s t g ls lt. zeros-has headsWords (256 * s + t) g ∙ sym (any-zero _);
+    tails-are = λ s t ls. zeros-has headsWords (512 + s) t ∙ sym (any-zero _);
   }
 
   or-no : (x y : Bool) → y ≡ false → x ≡ (x || y)

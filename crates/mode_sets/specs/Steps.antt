@@ -25,9 +25,13 @@ Numbers arrows own = (i : ℕ) → i < length own → getD own i 0 < arrowCount 
 
 -- ---- what the tables say
 
+-- the words of the sets of a mode: one for each sign and tail, and one for each sign
+abbrev pub headsWords : ℕ
+headsWords = 2056
+
 -- the sets of the mode's arrows below k
 pub record SetsBelow (arrows : List ℕ) (mode k : ℕ) (heads : List ℕ) : Type 0 where
-  pub len : length heads ≡ 2056
+  pub len : length heads ≡ headsWords
   pub heads-are : (sign t g : ℕ) → sign ≤ 1 → t < 256 → has heads (256 * sign + t) g ≡ headsBelow arrows mode k sign (λ x. eqb x t) g
   pub tails-are : (sign t : ℕ) → sign ≤ 1 → has heads (512 + sign) t ≡ tailsBelow arrows mode k sign t
 

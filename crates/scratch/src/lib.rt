@@ -13,7 +13,7 @@ ghost use Rattle.tables.specs.Refusals.{verdictOf};
 ghost use Rattle.tables.specs.declared.Refusal.{Refusal};
 ghost use Rattle.tables.specs.Steps.{SoundRows};
 ghost use Rattle.containment.specs.Contains.{loopFault};
-ghost use Rattle.containment.specs.Steps.{Closure};
+ghost use Rattle.containment.specs.Steps.{Closure, closureWords};
 ghost use Rattle.scratch.specs.Scratch.{filled, scratchFault, scratchAfter, earlyFault};
 use checks::check_room;
 use containment::add_selves;
@@ -28,7 +28,7 @@ use tables::Verdict;
 pub fn contain(boxes: &[u8], rows: &[u16], scratch: &mut [u8], closure: &mut [u64]) -> Verdict
     requires { ⌜ SoundRows (now boxes) (now rows) ⌝ }
     requires { ⌜ length (now boxes) * length (now boxes) ≤ length (now scratch) ⌝ }
-    requires { ⌜ now closure ≡ zeros 2048 ⌝ }
+    requires { ⌜ now closure ≡ zeros closureWords ⌝ }
     ensures { λ r. ⌜ r ≡ verdictOf (loopFault (now (boxes .entry)) (now (rows .entry))) ⌝ }
     ensures { λ _. ⌜ now (scratch .exit) ≡ filled (length (now (boxes .entry))) (now (rows .entry)) (now (scratch .entry)) ⌝ }
     ensures { λ _. ⌜ Closure (length (now (boxes .entry))) (now (rows .entry)) (now (closure .exit)) ⌝ }
@@ -73,7 +73,7 @@ pub fn prepare(
 ) -> Verdict
     requires { ⌜ (early ≡ Verdict.Passed
         → SoundRows (now boxes) (now rows) × (length (now boxes) * length (now boxes) ≤ length (now scratch))) ⌝ }
-    requires { ⌜ now closure ≡ zeros 2048 ⌝ }
+    requires { ⌜ now closure ≡ zeros closureWords ⌝ }
     ensures { λ r. ⌜ ((e : Option Refusal) → early ≡ verdictOf e
         → (r ≡ verdictOf (orElse e (loopFault (now (boxes .entry)) (now (rows .entry)))))
         × (now (scratch .exit) ≡ scratchAfter e (now (boxes .entry)) (now (rows .entry)) (now (scratch .entry)))) ⌝ }

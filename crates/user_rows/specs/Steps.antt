@@ -13,18 +13,19 @@ use Rattle.meaning.specs.Meaning.{positive, negative, answer, isGranted, isUncl
 use Rattle.boxsets.specs.Sets.{isIn, has}
 use Rattle.boxsets.specs.declared.Set.{Set}
 use Rattle.mode_sets.specs.Mode.{ownArrows}
-use Rattle.mode_sets.specs.Steps.{Small, Numbers, ModeSets}
+use Rattle.mode_sets.specs.Steps.{Small, Numbers, ModeSets, headsWords}
 use Rattle.certificates.specs.Steps.{Drawn, NearBy}
 use Rattle.user_rows.specs.Row.{shows}
 use Rattle.user_rows.specs.declared.Around.{Around}
 use Rattle.user_rows.specs.declared.Row.{Row}
+use Rattle.containment.specs.Steps.{closureWords}
 
 -- ---- what keeps every index in range
 
 -- the tables of a row, by their lengths, and the mode's arrows
 pub record Sized (closure heads arrows own : List ℕ) : Type 0 where
-  pub closure-len : length closure ≡ 2048
-  pub heads-len : length heads ≡ 2056
+  pub closure-len : length closure ≡ closureWords
+  pub heads-len : length heads ≡ headsWords
   pub small : Small arrows
   pub numbers : Numbers arrows own
 

@@ -9,10 +9,11 @@ ghost use Rattle.base.specs.Search.{lowest};
 ghost use Rattle.tables.specs.Rows.{Picture, arrowAt, arrowCount};
 ghost use Rattle.meaning.specs.Meaning.{hasMode, hits, answer, numberOf};
 ghost use Rattle.boxsets.specs.Sets.{isIn, inWord, has};
-ghost use Rattle.mode_sets.specs.Steps.{Small, Numbers, ModeSets};
+ghost use Rattle.mode_sets.specs.Steps.{Small, Numbers, ModeSets, headsWords};
 ghost use Rattle.certificates.specs.Steps.{Drawn};
 ghost use Rattle.user_rows.specs.Row.{shows};
 ghost use Rattle.user_rows.specs.Steps.{Sized, Moded, AroundBy, Walked, Sorts, NextNear, NumberedAt, Numbered, blankRow};
+ghost use Rattle.containment.specs.Steps.{closureWords};
 use super::Around;
 use super::Row;
 use base::narrow;
@@ -33,7 +34,7 @@ use set_tables::has;
 use tables::Arrow;
 
 fn around_user(closure: &[u64], heads: &[u64], user: usize, asked: Set) -> Around
-    requires { ⌜ (length (now closure) ≡ 2048) × (length (now heads) ≡ 2056) × (user < 256) ⌝ }
+    requires { ⌜ (length (now closure) ≡ closureWords) × (length (now heads) ≡ headsWords) × (user < 256) ⌝ }
     ensures { λ r. ⌜ (r .user ≡ user) × (r .negative .sign ≡ 0) × (r .positive .sign ≡ 1) ⌝ }
     ensures { λ r. ⌜ ((pic : Picture) (m : ℕ) → Drawn pic (now (closure .entry)) → ModeSets (pic .arrows) m (now (heads .entry))
         → user < length (pic .boxes) → AroundBy pic m user (isIn asked) r) ⌝ }
@@ -49,7 +50,7 @@ fn around_user(closure: &[u64], heads: &[u64], user: usize, asked: Set) -> Aroun
 
 // The first place from `from` on whose arrow is around the user, or one past the last.
 fn next_near(closure: &[u64], arrows: &[u16], own: &[u16], user: usize, from: usize) -> usize
-    requires { ⌜ (length (now closure) ≡ 2048) × Small (now arrows) × Numbers (now arrows) (now own) × (user < 256)
+    requires { ⌜ (length (now closure) ≡ closureWords) × Small (now arrows) × Numbers (now arrows) (now own) × (user < 256)
         × (from ≤ length (now own)) ⌝ }
     ensures { λ r. ⌜ NextNear (now (closure .entry)) (now (arrows .entry)) (now (own .entry)) user from r ⌝ }
 {
@@ -64,7 +65,7 @@ fn next_near(closure: &[u64], arrows: &[u16], own: &[u16], user: usize, from: us
 
 // Of the files left, those at which an arrow around the user is a certificate.
 fn shown(closure: &[u64], heads: &[u64], x: Around, a: Arrow, left: Set) -> Set
-    requires { ⌜ (length (now closure) ≡ 2048) × (length (now heads) ≡ 2056) × (a .tail < 256) × (a .head < 256)
+    requires { ⌜ (length (now closure) ≡ closureWords) × (length (now heads) ≡ headsWords) × (a .tail < 256) × (a .head < 256)
         × (x .negative .sign ≡ 0) × (x .positive .sign ≡ 1) ⌝ }
     ensures { λ r. ⌜ ((pic : Picture) (m u k : ℕ) (asked : ℕ → Bool) → Drawn pic (now (closure .entry))
         → ModeSets (pic .arrows) m (now (heads .entry)) → AroundBy pic m u asked x → u < length (pic .boxes)
@@ -233,7 +234,7 @@ pub fn answer_row(
 
 // The lowest arrow of a mode and a sign that reaches the pair, or 65,535.
 fn first_hit(closure: &[u64], arrows: &[u16], mode: u16, sign: u16, u: usize, f: usize) -> u16
-    requires { ⌜ (length (now closure) ≡ 2048) × Small (now arrows) × (u < 256) × (f < 256) ⌝ }
+    requires { ⌜ (length (now closure) ≡ closureWords) × Small (now arrows) × (u < 256) × (f < 256) ⌝ }
     ensures { λ r. ⌜ ((pic : Picture) → Drawn pic (now (closure .entry)) → now (arrows .entry) ≡ pic .arrows
         → u < length (pic .boxes) → f < length (pic .boxes)
         → (k : ℕ) → lowest (hits pic mode sign u f) (arrowCount (pic .arrows)) ≡ some k → r ≡ k) ⌝ }
@@ -259,7 +260,7 @@ pub fn entry_of(
     f: usize,
     number: u16,
 ) -> Entry
-    requires { ⌜ (length (now closure) ≡ 2048) × Small (now arrows) × (u < 256) × (f < 256) ⌝ }
+    requires { ⌜ (length (now closure) ≡ closureWords) × Small (now arrows) × (u < 256) × (f < 256) ⌝ }
     ensures { λ r. ⌜ ((pic : Picture) (asked : ℕ → Bool) → Drawn pic (now (closure .entry)) → now (arrows .entry) ≡ pic .arrows
         → u < length (pic .boxes) → f < length (pic .boxes) → T (asked f)
         → Sorts pic mode u asked row → number ≡ numberOf (answer pic mode u f)

@@ -8,7 +8,7 @@ use borrow.Author.Needs.{needs}
 use lib.ListN.{length}
 use Rattle.base.proofs.BufferLaws.{zeros-length}
 use Rattle.tables.specs.Rows.{Picture}
-use Rattle.boxsets.specs.Sets.{isIn}
+use Rattle.boxsets.specs.Sets.{isIn, tableWords}
 use Rattle.boxsets.specs.declared.Set.{Set}
 use Rattle.user_rows.specs.Steps.{Ready, Moded, Sorts}
 use Rattle.kept_rows.specs.Steps.{Keeps}
@@ -18,7 +18,7 @@ use Rattle.list_sets.proofs.sort_rows.Tie as tie
 
 abbrev Inv-loop : tie.InvT-loop
 Inv-loop closure heads arrows own users asked granted₀ last₀ i₀ i-end granted last i =
-    (i ≤ length users) × (length granted ≡ 1024) × (last .asked ≡ asked .files)
+    (i ≤ length users) × (length granted ≡ tableWords) × (last .asked ≡ asked .files)
     × ((pic : Picture) (r : Ready pic closure arrows users (asked .files)) → Moded pic (asked .mode) heads arrows own
     → Sorting pic (asked .mode) closure arrows users (asked .files) r i granted × Keeps pic (asked .mode) last)
 

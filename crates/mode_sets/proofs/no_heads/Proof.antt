@@ -2,9 +2,10 @@
 use Rattle.base.proofs.BufferLaws.{zeros-is}
 use Rattle.mode_sets.proofs.no_heads.Statement.{statement}
 use Rattle.mode_sets.proofs.no_heads.Tie as tie
+use Rattle.mode_sets.specs.Steps.{headsWords}
 
 returns : tie.Need-returns
-returns c = zeros-is 2056
+returns c = zeros-is headsWords
 
 pub no-heads-spec : {M : Type 1} → statement M
 no-heads-spec = tie.close (tie.spec returns)

@@ -12,6 +12,7 @@ use Rattle.mode_sets.specs.Mode.{isOwn, ownArrows}
 use Rattle.mode_sets.proofs.ModeLaws.{sets-none, Turned, turn-other, turn-repeat, turn-own}
 use Rattle.mode_sets.proofs.take_mode.Statement.{statement}
 use Rattle.mode_sets.proofs.take_mode.Tie as tie
+use Rattle.mode_sets.specs.Steps.{headsWords}
 
 abbrev Inv-loop : tie.InvT-loop
 Inv-loop arrows mode own₀ heads₀ count₀ k₀ k-end own heads count k =
@@ -100,7 +101,7 @@ same-length c =
 
 same-length-2 : tie.Need-same-length-2 Inv-loop μ-loop
 same-length-2 c = let at-loop = c .before in
-    at-loop .loop .inv .1 .1 .len ∙ sym (ap length (at-loop .before .before .before .before .pre .2) ∙ zeros-length 2056)
+    at-loop .loop .inv .1 .1 .len ∙ sym (ap length (at-loop .before .before .before .before .pre .2) ∙ zeros-length headsWords)
 
 returns : tie.Need-returns Inv-loop μ-loop
 unfolding ownArrows

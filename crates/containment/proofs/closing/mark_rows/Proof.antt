@@ -8,7 +8,7 @@ use Rattle.base.proofs.BufferLaws.{zeros-length}
 use Rattle.tables.specs.Rows.{rowCount}
 use Rattle.tables.proofs.RowLaws.{rows-end}
 use Rattle.containment.specs.Contains.{direct}
-use Rattle.containment.specs.Steps.{Both}
+use Rattle.containment.specs.Steps.{Both, closureWords}
 use Rattle.containment.proofs.RowBoxes.{RowBoxes, row-boxes}
 use Rattle.containment.proofs.ClosingLaws.{marked-none, mark-row}
 use Rattle.containment.proofs.closing.mark_rows.Statement.{statement}
@@ -68,7 +68,7 @@ same-length : tie.Need-same-length Inv-loop μ-loop
 same-length c =
     let at = c .before in
     let start = at .before .before .before in
-    at .loop .inv .1 .len ∙ sym (ap length (start .pre .1) ∙ zeros-length 2048)
+    at .loop .inv .1 .len ∙ sym (ap length (start .pre .1) ∙ zeros-length closureWords)
 
 returns : tie.Need-returns Inv-loop μ-loop
 returns c =
