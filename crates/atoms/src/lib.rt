@@ -103,10 +103,10 @@ pub fn atoms_of(boxes: &[u8], rows: &[u16], side: u8, out: &mut [u16]) -> usize
 }
 
 // Room for box numbers.
-pub fn no_boxes() -> [u16; 256]
+pub fn no_boxes() -> [u16; BoxRow::LIMIT]
     ensures { λ r. ⌜ r ≡ zeros 256 ⌝ }
 {
-    [0u16; 256]
+    [0u16; BoxRow::LIMIT]
 }
 
 // How many pairs of an atomic user and an atomic file there are.

@@ -2,15 +2,15 @@
 use mathlib.Core.Path.{_≡_, refl, subst}
 use mathlib.Core.Logic.{_⊎_, ⊎-elim}
 use mathlib.Core.Bool.{Bool, true, false, not, _&&_, _||_}
-use mathlib.Core.Option.{none, some}
+use mathlib.Core.Option.{none}
 use Prim.Native.Nat.{ℕ, zero, suc, _+_, _<_}
 use native.Mathlib.Omega.{arith}
 use native.Mathlib.Numerals.{add-one}
 use lib.Dec.{T, eqb, eqb→eq, eqb-refl}
 use Rattle.base.specs.Search.{lowest, every}
 use Rattle.base.specs.Steps.{anyBelow}
-use Rattle.base.proofs.Tests.{or-T, T-or₁, T-or₂, and-T, T-and, T-same, T-true, not-false}
-use Rattle.base.proofs.SearchLaws.{below-suc, lowest-some, lowest-none}
+use Rattle.base.proofs.Tests.{or-T, T-or₁, T-or₂, and-T, T-and, T-same, not-false}
+use Rattle.base.proofs.SearchLaws.{below-suc, lowest-none}
 
 -- a loop that counts up: before it, and one number more
 pub any-zero : (p : ℕ → Bool) → anyBelow p 0 ≡ false

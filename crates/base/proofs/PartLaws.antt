@@ -6,7 +6,7 @@ use native.Mathlib.Omega.{arith}
 use lib.ListN.{length, take, drop, set}
 use lib.Seq.{take-append-seam}
 use Rattle.base.specs.Buffers.{build, written}
-use Rattle.base.proofs.BufferLaws.{written-none, written-length, build-length, written-build}
+use Rattle.base.proofs.BufferLaws.{written-none, written-length, written-build}
 
 -- so many places hold the new values
 abbrev pub Wrote : List ℕ → List ℕ → ℕ → List ℕ → Type 0

@@ -1,6 +1,5 @@
 // Checks 15 to 17 of a block.
 ghost use mathlib.Core.Path.{_≡_};
-ghost use mathlib.Core.Option.{none};
 ghost use Prim.Native.Nat.{_+_, _*_, _<_};
 ghost use lib.ListN.{take};
 ghost use Rattle.tables.specs.Refusals.{verdictOf};

@@ -28,10 +28,6 @@ use Rattle.containment.proofs.SelvesLaws.{selves-all}
 pub within-in : (n : ℕ) (rows t : List ℕ) → Closure n rows t → (a b : ℕ) → a < n → isIn (setAt t a) b ≡ around rows a b
 within-in n rows t s a b l = sym (has-in t a b) ∙ s .down a b l
 
--- set 256 + b: what is b or contains it
-pub above-in : (n : ℕ) (rows t : List ℕ) → Closure n rows t → (a b : ℕ) → b < n → isIn (setAt t (256 + b)) a ≡ around rows a b
-above-in n rows t s a b l = sym (has-in t (256 + b) a) ∙ s .up a b l
-
 -- ---- what a box contains is among the boxes of the rows
 
 -- the inner box of a row is below what those of each place in the table are below

@@ -2,7 +2,7 @@
 -- go by which rows there are, not by their order or how often each stands. Assumes nothing.
 use mathlib.Core.Path.{_≡_, refl, sym, subst}
 use mathlib.Core.Logic.{_⊎_, inl, inr, ⊎-map, ⊎-elim, _↔_}
-use mathlib.Core.Bool.{Bool, true, false, not, _&&_, _||_}
+use mathlib.Core.Bool.{false, _&&_, _||_}
 use mathlib.Core.List.{List, [], _∷_, _++_}
 use mathlib.Core.Option.{none}
 use Prim.Native.Nat.{ℕ, _%_, _<_}
@@ -237,25 +237,3 @@ pub irreflexive : (boxes rows : List ℕ) → loopFault boxes rows ≡ none → 
 unfolding loopFault
 irreflexive boxes rows e b l =
     given-none (contains rows b b) (inItself b) (first-none (λ c. given (contains rows c c) (inItself c)) (length boxes) e b l)
-
--- "a box is nested in another": what b is or contains, less what is b or contains it, is what b contains
-pub nested-is : (boxes rows : List ℕ) → loopFault boxes rows ≡ none → (b : ℕ) → b < length boxes → (a : ℕ)
-    → (around rows b a && not (around rows a b)) ≡ contains rows b a
-nested-is boxes rows e b l a =
-    T-same (around rows b a && not (around rows a b)) (contains rows b a)
-    (λ t.
-    let p = and-T (around rows b a) (not (around rows a b)) t in
-    ⊎-elim (λ i. absurd (T-not (around rows a b) (p .1) (subst (λ (z : ℕ). T (around rows z b)) i (around-self rows b)))) (λ c. c)
-    (around-cases rows b a (p .0)))
-    (λ t.
-    T-and (around rows b a) (not (around rows a b)) (contains-around rows b a t)
-    (not-T (around rows a b) (λ r. irreflexive boxes rows e b l
-    (⊎-elim (λ i. subst (λ (z : ℕ). T (contains rows b z)) i t) (contains-trans rows b a b t) (around-cases rows a b r)))))
-  where
-    T-not : (p : Bool) → T (not p) → T p → ⊥
-    T-not true t u = t
-    T-not false t u = u
-
-    not-T : (p : Bool) → (T p → ⊥) → T (not p)
-    not-T true n = n tt
-    not-T false n = tt

@@ -1,6 +1,5 @@
 -- For the crates above: the first unclear pair mode by mode, and modes without an unclear pair or without an arrow. Assumes nothing.
 use mathlib.Core.Path.{_≡_, refl, ap, _∙_}
-use mathlib.Core.List.{List}
 use mathlib.Core.Option.{none}
 use Prim.Native.Nat.{ℕ, _<_, _≤_}
 use native.Mathlib.Omega.{arith}
@@ -8,7 +7,7 @@ use lib.Dec.{T}
 use lib.ListN.{length}
 use Rattle.base.specs.Search.{first, select}
 use Rattle.tables.specs.Rows.{Picture, user, file, arrowCount, arrowAt}
-use Rattle.tables.specs.Atoms.{atom, pairCount}
+use Rattle.tables.specs.Atoms.{atom}
 use Rattle.tables.specs.Refusals.{unclearPair}
 use Rattle.base.proofs.Tests.{T-eqb}
 use Rattle.base.proofs.SearchLaws.{first-nothing}

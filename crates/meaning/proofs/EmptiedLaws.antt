@@ -1,7 +1,6 @@
 -- An arrow at a user group or folder that holds nothing reaches no pair (document 02, P6). Assumes nothing.
 use mathlib.Core.Path.{_≡_}
 use mathlib.Core.Bool.{false, and-false}
-use mathlib.Core.List.{List}
 use Prim.Native.Nat.{ℕ}
 use lib.Dec.{T}
 use lib.ListN.{getD}

@@ -1,21 +1,21 @@
 -- The pairs by their places, and the first at which a test holds, by user, then file. Assumes nothing.
 use mathlib.Core.Path.{_≡_, refl, ap}
 use mathlib.Core.Logic.{⊎-elim}
-use mathlib.Core.Bool.{Bool, true, false}
+use mathlib.Core.Bool.{Bool, false}
 use mathlib.Core.List.{List}
 use mathlib.Core.Option.{Option, none, some}
-use Prim.Native.Nat.{ℕ, _+_, _*_, _/_, _%_, _<_, _≤_}
+use Prim.Native.Nat.{ℕ, _+_, _*_, _/_, _%_, _<_}
 use native.Mathlib.Nat.{mod-lt, div-lt-iff-lt-mul, eq-zero-or-pos, mul-zero}
 use native.Mathlib.Omega.{arith}
 use lib.Dec.{T}
 use lib.ListN.{length, getD}
 use Rattle.base.specs.Search.{given, first}
 use Rattle.tables.specs.Rows.{Picture, user, file}
-use Rattle.tables.specs.Atoms.{atom, atoms, pairCount}
+use Rattle.tables.specs.Atoms.{atom}
 use Rattle.tables.specs.Refusals.{unclearPair}
 use Rattle.tables.specs.declared.Refusal.{Refusal}
-use Rattle.base.proofs.SearchLaws.{first-none, first-some, given-some, given-none, given-true, given-false}
-use Rattle.tables.proofs.AtomPlaces.{pairCount-is, atoms-found, atoms-has, atoms-before, atoms-same, few-pairs}
+use Rattle.base.proofs.SearchLaws.{first-none, first-some, given-some, given-none, given-false}
+use Rattle.tables.proofs.AtomPlaces.{pairCount-is, atoms-found, atoms-has, atoms-before, atoms-same}
 use Rattle.base.proofs.Index.{in-table, at-div, at-mod, place, row-step}
 use Rattle.meaning.specs.Pairs.{Before, users, files, pairs, userAt, fileAt, firstPair, answerAt, unclearFault}
 use Rattle.meaning.specs.Meaning.{isUnclear}

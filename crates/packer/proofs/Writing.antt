@@ -13,7 +13,7 @@ use Rattle.blocks.specs.Fnv.{fnv1a}
 use Rattle.blocks.specs.Blocks.{capacity, recordSize, joined}
 use Rattle.blocks.proofs.JoinedLaws.{joined-none}
 use Rattle.blocks.proofs.Placing.{joined-length, put-more}
-use Rattle.packing.specs.Packed.{bytes32, headBytes, covered, blockOf, least, recordBytes, blocksOf, countIn, kindBlock}
+use Rattle.packing.specs.Packed.{bytes32, headBytes, blockOf, least, recordBytes, blocksOf, countIn, kindBlock}
 use Rattle.block_parts.specs.Walks.{walkAt}
 use Rattle.packer.specs.Kinds.{OfKind, blockByte, Begins, BlocksFit}
 use Rattle.packer.specs.declared.Kind.{Kind}

@@ -1,11 +1,10 @@
 -- The packing is regular: blocks of each kind are full but the last, and none is empty, except that a picture without boxes has one box
 -- block of count 0. Every row is in a block. Assumes nothing.
-use mathlib.Core.Path.{_≡_, refl, sym, _∙_}
+use mathlib.Core.Path.{_≡_, refl, _∙_}
 use mathlib.Core.Bool.{Bool, true, false, cond}
 use Prim.Native.Nat.{ℕ, suc, _+_, _*_, _-_, _/_, _<_, _≤_}
 use native.Mathlib.Omega.{arith}
-use native.Mathlib.Nat.{add-zero, mul-zero, mul-suc, mul-le-mul-left, mul-add-div, div-eq-of-lt}
-use native.Mathlib.Numerals.{add-one}
+use native.Mathlib.Nat.{add-zero, mul-suc, mul-le-mul-left, mul-add-div, div-eq-of-lt}
 use borrow.Author.Tests.{eq-eqb, eqb-true, eqb-false}
 use lib.Dec.{eqb, ltb}
 use lib.ListN.{length}
@@ -13,7 +12,7 @@ use Rattle.tables.specs.Rows.{Picture, rowCount, arrowCount}
 use Rattle.blocks.specs.Blocks.{capacity}
 use Rattle.blocks.proofs.MadeBlocks.{of-boxes, of-containments, of-arrows, capacities}
 use Rattle.packing.specs.Packed.{least, blocksFor, rowsOf, blocksOf, firstOf, countIn}
-use Rattle.packing.proofs.Lengths.{of-kind, least-most, capacity-some}
+use Rattle.packing.proofs.Lengths.{of-kind, capacity-some}
 use Rattle.packing.proofs.Chunks.{least-low, least-high}
 
 -- ---- the smaller of two

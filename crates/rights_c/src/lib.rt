@@ -1,7 +1,6 @@
 // The calls across the C boundary (`include/rights.h`): numbers and slices in, one reply out. A slice passes as a pointer and then
 // a length in elements.
 ghost use mathlib.Core.Path.{_≡_};
-ghost use lib.ListN.{length};
 ghost use Rattle.tables.specs.Rows.{picture};
 ghost use Rattle.tables.specs.Refusals.{verdictOf};
 ghost use Rattle.scratch.specs.Scratch.{scratchAfter, earlyFault};

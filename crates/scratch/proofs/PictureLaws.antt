@@ -1,8 +1,7 @@
 -- What holds of a picture that passes checks 1 to 7, 9 for the scratch, and 10. Assumes nothing.
 use mathlib.Core.Path.{_≡_, refl}
 use mathlib.Core.List.{List}
-use mathlib.Core.Option.{Option, none}
-use Rattle.tables.specs.declared.Refusal.{Refusal}
+use mathlib.Core.Option.{none}
 use Prim.Native.Nat.{ℕ, _*_, _≤_}
 use lib.ListN.{length}
 use Rattle.base.specs.Search.{orElse}
@@ -11,7 +10,7 @@ use Rattle.tables.specs.Faults.{tableFault}
 use Rattle.tables.specs.Steps.{SoundRows, SoundArrows}
 use Rattle.tables.proofs.TableLaws.{both-none, sound-rows, sound-arrows}
 use Rattle.containment.specs.Contains.{loopFault}
-use Rattle.scratch.specs.Scratch.{filled, scratchFault, scratchAfter, earlyFault, pictureFault}
+use Rattle.scratch.specs.Scratch.{scratchFault, earlyFault, pictureFault}
 use Rattle.scratch.proofs.ScratchLaws.{scratch-room}
 
 pub record Prepared (boxes rows arrows s : List ℕ) : Type 0 where
@@ -25,10 +24,6 @@ prepared boxes rows arrows s t r = record {
   arrows-sound = sound-arrows boxes rows arrows t;
   room = scratch-room (length boxes) s r;
 }
-
--- the scratch is filled where checks 1 to 9 found nothing
-pub scratch-filled : (boxes rows s : List ℕ) {fault : Option Refusal} → fault ≡ none → scratchAfter fault boxes rows s ≡ filled (length boxes) rows s
-scratch-filled boxes rows s e = rw e
 
 -- the checks before the closure are those of the tables and of the scratch
 pub early-parts : (pic : Picture) (s : List ℕ) → earlyFault pic s ≡ none → (tableFault pic ≡ none) × (scratchFault (length (pic .boxes)) s ≡ none)

@@ -12,13 +12,12 @@
 //   c   bytes, for their check
 // Every buffer has 65,600 places, which hold 170 or 43690 before each call. What is written is the label and a line for each call:
 // what it answers, and then what every place of every buffer holds, as in a table.
-mod files;
 mod pictures;
 mod replies;
 
-use files::check_case;
-use files::file_case;
-use files::pack_case;
+use file_cases::check_case;
+use file_cases::file_case;
+use file_cases::pack_case;
 use libc::STDIN_FILENO;
 use libc::STDOUT_FILENO;
 use pictures::heading_case;

@@ -32,6 +32,7 @@ use certificates::certified;
 use meaning::Entry;
 use set_tables::has;
 use tables::Arrow;
+use tables::BoxRow;
 
 fn around_user(closure: &[u64], heads: &[u64], user: usize, asked: Set) -> Around
     requires { ⌜ (length (now closure) ≡ closureWords) × (length (now heads) ≡ headsWords) × (user < 256) ⌝ }
@@ -165,10 +166,10 @@ fn walk(
 }
 
 // Room for the numbers of a row, by box number: 65,535 throughout.
-pub fn no_row() -> [u16; 256]
+pub fn no_row() -> [u16; BoxRow::LIMIT]
     ensures { λ r. ⌜ r ≡ blankRow ⌝ }
 {
-    [Arrow::NONE; 256]
+    [Arrow::NONE; BoxRow::LIMIT]
 }
 
 // The row of a user for the asked files. A file that arrows of one sign only reach is settled without a look at them one by one.

@@ -1,5 +1,5 @@
 -- Tail, head, then mode and sign, one behind the other. Assumes nothing.
-use mathlib.Core.Path.{ap, _∙_}
+use mathlib.Core.Path.{ap}
 use Rattle.block_parts.proofs.Putting.{chain}
 use mathlib.Core.List.{_∷_, [], _++_, append-assoc}
 use Rattle.tables.specs.declared.Arrow.{Arrow}

@@ -3,8 +3,6 @@ use mathlib.Core.Path.{sym, ap, _∙_}
 use mathlib.Core.Bool.{Bool, _||_}
 use native.Mathlib.Omega.{arith}
 use borrow.Author.Needs.{needs}
-use lib.ListN.{length, getD}
-use Rattle.base.proofs.BufferLaws.{zeros-length}
 use Rattle.boxsets.specs.Sets.{isIn}
 use Rattle.boxsets.proofs.WalkLaws.{empty-none}
 use Rattle.user_rows.proofs.RowSorts.{sorted, sorted-clear}

@@ -1,7 +1,6 @@
-// The cases of block files: read, packed, and their check.
-use super::replies::show_packing;
-use super::replies::show_reading;
-use super::replies::show_seen;
+// The cases of block files for the test program: read, packed, and their check.
+mod replies;
+
 use blocks::Check;
 use case_text::byte_table;
 use case_text::bytes;
@@ -13,6 +12,9 @@ use case_text::numbers_lent;
 use case_text::show_bytes;
 use case_text::show_numbers;
 use libc::STDOUT_FILENO;
+use replies::show_packing;
+use replies::show_reading;
+use replies::show_seen;
 
 // Reads a file into as many places of each table as the input says.
 fn show_file(file: &[u8], boxes: &mut [u8], rows: &mut [u16], arrows: &mut [u16]) {
