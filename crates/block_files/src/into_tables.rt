@@ -10,7 +10,7 @@ ghost use Rattle.blocks.specs.Files.{blockCount, blockAt, blocksFault, lengthFa
 ghost use Rattle.blocks.specs.Reads.{tablesFault, answerOf, ReadDone};
 ghost use Rattle.blocks.specs.Steps.{countsOf, countsWith};
 ghost use Rattle.block_files.specs.Steps.{BlockFits, Fitting};
-use super::reader::head_of;
+use block_reader::head_of;
 use blocks::ArrowRecord;
 use blocks::BLOCK_SIZE;
 use blocks::BoxRecord;

@@ -24,7 +24,7 @@ pub fn no_closure() -> [u64; CLOSURE_WORDS]
 }
 
 // Check 10, by sets that have what each box contains: the lowest box whose set has it.
-pub fn check_loops(n: usize, closure: &[u64]) -> Verdict
+pub fn check_loops(closure: &[u64], n: usize) -> Verdict
     requires { ⌜ (length (now closure) ≡ closureWords) × (n ≤ 256) ⌝ }
     ensures { λ r. ⌜ r ≡ verdictOf (ownFault n (now (closure .entry))) ⌝ }
 {

@@ -37,11 +37,11 @@ fn one_less(n: usize) -> usize {
 
 fn show_moves(file: &[u8]) {
     let count = file.len() / 512;
-    show_seen(block_files::head_after(file, 0));
+    show_seen(block_reader::head_after(file, 0));
     io::write_all(STDOUT_FILENO, b" : ");
-    show_seen(block_files::head_after(file, one_less(count)));
+    show_seen(block_reader::head_after(file, one_less(count)));
     io::write_all(STDOUT_FILENO, b" : ");
-    show_seen(block_files::head_after(file, count));
+    show_seen(block_reader::head_after(file, count));
     io::write_all(STDOUT_FILENO, b"\n");
 }
 

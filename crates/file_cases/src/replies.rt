@@ -1,5 +1,5 @@
 // How the answers about files are written to standard output.
-use block_files::Seen;
+use block_reader::Seen;
 use blocks::Reading;
 use case_text::print;
 use case_text::show_refusal;

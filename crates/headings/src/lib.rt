@@ -47,15 +47,15 @@ pub fn atomic_boxes(boxes: &[u8], rows: &[u16], users: &mut [u16], files: &mut [
     if let Verdict::Refused(r) = tables {
         return Headings::Refused(r);
     }
-    let mut u = no_boxes();
-    let mut f = no_boxes();
-    let m = atoms_of(boxes, rows, BoxRow::USER, &mut u);
-    let n = atoms_of(boxes, rows, BoxRow::FILE, &mut f);
+    let mut atomic_users = no_boxes();
+    let mut atomic_files = no_boxes();
+    let m = atoms_of(boxes, rows, BoxRow::USER, &mut atomic_users);
+    let n = atoms_of(boxes, rows, BoxRow::FILE, &mut atomic_files);
     let rooms = check_room(11, users.len(), m).or_else(check_room(12, files.len(), n));
     if let Verdict::Refused(r) = rooms {
         return Headings::Refused(r);
     }
-    copy(&u[..m], users);
-    copy(&f[..n], files);
+    copy(&atomic_users[..m], users);
+    copy(&atomic_files[..n], files);
     Headings::Written(m, n)
 }

@@ -54,18 +54,18 @@ fn early_list(
 }
 
 // What is asked, by the number of atomic users.
-fn asked_of(boxes: &[u8], rows: &[u16], mode: u16, users: usize) -> Asked
-    requires { ⌜ SoundRows (now boxes) (now rows) × (users ≡ length (atoms (now boxes) (now rows) user)) ⌝ }
+fn asked_of(boxes: &[u8], rows: &[u16], mode: u16, count: usize) -> Asked
+    requires { ⌜ SoundRows (now boxes) (now rows) × (count ≡ length (atoms (now boxes) (now rows) user)) ⌝ }
     ensures { λ r. ⌜ (r .mode ≡ mode) × ((b : ℕ) → isIn (r .files) b ≡ atom (now (boxes .entry)) (now (rows .entry)) file b)
         × (r .pairs ≡ pairCount (now (boxes .entry)) (now (rows .entry))) ⌝ }
 {
-    let mut f = no_boxes();
-    let count = atoms_of(boxes, rows, BoxRow::FILE, &mut f);
-    let files = set_of(&f[..count]);
+    let mut numbers = no_boxes();
+    let file_count = atoms_of(boxes, rows, BoxRow::FILE, &mut numbers);
+    let files = set_of(&numbers[..file_count]);
     Asked {
         mode,
         files,
-        pairs: users * count,
+        pairs: count * file_count,
     }
 }
 
@@ -85,10 +85,10 @@ fn write_list(
     ensures { λ r. ⌜ Listing (picture (now (boxes .entry)) (now (rows .entry)) (now (arrows .entry))) mode (now (out .entry))
         (now (work .entry)) r (now (out .exit)) (now (work .exit)) ⌝ }
 {
-    let mut u = no_boxes();
-    let users = atoms_of(boxes, rows, BoxRow::USER, &mut u);
-    let asked = asked_of(boxes, rows, mode, users);
-    list_mode(closure, arrows, &u[..users], asked, out, work)
+    let mut users = no_boxes();
+    let count = atoms_of(boxes, rows, BoxRow::USER, &mut users);
+    let asked = asked_of(boxes, rows, mode, count);
+    list_mode(closure, arrows, &users[..count], asked, out, work)
 }
 
 // The first-match list of a mode (document 01, "What may be asked"), in the order of document 02, P3: how many places of `out` hold it,

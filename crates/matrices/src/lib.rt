@@ -73,14 +73,14 @@ pub fn fill_picture(
 {
     let mut users = no_boxes();
     let mut files = no_boxes();
-    let u = atoms_of(boxes, rows, BoxRow::USER, &mut users);
-    let f = atoms_of(boxes, rows, BoxRow::FILE, &mut files);
+    let user_count = atoms_of(boxes, rows, BoxRow::USER, &mut users);
+    let file_count = atoms_of(boxes, rows, BoxRow::FILE, &mut files);
     fill_matrix(
         closure,
         arrows,
         mode,
-        &users[..u],
-        &files[..f],
+        &users[..user_count],
+        &files[..file_count],
         bytes,
         numbers,
     );

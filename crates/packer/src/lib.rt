@@ -18,13 +18,12 @@ use block_parts::put_containments;
 use block_parts::put_head;
 use block_parts::put_zeros;
 use blocks::ArrowRecord;
+use blocks::BLOCK_SIZE;
 use blocks::BoxRecord;
 use blocks::ContainmentRecord;
 use checks::check_room;
 use packing::Packing;
 use tables::Verdict;
-
-const BLOCK_SIZE: usize = 512;
 
 // The blocks of a kind: the kind's number, the bytes of a record, how many records a block holds, how many rows there are, and the
 // number of the first block.

@@ -36,7 +36,7 @@ pub fn contain(boxes: &[u8], rows: &[u16], scratch: &mut [u8], closure: &mut [u6
     let n = boxes.len();
     mark_rows(rows, closure);
     close(closure, n);
-    let verdict = check_loops(n, closure);
+    let verdict = check_loops(closure, n);
     fill_scratch(rows, n, closure, scratch);
     add_selves(closure, n);
     verdict

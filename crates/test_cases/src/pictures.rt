@@ -127,9 +127,14 @@ pub fn picture_case(letter: u8) {
 
 // Writes the headings into as many places of both buffers as the input says.
 fn show_atoms(boxes: &[u8], rows: &[u16], users: &mut [u16], files: &mut [u16]) {
-    let u = numbers_lent(users, number().value);
-    let f = numbers_lent(files, number().value);
-    show_headings(headings::atomic_boxes(boxes, rows, &mut users[..u], &mut files[..f]));
+    let user_room = numbers_lent(users, number().value);
+    let file_room = numbers_lent(files, number().value);
+    show_headings(headings::atomic_boxes(
+        boxes,
+        rows,
+        &mut users[..user_room],
+        &mut files[..file_room],
+    ));
     show_numbers(users);
     show_numbers(files);
     io::write_all(STDOUT_FILENO, b"\n");

@@ -17,10 +17,10 @@ abbrev own : List ℕ → ℕ → Bool
 own closure b = has closure b b
 
 abbrev Inv-loop : tie.InvT-loop
-Inv-loop n closure b₀ b = Searched (own closure) inItself b × (b ≤ n)
+Inv-loop closure n b₀ b = Searched (own closure) inItself b × (b ≤ n)
 
 abbrev μ-loop : tie.MeasureT-loop
-μ-loop n closure b₀ b = n - b
+μ-loop closure n b₀ b = n - b
 
 loop-holds : tie.Need-loop-holds Inv-loop μ-loop
 loop-holds c = (search-none (own (c .before .args .closure .now)) inItself, search needs)

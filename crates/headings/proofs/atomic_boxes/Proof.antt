@@ -59,8 +59,8 @@ returns-2 c = let at-or-else = c .before .before .before in
     let a = at-told .before .before .before .before .before .before .before .before .args in
     by-rooms (a .boxes .now) (a .rows .now) (a .users .now) (a .files .now) (tabled at-told) _ (sym (roomed at-or-else) ∙ c .before .rooms .given .1)
 
-array-share-prefix-u : tie.Need-array-share-prefix-u
-array-share-prefix-u c = let at-users = c .before .before .before .before .before .before .before .before .before in
+array-share-prefix-atomic-users : tie.Need-array-share-prefix-atomic-users
+array-share-prefix-atomic-users c = let at-users = c .before .before .before .before .before .before .before .before .before in
     let at-told = at-users .before .before .before .before in
     let a = at-told .before .before .before .before .before .before .before .before .args in
     part-within _ _ _ _ (at-users .atoms-of .ensures) (omega (arith, atoms-most (a .boxes .now) (a .rows .now) user, sound at-told .few-boxes))
@@ -73,8 +73,8 @@ copy-requires c κs = let at-told2 = c .before .before in
     let a = at-told2 .before .before .before .before .before .before .before .before .before .before .before .before .before .before .before .before .before .before .before .before .before .args in
     rw (part-is _ _ _ _ (at-told2 .before .before .before .before .before .before .before .before .before .atoms-of .ensures)) (rooms-passed (a .boxes .now) (a .rows .now) (a .users .now) (a .files .now) (rooms-pass at-told2) .0)
 
-array-share-prefix-f : tie.Need-array-share-prefix-f
-array-share-prefix-f c = let at-files = c .before .before .before .before .before .before .before .before .before .before .before in
+array-share-prefix-atomic-files : tie.Need-array-share-prefix-atomic-files
+array-share-prefix-atomic-files c = let at-files = c .before .before .before .before .before .before .before .before .before .before .before in
     let at-told = at-files .before .before .before .before .before .before .before in
     let a = at-told .before .before .before .before .before .before .before .before .args in
     part-within _ _ _ _ (at-files .atoms-of2 .ensures) (omega (arith, atoms-most (a .boxes .now) (a .rows .now) file, sound at-told .few-boxes))
@@ -124,10 +124,10 @@ atomic-boxes-spec =
     (search needs)
     returns-2
     (search needs)
-    array-share-prefix-u
+    array-share-prefix-atomic-users
     slice-aggregate-copy
     copy-requires
-    array-share-prefix-f
+    array-share-prefix-atomic-files
     slice-aggregate-copy-2
     copy-requires-2
     (search needs)

@@ -24,7 +24,7 @@ listing c =
 count-is : (c : tie.After-set-of) →
     let found = c .before .before .before in
     let a = found .before .before .before .before .before .args in
-    a .users * found .atoms-of .result ≡ length (atoms (a .boxes .now) (a .rows .now) user) * length (atoms (a .boxes .now) (a .rows .now) file)
+    a .count * found .atoms-of .result ≡ length (atoms (a .boxes .now) (a .rows .now) user) * length (atoms (a .boxes .now) (a .rows .now) file)
 count-is c =
     let found = c .before .before .before in
     ap₂ _*_ (found .before .before .before .before .before .pre .1) (found .atoms-of .ensures .0)

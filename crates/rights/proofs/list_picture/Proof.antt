@@ -17,8 +17,8 @@ module _ (files-at : tie.After-atoms-of2) where
   abbrev start : tie.Start
   start = rooms .before .before .before .before .before .before .before
 
-array-share-prefix-u : tie.Need-array-share-prefix-u
-array-share-prefix-u c =
+array-share-prefix-users : tie.Need-array-share-prefix-users
+array-share-prefix-users c =
     let at = c .before in
     atoms-there user (start at .pre .1 .rows-sound) (rooms at .before .no-boxes .ensures) (users-at at .atoms-of .ensures)
 
@@ -27,8 +27,8 @@ slice-aggregate-send-lines c =
     let at = c .before .before in
     atoms-length user (start at .pre .1 .rows-sound) (rooms at .before .no-boxes .ensures) (users-at at .atoms-of .ensures)
 
-array-share-prefix-f : tie.Need-array-share-prefix-f
-array-share-prefix-f c =
+array-share-prefix-files : tie.Need-array-share-prefix-files
+array-share-prefix-files c =
     let at = c .before .before in
     atoms-there file (start at .pre .1 .rows-sound) (rooms at .no-boxes2 .ensures) (at .atoms-of2 .ensures)
 
@@ -51,5 +51,5 @@ send-lines-requires c κs =
 pub list-picture-spec : {M : Type 1} → statement M
 list-picture-spec =
     tie.close (tie.spec (λ c κs. search needs) (λ c κs. search needs) (λ c. search needs) (λ c κs. search needs) (λ c. search needs)
-    (λ c κs. search needs) array-share-prefix-u slice-aggregate-send-lines array-share-prefix-f slice-aggregate-send-lines-2
+    (λ c κs. search needs) array-share-prefix-users slice-aggregate-send-lines array-share-prefix-files slice-aggregate-send-lines-2
     send-lines-requires (λ c. search needs))

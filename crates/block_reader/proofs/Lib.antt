@@ -1,0 +1,4 @@
+-- Laws for the proofs of this crate.
+mod Held
+mod ReaderCalls
+mod SeenLaws
