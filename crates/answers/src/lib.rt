@@ -11,7 +11,7 @@ ghost use Rattle.meaning.specs.Meaning.{answer};
 ghost use Rattle.answers.specs.Calls.{replyOf, entryEarly, entryFault, judgeFault};
 ghost use Rattle.answers.specs.Calls.{matrixEarly, matrixFault, bytesAfter, numbersAfter};
 use base::wide;
-use containment::no_closure;
+use containment::closure_room;
 use early::early_entry;
 use early::early_matrix;
 use judging::judge_picture;
@@ -38,7 +38,7 @@ pub fn judge(boxes: &[u8], rows: &[u16], arrows: &[u16], scratch: &mut [u8]) -> 
         now (scratch .exit)
         ≡ scratchAfter (earlyFault pic (now (scratch .entry))) (now (boxes .entry)) (now (rows .entry)) (now (scratch .entry))) ⌝ }
 {
-    let mut closure = no_closure();
+    let mut closure = closure_room();
     let early = early_picture(boxes, rows, arrows, scratch);
     let ready = prepare(early, boxes, rows, scratch, &mut closure);
     if let Verdict::Refused(r) = ready {
@@ -63,7 +63,7 @@ pub fn one_entry(
         now (scratch .exit)
         ≡ scratchAfter (entryEarly pic (now (scratch .entry)) mode) (now (boxes .entry)) (now (rows .entry)) (now (scratch .entry))) ⌝ }
 {
-    let mut closure = no_closure();
+    let mut closure = closure_room();
     let early = early_entry(boxes, rows, arrows, scratch, mode);
     let ready = prepare(early, boxes, rows, scratch, &mut closure);
     if let Verdict::Refused(r) = ready {
@@ -97,7 +97,7 @@ pub fn matrix(
     ensures { λ _. ⌜ (let pic = picture (now (boxes .entry)) (now (rows .entry)) (now (arrows .entry)) in
         now (numbers .exit) ≡ numbersAfter pic (now (scratch .entry)) mode (now (bytes .entry)) (now (numbers .entry))) ⌝ }
 {
-    let mut closure = no_closure();
+    let mut closure = closure_room();
     let early = early_matrix(boxes, rows, arrows, scratch, mode, bytes, numbers);
     let ready = prepare(early, boxes, rows, scratch, &mut closure);
     if let Verdict::Refused(r) = ready {

@@ -15,15 +15,15 @@ use atoms::is_atom;
 use base::wide;
 use boxsets::single;
 use meaning::Entry;
-use mode_sets::no_heads;
-use mode_sets::no_numbers;
+use mode_sets::arrow_room;
+use mode_sets::heads_room;
 use mode_sets::take_mode;
 use tables::BoxRow;
 use tables::Refusal;
 use tables::Verdict;
 use user_rows::answer_row;
 use user_rows::entry_of;
-use user_rows::no_row;
+use user_rows::row_room;
 
 // Whether u is an atomic user and f an atomic file.
 fn is_pair(boxes: &[u8], rows: &[u16], u: usize, f: usize) -> bool
@@ -48,10 +48,10 @@ pub fn answer_pair(closure: &[u64], arrows: &[u16], mode: u16, u: usize, f: usiz
     ensures { λ r. ⌜ ((pic : Picture) → Drawn pic (now (closure .entry)) → now (arrows .entry) ≡ pic .arrows
         → u < length (pic .boxes) → f < length (pic .boxes) → r ≡ answer pic mode u f) ⌝ }
 {
-    let mut own = no_numbers();
-    let mut heads = no_heads();
+    let mut own = arrow_room();
+    let mut heads = heads_room();
     let count = take_mode(arrows, mode, &mut own, &mut heads);
-    let mut found = no_row();
+    let mut found = row_room();
     let row = answer_row(
         closure,
         &heads,

@@ -103,7 +103,7 @@ pub fn atoms_of(boxes: &[u8], rows: &[u16], side: u8, out: &mut [u16]) -> usize
 }
 
 // Room for box numbers.
-pub fn no_boxes() -> [u16; BoxRow::LIMIT]
+pub fn box_room() -> [u16; BoxRow::LIMIT]
     ensures { λ r. ⌜ r ≡ zeros 256 ⌝ }
 {
     [0u16; BoxRow::LIMIT]
@@ -114,7 +114,7 @@ pub fn pair_count(boxes: &[u8], rows: &[u16]) -> usize
     requires { ⌜ SoundRows (now boxes) (now rows) ⌝ }
     ensures { λ r. ⌜ r ≡ pairCount (now (boxes .entry)) (now (rows .entry)) ⌝ }
 {
-    let mut atoms = no_boxes();
+    let mut atoms = box_room();
     let users = atoms_of(boxes, rows, BoxRow::USER, &mut atoms);
     let files = atoms_of(boxes, rows, BoxRow::FILE, &mut atoms);
     users * files

@@ -17,7 +17,7 @@ use tables::Verdict;
 const CLOSURE_WORDS: usize = 2048;
 
 // An empty closure, for `mark_rows` to fill.
-pub fn no_closure() -> [u64; CLOSURE_WORDS]
+pub fn closure_room() -> [u64; CLOSURE_WORDS]
     ensures { λ r. ⌜ r ≡ zeros closureWords ⌝ }
 {
     [0u64; CLOSURE_WORDS]

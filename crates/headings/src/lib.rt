@@ -2,9 +2,10 @@
 ghost use mathlib.Core.Path.{_≡_};
 ghost use Prim.Native.Nat.{_≤_};
 ghost use lib.ListN.{length};
-ghost use Rattle.base.specs.Buffers.{written, zeros};
+ghost use Rattle.base.specs.Buffers.{written};
 ghost use Rattle.headings.specs.Calls.{headingsOf, headingFault, usersAfter, filesAfter};
 use atoms::atoms_of;
+use atoms::box_room;
 use checks::check_room;
 use tables::BoxRow;
 use tables::Refusal;
@@ -14,13 +15,6 @@ use tables::Verdict;
 pub enum Headings {
     Written(usize, usize),
     Refused(Refusal),
-}
-
-// A number for each box that a picture can have.
-fn no_boxes() -> [u16; 256]
-    ensures { λ r. ⌜ r ≡ zeros 256 ⌝ }
-{
-    [0u16; 256]
 }
 
 // Writes the numbers into the first places.
@@ -47,8 +41,8 @@ pub fn atomic_boxes(boxes: &[u8], rows: &[u16], users: &mut [u16], files: &mut [
     if let Verdict::Refused(r) = tables {
         return Headings::Refused(r);
     }
-    let mut atomic_users = no_boxes();
-    let mut atomic_files = no_boxes();
+    let mut atomic_users = box_room();
+    let mut atomic_files = box_room();
     let m = atoms_of(boxes, rows, BoxRow::USER, &mut atomic_users);
     let n = atoms_of(boxes, rows, BoxRow::FILE, &mut atomic_files);
     let rooms = check_room(11, users.len(), m).or_else(check_room(12, files.len(), n));

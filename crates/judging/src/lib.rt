@@ -19,7 +19,7 @@ ghost use Rattle.judging.specs.Steps.{Signed, signUsed};
 ghost use Rattle.containment.specs.Steps.{closureWords};
 pub use atom_sets::atom_set;
 use atoms::atoms_of;
-use atoms::no_boxes;
+use atoms::box_room;
 use base::wide;
 use boxsets::Set;
 use boxsets::is_empty;
@@ -28,8 +28,8 @@ use boxsets::lowest;
 use boxsets::shared;
 use kept_rows::next_row;
 use kept_rows::no_arrows;
-use mode_sets::no_heads;
-use mode_sets::no_numbers;
+use mode_sets::arrow_room;
+use mode_sets::heads_room;
 use mode_sets::take_mode;
 use set_tables::add;
 use set_tables::set_at;
@@ -68,7 +68,7 @@ fn judge_rows(
 }
 
 // Two sets.
-fn no_signs() -> [u64; 8]
+fn signs_room() -> [u64; 8]
     ensures { λ r. ⌜ r ≡ zeros 8 ⌝ }
 {
     [0u64; 8]
@@ -79,7 +79,7 @@ fn clashing(arrows: &[u16]) -> Set
     requires { ⌜ Signed (now arrows) ⌝ }
     ensures { λ r. ⌜ ((m : ℕ) → isIn r m ≡ (signUsed (now (arrows .entry)) m negative && signUsed (now (arrows .entry)) m positive)) ⌝ }
 {
-    let mut signs = no_signs();
+    let mut signs = signs_room();
     for k in 0..arrows.len() / 4 {
         let a = Arrow::at(arrows, k);
         add(&mut signs, wide(a.sign), wide(a.mode));
@@ -105,8 +105,8 @@ fn judge_mode(
     if !is_in(both, wide(mode)) {
         return Verdict::Passed;
     }
-    let mut own = no_numbers();
-    let mut heads = no_heads();
+    let mut own = arrow_room();
+    let mut heads = heads_room();
     let count = take_mode(arrows, mode, &mut own, &mut heads);
     judge_rows(closure, &heads, arrows, &own[..count], mode, users, files)
 }
@@ -133,7 +133,7 @@ pub fn judge_picture(boxes: &[u8], rows: &[u16], arrows: &[u16], closure: &[u64]
     requires { ⌜ Drawn (picture (now boxes) (now rows) (now arrows)) (now closure) ⌝ }
     ensures { λ r. ⌜ r ≡ verdictOf (anyUnclear (picture (now (boxes .entry)) (now (rows .entry)) (now (arrows .entry)))) ⌝ }
 {
-    let mut users = no_boxes();
+    let mut users = box_room();
     let count = atoms_of(boxes, rows, BoxRow::USER, &mut users);
     judge_modes(
         closure,

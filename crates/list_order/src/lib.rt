@@ -23,7 +23,7 @@ use set_tables::set_at;
 use tables::Arrow;
 
 // Marks for arrow numbers.
-fn no_marks() -> [u8; Arrow::LIMIT]
+fn marks_room() -> [u8; Arrow::LIMIT]
     ensures { λ r. ⌜ r ≡ zeros 512 ⌝ }
 {
     [0u8; Arrow::LIMIT]
@@ -132,7 +132,7 @@ pub fn order(
         → Table pic (unreached pic []) (now (left .entry))
         → Ordered pic m (now (out .entry)) r (now (out .exit)) (now (left .exit))) ⌝ }
 {
-    let mut done = no_marks();
+    let mut done = marks_room();
     let mut count = 0;
     let mut from = 0;
     while count < own.len() {

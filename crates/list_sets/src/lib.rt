@@ -22,7 +22,7 @@ use boxsets::lowest;
 use boxsets::shared;
 use kept_rows::next_row;
 use kept_rows::no_arrows;
-use mode_sets::no_heads;
+use mode_sets::heads_room;
 use mode_sets::take_mode;
 use set_tables::put_set;
 use set_tables::set_at;
@@ -46,7 +46,7 @@ pub struct Sorted {
 const TABLE_WORDS: usize = 1024;
 
 // A set for each box.
-pub fn no_sets() -> [u64; TABLE_WORDS]
+pub fn sets_room() -> [u64; TABLE_WORDS]
     ensures { λ r. ⌜ r ≡ zeros tableWords ⌝ }
 {
     [0u64; TABLE_WORDS]
@@ -100,7 +100,7 @@ pub fn sort_mode(
     ensures { λ r. ⌜ ((pic : Picture) → Ready pic (now (closure .entry)) (now (arrows .entry)) (now (users .entry)) (asked .files)
         → Check12 pic (asked .mode) (r .unclear) (now (granted .exit))) ⌝ }
 {
-    let mut heads = no_heads();
+    let mut heads = heads_room();
     let count = take_mode(arrows, asked.mode, own, &mut heads);
     Sorted {
         own: count,

@@ -35,8 +35,8 @@ fn answers_of(
         × ((i : ℕ) → i < length (now (files .entry)) → getD (now (numbers .exit)) (getD (now (files .entry)) i 0) 0
         ≡ numberOf (answer pic mode user (getD (now (files .entry)) i 0)))) ⌝ }
 {
-    let mut own = mode_sets::no_numbers();
-    let mut heads = mode_sets::no_heads();
+    let mut own = mode_sets::arrow_room();
+    let mut heads = mode_sets::heads_room();
     let count = mode_sets::take_mode(arrows, mode, &mut own, &mut heads);
     let asked = boxsets::set_of(files);
     user_rows::answer_row(closure, &heads, arrows, &own[..count], user, asked, numbers)
@@ -60,7 +60,7 @@ pub fn put_row(
         → RowPut pic mode user (now (files .entry)) (now (out .entry)) at (now (out .exit)) r) ⌝ }
 {
     let u = wide(user);
-    let mut numbers = user_rows::no_row();
+    let mut numbers = user_rows::row_room();
     let row = answers_of(closure, arrows, mode, u, files, &mut numbers);
     let mut next = at;
     for i in 0..files.len() {

@@ -15,12 +15,12 @@ ghost use Rattle.certificates.specs.Steps.{Drawn};
 ghost use Rattle.list_meaning.specs.Calls.{listEarly, listBefore, listAnswer, listAfter, workAfter};
 ghost use Rattle.list_meaning.specs.Steps.{Listing};
 use atoms::atoms_of;
-use atoms::no_boxes;
+use atoms::box_room;
 use atoms::pair_count;
 use boxsets::set_of;
 use checks::check_mode;
 use checks::check_room;
-use containment::no_closure;
+use containment::closure_room;
 use list_meaning::Listed;
 use list_sets::Asked;
 use scratch::check_scratch;
@@ -59,7 +59,7 @@ fn asked_of(boxes: &[u8], rows: &[u16], mode: u16, count: usize) -> Asked
     ensures { λ r. ⌜ (r .mode ≡ mode) × ((b : ℕ) → isIn (r .files) b ≡ atom (now (boxes .entry)) (now (rows .entry)) file b)
         × (r .pairs ≡ pairCount (now (boxes .entry)) (now (rows .entry))) ⌝ }
 {
-    let mut numbers = no_boxes();
+    let mut numbers = box_room();
     let file_count = atoms_of(boxes, rows, BoxRow::FILE, &mut numbers);
     let files = set_of(&numbers[..file_count]);
     Asked {
@@ -85,7 +85,7 @@ fn write_list(
     ensures { λ r. ⌜ Listing (picture (now (boxes .entry)) (now (rows .entry)) (now (arrows .entry))) mode (now (out .entry))
         (now (work .entry)) r (now (out .exit)) (now (work .exit)) ⌝ }
 {
-    let mut users = no_boxes();
+    let mut users = box_room();
     let count = atoms_of(boxes, rows, BoxRow::USER, &mut users);
     let asked = asked_of(boxes, rows, mode, count);
     list_mode(closure, arrows, &users[..count], asked, out, work)
@@ -116,7 +116,7 @@ pub fn list(
         (listBefore pic mode (now (scratch .entry)) (now (out .entry)) (now (work .entry))) (now (work .entry))) ⌝ }
 {
     let early = early_list(boxes, rows, arrows, scratch, mode, out, work);
-    let mut closure = no_closure();
+    let mut closure = closure_room();
     let verdict = prepare(early, boxes, rows, scratch, &mut closure);
     if let Verdict::Refused(r) = verdict {
         return Listed::Refused(r);

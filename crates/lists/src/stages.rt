@@ -24,9 +24,9 @@ use list_order::order;
 use list_sets::Asked;
 use list_sets::check_left;
 use list_sets::fill_left;
-use list_sets::no_sets;
+use list_sets::sets_room;
 use list_sets::sort_mode;
-use mode_sets::no_numbers;
+use mode_sets::arrow_room;
 use tables::Arrow;
 use tables::Verdict;
 
@@ -78,7 +78,7 @@ fn list_clear(
         → (r ≡ listAnswer pic (asked .mode) none) × (now (out .exit) ≡ listAfter pic (asked .mode) none (now (out .entry)))) ⌝ }
 {
     let files = asked.files;
-    let mut left = no_sets();
+    let mut left = sets_room();
     fill_left(users, files, &mut left);
     let count = order(closure, arrows, own, &mut left, granted, out);
     let verdict = check_left(users, &left, granted, asked.mode);
@@ -100,8 +100,8 @@ pub fn list_mode(
         → asked .pairs ≡ pairs pic
         → Listing pic (asked .mode) (now (out .entry)) (now (work .entry)) r (now (out .exit)) (now (work .exit))) ⌝ }
 {
-    let mut own = no_numbers();
-    let mut granted = no_sets();
+    let mut own = arrow_room();
+    let mut granted = sets_room();
     let sorted = sort_mode(closure, arrows, users, asked, &mut own, &mut granted);
     let unclear = sorted.unclear;
     if let Verdict::Refused(r) = unclear {

@@ -11,17 +11,17 @@ ghost use Rattle.mode_sets.specs.Steps.{Small};
 ghost use Rattle.certificates.specs.Steps.{Drawn};
 ghost use Rattle.containment.specs.Steps.{closureWords};
 use atoms::atoms_of;
-use atoms::no_boxes;
+use atoms::box_room;
 use base::wide;
 use boxsets::set_of;
 use cells::emit_row;
 use kept_rows::next_numbers;
 use kept_rows::no_arrows;
-use mode_sets::no_heads;
-use mode_sets::no_numbers;
+use mode_sets::arrow_room;
+use mode_sets::heads_room;
 use mode_sets::take_mode;
 use tables::BoxRow;
-use user_rows::no_row;
+use user_rows::row_room;
 
 // Writes the matrix of a mode for the atomic users and files.
 fn fill_matrix(
@@ -41,11 +41,11 @@ fn fill_matrix(
         → (now (bytes .exit) ≡ written (matrixBytes pic mode) (now (bytes .entry)))
         × (now (numbers .exit) ≡ written (matrixNumbers pic mode) (now (numbers .entry)))) ⌝ }
 {
-    let mut own = no_numbers();
-    let mut heads = no_heads();
+    let mut own = arrow_room();
+    let mut heads = heads_room();
     let count = take_mode(arrows, mode, &mut own, &mut heads);
     let asked = set_of(files);
-    let mut found = no_row();
+    let mut found = row_room();
     let mut last = no_arrows(asked);
     for i in 0..users.len() {
         let u = wide(users[i]);
@@ -71,8 +71,8 @@ pub fn fill_picture(
         (now (bytes .exit) ≡ written (matrixBytes pic mode) (now (bytes .entry)))
         × (now (numbers .exit) ≡ written (matrixNumbers pic mode) (now (numbers .entry)))) ⌝ }
 {
-    let mut users = no_boxes();
-    let mut files = no_boxes();
+    let mut users = box_room();
+    let mut files = box_room();
     let user_count = atoms_of(boxes, rows, BoxRow::USER, &mut users);
     let file_count = atoms_of(boxes, rows, BoxRow::FILE, &mut files);
     fill_matrix(

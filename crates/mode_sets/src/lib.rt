@@ -13,7 +13,7 @@ use set_tables::has;
 use tables::Arrow;
 
 // Room for arrow numbers.
-pub fn no_numbers() -> [u16; Arrow::LIMIT]
+pub fn arrow_room() -> [u16; Arrow::LIMIT]
     ensures { λ r. ⌜ r ≡ zeros 512 ⌝ }
 {
     [0u16; Arrow::LIMIT]
@@ -23,7 +23,7 @@ pub fn no_numbers() -> [u16; Arrow::LIMIT]
 const HEADS_WORDS: usize = 2056;
 
 // Room for the sets of a mode.
-pub fn no_heads() -> [u64; HEADS_WORDS]
+pub fn heads_room() -> [u64; HEADS_WORDS]
     ensures { λ r. ⌜ r ≡ zeros headsWords ⌝ }
 {
     [0u64; HEADS_WORDS]

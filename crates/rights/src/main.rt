@@ -55,8 +55,8 @@ fn list_picture(file: &[u8], boxes: &[u8], rows: &[u16], arrows: &[u16], closure
     requires { ⌜ Drawn (picture (now boxes) (now rows) (now arrows)) (now closure) ⌝ }
     ensures { λ s. ⌜ SentAll (fileLineCount (now (file .entry))) s ⌝ }
 {
-    let mut users = atoms::no_boxes();
-    let mut files = atoms::no_boxes();
+    let mut users = atoms::box_room();
+    let mut files = atoms::box_room();
     let user_count = atoms::atoms_of(boxes, rows, BoxRow::USER, &mut users);
     let file_count = atoms::atoms_of(boxes, rows, BoxRow::FILE, &mut files);
     send_lines(
@@ -76,7 +76,7 @@ fn list_tables(file: &[u8], boxes: &[u8], rows: &[u16], arrows: &[u16]) -> Sent
     ensures { λ s. ⌜ SentAll (fileLineCount (now (file .entry))) s ⌝ }
 {
     let mut scratch = io::large_buffer();
-    let mut closure = containment::no_closure();
+    let mut closure = containment::closure_room();
     let early = scratch::early_picture(boxes, rows, arrows, &scratch);
     let v = scratch::prepare(early, boxes, rows, &mut scratch, &mut closure);
     if let Verdict::Refused(r) = v {

@@ -25,7 +25,7 @@ use tables::Verdict;
 
 // Fills the closure and the scratch, and makes check 10. Each box is added to its own sets only after the check, which looks
 // for a box there.
-pub fn contain(boxes: &[u8], rows: &[u16], scratch: &mut [u8], closure: &mut [u64]) -> Verdict
+pub fn fill_both(boxes: &[u8], rows: &[u16], scratch: &mut [u8], closure: &mut [u64]) -> Verdict
     requires { ⌜ SoundRows (now boxes) (now rows) ⌝ }
     requires { ⌜ length (now boxes) * length (now boxes) ≤ length (now scratch) ⌝ }
     requires { ⌜ now closure ≡ zeros closureWords ⌝ }
@@ -82,5 +82,5 @@ pub fn prepare(
     if let Verdict::Refused(r) = early {
         return Verdict::Refused(r);
     }
-    contain(boxes, rows, scratch, closure)
+    fill_both(boxes, rows, scratch, closure)
 }

@@ -64,9 +64,9 @@ whole-rows : (n width : ℕ) (r : Refusal) → given (not (eqb (n % width) 0)) r
 whole-rows n width r e = eqb→eq (n % width) 0 (not-not (eqb (n % width) 0) (given-none (not (eqb (n % width) 0)) r e))
 
 -- no row fails
-no-row : (check : ℕ) (bad : ℕ → Bool) (count : ℕ) → rowFault check bad count ≡ none → (k : ℕ) → k < count → T (bad k) → ⊥
+row-room : (check : ℕ) (bad : ℕ → Bool) (count : ℕ) → rowFault check bad count ≡ none → (k : ℕ) → k < count → T (bad k) → ⊥
 unfolding rowFault
-no-row check bad count e k l = given-none (bad k) (badRow check k) (first-none (λ j. given (bad j) (badRow check j)) count e k l)
+row-room check bad count e k l = given-none (bad k) (badRow check k) (first-none (λ j. given (bad j) (badRow check j)) count e k l)
 
 -- a row that check 4 passes names boxes that are there
 pub boxes-there : (boxes : List ℕ) (r : Containment) → namesNoBox boxes r ≡ false → (r .outer < length boxes) × (r .inner < length boxes)
@@ -117,7 +117,7 @@ module _ (boxes rows arrows : List ℕ) (e : tableFault (picture boxes rows arro
 
   named : (k : ℕ) → k < rowCount rows → namesNoBox boxes (rowAt rows k) ≡ false
   unfolding Checks
-  named k l = not-false _ (no-row 4 (λ k. namesNoBox boxes (rowAt rows k)) (rowCount rows) (checks .3) k l)
+  named k l = not-false _ (row-room 4 (λ k. namesNoBox boxes (rowAt rows k)) (rowCount rows) (checks .3) k l)
 
   there : (k : ℕ) → k < rowCount rows → (rowAt rows k .outer < length boxes) × (rowAt rows k .inner < length boxes)
   there k l = boxes-there boxes (rowAt rows k) (named k l)
@@ -127,21 +127,21 @@ module _ (boxes rows arrows : List ℕ) (e : tableFault (picture boxes rows arro
   one-side k l =
       let o = sideOf (getD boxes (rowAt rows k .outer) 0) in
       let i = sideOf (getD boxes (rowAt rows k .inner) 0) in
-      eqb→eq o i (not-not (eqb o i) (λ t. no-row 5 (λ k. acrossSides boxes (rowAt rows k)) (rowCount rows) (checks .4) k l (rw (named k l) t)))
+      eqb→eq o i (not-not (eqb o i) (λ t. row-room 5 (λ k. acrossSides boxes (rowAt rows k)) (rowCount rows) (checks .4) k l (rw (named k l) t)))
 
   ends : (k : ℕ) → k < arrowCount arrows → T (onSide boxes user (arrowAt arrows k .tail)) × T (onSide boxes file (arrowAt arrows k .head))
   unfolding wrongEnds Checks
   ends k l =
       let t = onSide boxes user (arrowAt arrows k .tail) in
       let h = onSide boxes file (arrowAt arrows k .head) in
-      and-T t h (not-not (t && h) (no-row 6 (λ k. wrongEnds boxes (arrowAt arrows k)) (arrowCount arrows) (checks .5) k l))
+      and-T t h (not-not (t && h) (row-room 6 (λ k. wrongEnds boxes (arrowAt arrows k)) (arrowCount arrows) (checks .5) k l))
 
   modes : (k : ℕ) → k < arrowCount arrows → (arrowAt arrows k .mode ≤ 7) × (arrowAt arrows k .sign ≤ 1)
   unfolding wrongMode Checks
   modes k l =
       let m = ltb 7 (arrowAt arrows k .mode) in
       let s = ltb 1 (arrowAt arrows k .sign) in
-      let n = no-row 7 (λ k. wrongMode (arrowAt arrows k)) (arrowCount arrows) (checks .6) k l in
+      let n = row-room 7 (λ k. wrongMode (arrowAt arrows k)) (arrowCount arrows) (checks .6) k l in
       (nltb→le 7 (arrowAt arrows k .mode) (not-T m (λ t. n (T-or₁ m s t))), nltb→le 1 (arrowAt arrows k .sign) (not-T s (λ t. n (T-or₂ m s t))))
 
   pub sound-rows : SoundRows boxes rows

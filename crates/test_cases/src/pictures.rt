@@ -44,7 +44,7 @@ fn ask() -> Question {
 
 // Checks 1 to 7, 9 for the scratch and 10.
 fn prepare(boxes: &[u8], rows: &[u16], arrows: &[u16], scratch: &mut [u8]) -> Verdict {
-    let mut closure = containment::no_closure();
+    let mut closure = containment::closure_room();
     let early = scratch::early_picture(boxes, rows, arrows, scratch);
     scratch::prepare(early, boxes, rows, scratch, &mut closure)
 }

@@ -9,7 +9,7 @@ use boxsets::Set;
 use certificates::Near;
 pub use walk::answer_row;
 pub use walk::entry_of;
-pub use walk::no_row;
+pub use walk::row_room;
 pub use walk::sort_row;
 
 // The mode's arrows of both signs around a user.

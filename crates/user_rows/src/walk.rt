@@ -166,7 +166,7 @@ fn walk(
 }
 
 // Room for the numbers of a row, by box number: 65,535 throughout.
-pub fn no_row() -> [u16; BoxRow::LIMIT]
+pub fn row_room() -> [u16; BoxRow::LIMIT]
     ensures { λ r. ⌜ r ≡ blankRow ⌝ }
 {
     [Arrow::NONE; BoxRow::LIMIT]

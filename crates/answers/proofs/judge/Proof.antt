@@ -22,7 +22,7 @@ prepare-requires c κs =
     let s = start .args .scratch .now in (
       ready-asks (pic start) s (earlyFault (pic start) s) (picture-early (pic start) s) (c .before .before .early-picture .result)
           (c .before .before .early-picture .ensures),
-      c .before .before .before .before .no-closure .ensures,
+      c .before .before .before .before .closure-room .ensures,
     )
 
 -- the verdict so far, and the scratch

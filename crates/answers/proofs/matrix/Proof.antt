@@ -42,7 +42,7 @@ prepare-requires c κs =
     let begin = c .before .before .before .before .before .before .before .before .before .before .before .before .before in (
       ready-asks (pic begin) (begin .args .scratch .now) (early begin) (checked begin) (c .before .before .early-matrix .result)
           (c .before .before .early-matrix .ensures),
-      c .before .before .before .before .before .before .no-closure .ensures,
+      c .before .before .before .before .before .before .closure-room .ensures,
     )
 
 -- the verdict so far, and the scratch

@@ -47,7 +47,7 @@ prepare-requires c κs =
     let m = begin .args .mode in (
       ready-asks (pic begin) s (entryEarly (pic begin) s m) (entry-early (pic begin) s m) (c .before .before .early-entry .result)
           (c .before .before .early-entry .ensures),
-      c .before .before .before .before .no-closure .ensures,
+      c .before .before .before .before .closure-room .ensures,
     )
 
 -- the verdict so far, and the scratch

@@ -19,7 +19,7 @@ abbrev μ-loop : tie.MeasureT-loop
 
 loop-holds : tie.Need-loop-holds Inv-loop μ-loop
 loop-holds c =
-    let e = c .no-signs .ensures in
+    let e = c .signs-room .ensures in
     (search needs, ap length e ∙ zeros-length 8, rw e (signs-none (c .before .before .args .arrows .now)))
 
 abbrev turn-of : tie.After-at Inv-loop μ-loop → tie.At-loop Inv-loop μ-loop

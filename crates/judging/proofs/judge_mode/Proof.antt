@@ -28,7 +28,7 @@ mode : (c : tie.After-take-mode) →
     Taken (a .arrows .now) (a .mode) (c .take-mode .result) (c .take-mode .last .1 .1 .0) (c .take-mode .last .1 .1 .1 .0)
 mode c =
     let begin = start (look-of c) in
-    taken (begin .args .arrows .now) (begin .args .mode) (begin .pre .1) _ _ _ _ (c .before .before .before .before .no-numbers .ensures)
+    taken (begin .args .arrows .now) (begin .args .mode) (begin .pre .1) _ _ _ _ (c .before .before .before .before .arrow-room .ensures)
     (c .take-mode .ensures)
 
 judge-rows-requires : tie.Need-judge-rows-requires

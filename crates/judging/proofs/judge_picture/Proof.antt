@@ -9,7 +9,7 @@ use Rattle.judging.proofs.judge_picture.Statement.{statement}
 use Rattle.judging.proofs.judge_picture.Tie as tie
 
 atoms-of-requires : tie.Need-atoms-of-requires
-atoms-of-requires c κs = (c .before .before .before .before .before .before .pre .rows-sound, room 256 (c .before .no-boxes .ensures))
+atoms-of-requires c κs = (c .before .before .before .before .before .before .pre .rows-sound, room 256 (c .before .box-room .ensures))
 
 found : (c : tie.After-atoms-of) →
     let a = c .before .before .before .before .before .before .before .args in
@@ -17,7 +17,7 @@ found : (c : tie.After-atoms-of) →
 found c =
     let start = c .before .before .before .before .before .before .before in
     let a = start .args in
-    listed (a .boxes .now) (a .rows .now) user (start .pre .rows-sound .few-boxes) _ _ _ (c .before .before .no-boxes .ensures) (c .atoms-of .ensures)
+    listed (a .boxes .now) (a .rows .now) user (start .pre .rows-sound .few-boxes) _ _ _ (c .before .before .box-room .ensures) (c .atoms-of .ensures)
 
 judge-modes-requires : tie.Need-judge-modes-requires
 judge-modes-requires c κs =

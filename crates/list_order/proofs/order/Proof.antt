@@ -20,7 +20,7 @@ loop-holds : tie.Need-loop-holds Inv-loop μ-loop
 loop-holds c =
     let start = c .before .before .before .before .before .before .before in
     let a = start .args in
-    rw (c .no-marks .ensures)
+    rw (c .marks-room .ensures)
     (ordering-none (a .closure .now) (a .arrows .now) (a .own .now) (a .granted .now) (a .left .now) (a .out .now) (start .pre .0 .1) (start .pre .1 .2))
 
 next-free-requires : tie.Need-next-free-requires Inv-loop μ-loop

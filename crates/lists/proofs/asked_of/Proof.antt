@@ -18,7 +18,7 @@ listing : (c : tie.After-atoms-of) →
 listing c =
     let start = c .before .before .before .before .before in
     let a = start .args in
-    listed (a .boxes .now) (a .rows .now) file (start .pre .0 .few-boxes) _ _ _ (c .before .before .no-boxes .ensures) (c .atoms-of .ensures)
+    listed (a .boxes .now) (a .rows .now) file (start .pre .0 .few-boxes) _ _ _ (c .before .before .box-room .ensures) (c .atoms-of .ensures)
 
 -- how many pairs there are
 count-is : (c : tie.After-set-of) →

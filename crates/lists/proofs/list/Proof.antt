@@ -21,7 +21,7 @@ prepare-requires c κs =
           rooms (picture (a .boxes .now) (a .rows .now) (a .arrows .now)) (a .mode) (a .scratch .now) (a .out .now) (a .work .now)
           (passed _ (sym (early .early-list .ensures) ∙ e)) in
           (sound-rows (a .boxes .now) (a .rows .now) (a .arrows .now) (room .no-fault), room .scratch-room),
-      c .before .before .no-closure .ensures,
+      c .before .before .closure-room .ensures,
     )
 
 -- checks 1 to 10, and the scratch

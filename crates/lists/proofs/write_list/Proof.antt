@@ -14,7 +14,7 @@ listing : (c : tie.After-atoms-of) →
 listing c =
     let start = c .before .before .before .before .before .before .before .before .before in
     let a = start .args in
-    listed (a .boxes .now) (a .rows .now) user (start .pre .0 .rows-sound .few-boxes) _ _ _ (c .before .before .no-boxes .ensures)
+    listed (a .boxes .now) (a .rows .now) user (start .pre .0 .rows-sound .few-boxes) _ _ _ (c .before .before .box-room .ensures)
     (c .atoms-of .ensures)
 
 list-mode-requires : tie.Need-list-mode-requires

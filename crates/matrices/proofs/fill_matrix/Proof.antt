@@ -64,7 +64,7 @@ mode : (c : tie.After-take-mode Inv-loop μ-loop) →
     Taken (a .arrows .now) (a .mode) (c .take-mode .result) (c .take-mode .last .1 .1 .0) (c .take-mode .last .1 .1 .1 .0)
 mode c =
     let a = start c .args in
-    taken (a .arrows .now) (a .mode) (start c .pre .1) _ _ _ _ (c .before .before .before .before .no-numbers .ensures) (c .take-mode .ensures)
+    taken (a .arrows .now) (a .mode) (start c .pre .1) _ _ _ _ (c .before .before .before .before .arrow-room .ensures) (c .take-mode .ensures)
 
 mul-wide : tie.Need-mul-wide Inv-loop μ-loop
 mul-wide c = omega (arith, c .loop-test .taken, start (taken-of (c .before)) .good)
@@ -172,7 +172,7 @@ loop-again c =
 loop-holds : tie.Need-loop-holds Inv-loop μ-loop
 loop-holds c =
     let a = start (take (asked-of c)) .args in
-    let row = c .before .no-row .ensures in (
+    let row = c .before .row-room .ensures in (
       search needs,
       refl,
       refl,

@@ -12,12 +12,12 @@ use Rattle.matrices.proofs.fill_picture.Tie as tie
 atoms-of-requires : tie.Need-atoms-of-requires
 atoms-of-requires c κs =
     let start = c .before .before .before .before .before .before .before .before .before in
-    (start .pre .0 .rows-sound, room 256 (c .before .before .no-boxes .ensures))
+    (start .pre .0 .rows-sound, room 256 (c .before .before .box-room .ensures))
 
 atoms-of-requires-2 : tie.Need-atoms-of-requires-2
 atoms-of-requires-2 c κs =
     let start = c .before .before .before .before .before .before .before .before .before .before .before .before in
-    (start .pre .0 .rows-sound, room 256 (c .before .before .before .before .no-boxes2 .ensures))
+    (start .pre .0 .rows-sound, room 256 (c .before .before .before .before .box-room2 .ensures))
 
 abbrev start : tie.After-atoms-of → tie.Start
 start c = c .before .before .before .before .before .before .before .before .before .before
@@ -27,7 +27,7 @@ users : (c : tie.After-atoms-of) →
     Listed (a .boxes .now) (a .rows .now) user (c .atoms-of .result) (c .atoms-of .last .1 .1 .1 .0)
 users c =
     let a = start c .args in
-    listed (a .boxes .now) (a .rows .now) user (start c .pre .0 .rows-sound .few-boxes) _ _ _ (c .before .before .before .no-boxes .ensures)
+    listed (a .boxes .now) (a .rows .now) user (start c .pre .0 .rows-sound .few-boxes) _ _ _ (c .before .before .before .box-room .ensures)
     (c .atoms-of .ensures)
 
 files : (c : tie.After-atoms-of2) →
@@ -36,7 +36,7 @@ files : (c : tie.After-atoms-of2) →
 files c =
     let begin = start (c .before .before .before) in
     let a = begin .args in
-    listed (a .boxes .now) (a .rows .now) file (begin .pre .0 .rows-sound .few-boxes) _ _ _ (c .before .before .before .before .before .no-boxes2 .ensures)
+    listed (a .boxes .now) (a .rows .now) file (begin .pre .0 .rows-sound .few-boxes) _ _ _ (c .before .before .before .before .before .box-room2 .ensures)
     (c .atoms-of2 .ensures)
 
 fill-matrix-requires : tie.Need-fill-matrix-requires

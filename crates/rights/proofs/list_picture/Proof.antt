@@ -11,7 +11,7 @@ module _ (files-at : tie.After-atoms-of2) where
   abbrev users-at : tie.After-atoms-of
   users-at = files-at .before .before .before
 
-  abbrev rooms : tie.After-no-boxes2
+  abbrev rooms : tie.After-box-room2
   rooms = users-at .before .before
 
   abbrev start : tie.Start
@@ -20,22 +20,22 @@ module _ (files-at : tie.After-atoms-of2) where
 array-share-prefix-users : tie.Need-array-share-prefix-users
 array-share-prefix-users c =
     let at = c .before in
-    atoms-there user (start at .pre .1 .rows-sound) (rooms at .before .no-boxes .ensures) (users-at at .atoms-of .ensures)
+    atoms-there user (start at .pre .1 .rows-sound) (rooms at .before .box-room .ensures) (users-at at .atoms-of .ensures)
 
 slice-aggregate-send-lines : tie.Need-slice-aggregate-send-lines
 slice-aggregate-send-lines c =
     let at = c .before .before in
-    atoms-length user (start at .pre .1 .rows-sound) (rooms at .before .no-boxes .ensures) (users-at at .atoms-of .ensures)
+    atoms-length user (start at .pre .1 .rows-sound) (rooms at .before .box-room .ensures) (users-at at .atoms-of .ensures)
 
 array-share-prefix-files : tie.Need-array-share-prefix-files
 array-share-prefix-files c =
     let at = c .before .before in
-    atoms-there file (start at .pre .1 .rows-sound) (rooms at .no-boxes2 .ensures) (at .atoms-of2 .ensures)
+    atoms-there file (start at .pre .1 .rows-sound) (rooms at .box-room2 .ensures) (at .atoms-of2 .ensures)
 
 slice-aggregate-send-lines-2 : tie.Need-slice-aggregate-send-lines-2
 slice-aggregate-send-lines-2 c =
     let at = c .before .before .before in
-    atoms-length file (start at .pre .1 .rows-sound) (rooms at .no-boxes2 .ensures) (at .atoms-of2 .ensures)
+    atoms-length file (start at .pre .1 .rows-sound) (rooms at .box-room2 .ensures) (at .atoms-of2 .ensures)
 
 send-lines-requires : tie.Need-send-lines-requires
 send-lines-requires c κs =
@@ -43,8 +43,8 @@ send-lines-requires c κs =
     let a = start at .args in
     let good = start at .pre .0 in
     let drawn = start at .pre .1 in
-    let users = atoms-part user (drawn .rows-sound) (rooms at .before .no-boxes .ensures) (users-at at .atoms-of .ensures) in
-    let files = atoms-part file (drawn .rows-sound) (rooms at .no-boxes2 .ensures) (at .atoms-of2 .ensures) in
+    let users = atoms-part user (drawn .rows-sound) (rooms at .before .box-room .ensures) (users-at at .atoms-of .ensures) in
+    let files = atoms-part file (drawn .rows-sound) (rooms at .box-room2 .ensures) (at .atoms-of2 .ensures) in
     let counts = counts-are (a .boxes .now) (a .rows .now) (a .arrows .now) in
     (record { picture-is = refl; right = good .right }, (ready good drawn users files, rw (← good .picture-is) counts))
 

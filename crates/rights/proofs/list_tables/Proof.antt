@@ -21,7 +21,7 @@ prepare-requires c κs =
     let early = c .before .before in
     let a = start early .args in (
       early-passed (a .boxes .now) (a .rows .now) (a .arrows .now) (scratch early .large-buffer .result) (early .early-picture .ensures),
-      early .before .before .no-closure .ensures,
+      early .before .before .closure-room .ensures,
     )
 
 -- the verdict is by all checks

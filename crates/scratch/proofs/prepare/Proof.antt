@@ -23,8 +23,8 @@ module _ (c : tie.After-enum-told) where
   passed : start .args .early ≡ Passed
   passed = c .enum-told .given .1
 
-contain-requires : tie.Need-contain-requires
-contain-requires c κs =
+fill-both-requires : tie.Need-fill-both-requires
+fill-both-requires c κs =
     let told = c .before .before in
     let ready = start told .pre .0 (passed told) in
     (ready .0, (ready .1, start told .pre .1))
@@ -34,11 +34,11 @@ returns-2 c =
     let done = c .before .before .before .before in
     let told = done .before .before .before in
     let a = start told .args in (
-      ends-filled (a .boxes .now) (a .rows .now) (a .scratch .now) (a .early) (passed told) (done .contain .result) (done .contain .last .1 .1 .0)
-          (done .contain .ensures .0) (done .contain .ensures .1 .0),
-      λ e. done .contain .ensures .1 .1,
+      ends-filled (a .boxes .now) (a .rows .now) (a .scratch .now) (a .early) (passed told) (done .fill-both .result) (done .fill-both .last .1 .1 .0)
+          (done .fill-both .ensures .0) (done .fill-both .ensures .1 .0),
+      λ e. done .fill-both .ensures .1 .1,
     )
 
 pub prepare-spec : {M : Type 1} → statement M
 prepare-spec =
-    tie.close (tie.spec (search needs) returns (search needs) contain-requires (search needs) (search needs) returns-2)
+    tie.close (tie.spec (search needs) returns (search needs) fill-both-requires (search needs) (search needs) returns-2)

@@ -14,14 +14,14 @@ mode : (c : tie.After-take-mode) →
     Taken (a .arrows .now) (a .mode) (c .take-mode .result) (c .take-mode .last .1 .1 .0) (c .take-mode .last .1 .1 .1 .0)
 mode c =
     let start = c .before .before .before .before .before .before .before in
-    taken (start .args .arrows .now) (start .args .mode) (start .pre .1) _ _ _ _ (c .before .before .before .before .no-numbers .ensures)
+    taken (start .args .arrows .now) (start .args .mode) (start .pre .1) _ _ _ _ (c .before .before .before .before .arrow-room .ensures)
     (c .take-mode .ensures)
 
 answer-row-requires : tie.Need-answer-row-requires
 answer-row-requires c κs =
     let taken = c .before .before .before .before .before .before .before in
     let start = taken .before .before .before .before .before .before .before in
-    (mode taken .sized (start .args .closure .now) (start .pre .0), start .pre .2, c .before .before .before .before .no-row .ensures)
+    (mode taken .sized (start .args .closure .now) (start .pre .0), start .pre .2, c .before .before .before .before .row-room .ensures)
 
 abbrev start : tie.After-found2 → tie.Start
 start c = c .before .before .before .before .before .before .before .before .before .before .before .before .before .before .before .before

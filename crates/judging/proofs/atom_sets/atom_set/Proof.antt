@@ -11,7 +11,7 @@ found : (c : tie.After-atoms-of) →
 found c =
     let start = c .before .before .before .before .before in
     let a = start .args in
-    listed (a .boxes .now) (a .rows .now) (a .side) (start .pre .few-boxes) _ _ _ (c .before .before .no-boxes .ensures) (c .atoms-of .ensures)
+    listed (a .boxes .now) (a .rows .now) (a .side) (start .pre .few-boxes) _ _ _ (c .before .before .box-room .ensures) (c .atoms-of .ensures)
 
 returns : tie.Need-returns
 returns c b =

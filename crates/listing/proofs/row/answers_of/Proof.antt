@@ -8,27 +8,27 @@ module _ (taken : tie.After-take-mode) where
   abbrev start : tie.Start
   start = taken .before .before .before .before .before .before .before .before .before
 
-  abbrev rooms : tie.After-no-numbers
+  abbrev rooms : tie.After-arrow-room
   rooms = taken .before .before .before .before
 
 array-share-prefix-own : tie.Need-array-share-prefix-own
 array-share-prefix-own c =
     let taken = c .before .before .before .before in
     let told = taken .take-mode .ensures in
-    own-there (start taken .args .mode) (start taken .pre .1) (rooms taken .no-numbers .ensures) (told .0, told .1 .0)
+    own-there (start taken .args .mode) (start taken .pre .1) (rooms taken .arrow-room .ensures) (told .0, told .1 .0)
 
 slice-aggregate-answer-row-2 : tie.Need-slice-aggregate-answer-row-2
 slice-aggregate-answer-row-2 c =
     let taken = c .before .before .before .before .before in
     let told = taken .take-mode .ensures in
-    own-length (start taken .args .mode) (start taken .pre .1) (rooms taken .no-numbers .ensures) (told .0, told .1 .0)
+    own-length (start taken .args .mode) (start taken .pre .1) (rooms taken .arrow-room .ensures) (told .0, told .1 .0)
 
 answer-row-requires : tie.Need-answer-row-requires
 answer-row-requires c κs =
     let taken = c .before .before .before .before .before .before in
     let told = taken .take-mode .ensures in
     let pre = start taken .pre in
-    (own-sized (start taken .args .mode) (pre .1) (rooms taken .no-numbers .ensures) (told .0, told .1 .0) (told .1 .1) (pre .0), pre .2, pre .4)
+    (own-sized (start taken .args .mode) (pre .1) (rooms taken .arrow-room .ensures) (told .0, told .1 .0) (told .1 .1) (pre .0), pre .2, pre .4)
 
 returns : tie.Need-returns
 returns c =
@@ -39,7 +39,7 @@ returns c =
     let small = start taken .pre .1 in
     λ pic d e l.
     answered (start taken .args .files .now) (asked .set-of .result) _ (done .answer-row .last .1 .1 .1 .1 .1 .1 .0) (asked .set-of .ensures)
-    (done .answer-row .ensures pic _ d (own-moded (start taken .args .mode) small (rooms taken .no-numbers .ensures) (told .0, told .1 .0) (told .1 .1) e) l)
+    (done .answer-row .ensures pic _ d (own-moded (start taken .args .mode) small (rooms taken .arrow-room .ensures) (told .0, told .1 .0) (told .1 .1) e) l)
 
 pub answers-of-spec : {M : Type 1} → statement M
 answers-of-spec =

@@ -54,7 +54,7 @@ answers-of-requires : tie.Need-answers-of-requires Inv-loop μ-loop
 answers-of-requires c κs =
     let wide = c .before .before in
     let pre = wide .before .before .before .before .before .pre .0 in
-    (pre .0, pre .1, rw (wide .wide .ensures) (pre .2), pre .3, c .before .no-row .ensures)
+    (pre .0, pre .1, rw (wide .wide .ensures) (pre .2), pre .3, c .before .row-room .ensures)
 
 loop-holds : tie.Need-loop-holds Inv-loop μ-loop
 loop-holds c = (omega arith, refl, omega arith, λ pic d e l w. row-none _)

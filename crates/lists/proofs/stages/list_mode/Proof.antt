@@ -22,7 +22,7 @@ part c =
     let at-numbers = c .before .before .before .before in
     let start = at-numbers .before .before .before .before .before .before in
     own-part (start .args .arrows .now) (start .args .asked .mode) _ _ _ (c .sort-mode .ensures .0) (start .pre .0 .1)
-    (room 512 (at-numbers .no-numbers .ensures))
+    (room 512 (at-numbers .arrow-room .ensures))
 
 returns : tie.Need-returns
 returns c pic ready pairs-are =

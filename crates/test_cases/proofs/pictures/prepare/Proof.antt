@@ -14,7 +14,7 @@ prepare-requires c κs =
           let ready = early-prepared (a .boxes .now) (a .rows .now) (a .arrows .now) (a .scratch .now)
           (passed _ (sym (c .before .before .early-picture .ensures) ∙ p)) in
           (ready .rows-sound, ready .room),
-      c .before .before .before .before .no-closure .ensures,
+      c .before .before .before .before .closure-room .ensures,
     )
 
 pub prepare-spec : {M : Type 1} → statement M

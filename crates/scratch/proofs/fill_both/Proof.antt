@@ -1,4 +1,4 @@
--- `scratch::contain` meets its contract: after n rounds a way is a chain of rows; check 10 and the scratch read that, and then each box
+-- `scratch::fill_both` meets its contract: after n rounds a way is a chain of rows; check 10 and the scratch read that, and then each box
 -- joins its own sets. Assumes nothing.
 use mathlib.Core.Path.{ap, _∙_}
 use Prim.Native.Nat.{_≤_}
@@ -9,8 +9,8 @@ use Rattle.tables.specs.Refusals.{verdictOf}
 use Rattle.containment.specs.Contains.{direct, contains}
 use Rattle.containment.specs.Steps.{Both}
 use Rattle.containment.proofs.ClosureLaws.{sound-below, both-fewer, closed-both, own-loops, closure-is}
-use Rattle.scratch.proofs.contain.Statement.{statement}
-use Rattle.scratch.proofs.contain.Tie as tie
+use Rattle.scratch.proofs.fill_both.Statement.{statement}
+use Rattle.scratch.proofs.fill_both.Tie as tie
 
 mark-rows-requires : tie.Need-mark-rows-requires
 mark-rows-requires c κs =
@@ -76,7 +76,7 @@ returns c =
       ),
     )
 
-pub contain-spec : {M : Type 1} → statement M
-contain-spec =
+pub fill-both-spec : {M : Type 1} → statement M
+fill-both-spec =
     tie.close (tie.spec mark-rows-requires close-requires check-loops-requires fill-scratch-requires add-selves-requires (search needs)
     (search needs) returns)
