@@ -23,7 +23,7 @@ unfoldable pub askedFault : (boxes rows : List ℕ) (u f : ℕ) → Option Refus
 askedFault boxes rows u f = given (not (atom boxes rows user u && atom boxes rows file f)) (notAtomic u f)
 
 -- the reply for one entry, by the fault that was found, if any
-unfoldable pub replyOf : Option Refusal → Entry → EntryReply
+unfoldable pub replyOf : (fault : Option Refusal) (e : Entry) → EntryReply
 replyOf none e = Answered e
 replyOf (some r) e = Refused r
 

@@ -4,7 +4,7 @@ use Prim.Native.Nat.{ℕ, zero, suc}
 use lib.ListN.{length, drop, replicate}
 
 -- g 0, g 1, .., n of them
-unfoldable pub build : (ℕ → ℕ) → ℕ → List ℕ
+unfoldable pub build : (g : ℕ → ℕ) (n : ℕ) → List ℕ
 build g zero = []
 build g (suc n) = build g n ++ (g n ∷ [])
 

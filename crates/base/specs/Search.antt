@@ -9,17 +9,17 @@ abbrev pub implies : (a b : Bool) → Bool
 implies a b = not a || b
 
 -- the first of two that is there
-unfoldable pub orElse : {A : Type 0} → Option A → Option A → Option A
+unfoldable pub orElse : {A : Type 0} (one other : Option A) → Option A
 orElse (some x) o = some x
 orElse none o = o
 
 -- x where the test holds
-unfoldable pub given : {A : Type 0} → Bool → A → Option A
+unfoldable pub given : {A : Type 0} (test : Bool) (x : A) → Option A
 given true x = some x
 given false x = none
 
 -- what g gives at the lowest number at which it gives something
-unfoldable pub first : {A : Type 0} → (ℕ → Option A) → ℕ → Option A
+unfoldable pub first : {A : Type 0} (g : ℕ → Option A) (n : ℕ) → Option A
 first g zero = none
 first g (suc n) = orElse (first g n) (g n)
 
@@ -28,11 +28,11 @@ unfoldable pub lowest : (p : ℕ → Bool) (n : ℕ) → Option ℕ
 lowest p n = first (λ k. given (p k) k) n
 
 -- the test holds at each number
-unfoldable pub every : (ℕ → Bool) → ℕ → Bool
+unfoldable pub every : (p : ℕ → Bool) (n : ℕ) → Bool
 every p zero = true
 every p (suc n) = every p n && p n
 
 -- the numbers at which the test holds, rising
-unfoldable pub select : (ℕ → Bool) → ℕ → List ℕ
+unfoldable pub select : (p : ℕ → Bool) (n : ℕ) → List ℕ
 select p zero = []
 select p (suc n) = cond (p n) (select p n ++ (n ∷ [])) (select p n)

@@ -3,11 +3,11 @@ use mathlib.Core.Bool.{Bool, true, false, _||_}
 use Prim.Native.Nat.{ℕ, zero, suc}
 
 -- the test holds at some number
-unfoldable pub anyBelow : (ℕ → Bool) → ℕ → Bool
+unfoldable pub anyBelow : (p : ℕ → Bool) (n : ℕ) → Bool
 anyBelow p zero = false
 anyBelow p (suc n) = anyBelow p n || p n
 
 -- a test as a byte
-unfoldable pub bit : Bool → ℕ
+unfoldable pub bit : (test : Bool) → ℕ
 bit true = 1
 bit false = 0

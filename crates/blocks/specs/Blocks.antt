@@ -45,7 +45,7 @@ unfoldable pub countOf : (kind : ℕ) (head : Head) → ℕ
 countOf kind head = cond (eqb (head .kind) kind) (head .count) 0
 
 -- f 0, f 1, .., n lists one after the other
-unfoldable pub joined : (ℕ → List ℕ) → ℕ → List ℕ
+unfoldable pub joined : (f : ℕ → List ℕ) (n : ℕ) → List ℕ
 joined f zero = []
 joined f (suc n) = joined f n ++ f n
 
@@ -66,7 +66,7 @@ wrongHead before place head =
     || not (eqb (head .number) place) || ltb (capacity (head .kind)) (head .count)
 
 -- 17: a byte of the filler, from behind the records to byte 507, is not zero
-unfoldable pub allZero : List ℕ → Bool
+unfoldable pub allZero : (bytes : List ℕ) → Bool
 allZero [] = true
 allZero (x ∷ xs) = eqb x 0 && allZero xs
 

@@ -19,7 +19,7 @@ unfoldable pub blockAt : (file : List ℕ) (k : ℕ) → List ℕ
 blockAt file k = take 512 (drop (512 * k) file)
 
 -- the kind of the block before block k, 0 where there is none
-unfoldable pub kindBefore : (ℕ → List ℕ) → ℕ → ℕ
+unfoldable pub kindBefore : (blocks : ℕ → List ℕ) (k : ℕ) → ℕ
 kindBefore blocks zero = 0
 kindBefore blocks (suc k) = headOf (blocks k) .kind
 

@@ -4,7 +4,7 @@ use Prim.Native.Nat.{ℕ, _*_, _%_, _^_}
 use lib.Bits.{bitXor}
 
 -- for each byte, exclusive-or it in, then multiply by 16,777,619 and keep the low 32 bits
-unfoldable pub fnvFold : (state : ℕ) → List ℕ → ℕ
+unfoldable pub fnvFold : (state : ℕ) (bytes : List ℕ) → ℕ
 fnvFold state [] = state
 fnvFold state (byte ∷ bytes) = fnvFold (bitXor state byte * 16777619 % 2 ^ 32) bytes
 

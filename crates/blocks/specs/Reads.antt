@@ -32,7 +32,7 @@ unfoldable pub readFault : (file : List ℕ) (boxes rows arrows : ℕ) → Optio
 readFault file boxes rows arrows = orElse (fileFault file) (tablesFault (rowCounts (pictureOf file)) boxes rows arrows)
 
 -- the three row counts, or the refusal
-abbrev pub answerOf : Option Refusal → Counts → Reading
+abbrev pub answerOf : (fault : Option Refusal) (counts : Counts) → Reading
 answerOf none counts = Tables counts
 answerOf (some r) counts = Refused r
 

@@ -10,7 +10,7 @@ use Rattle.boxsets.specs.Words.{bitAt}
 use Rattle.boxsets.specs.declared.Set.{Set}
 
 -- word q of a set; 0 from 4 on
-unfoldable pub wordAt : Set → ℕ → ℕ
+unfoldable pub wordAt : (x : Set) (q : ℕ) → ℕ
 wordAt x zero = x .a
 wordAt x (suc zero) = x .b
 wordAt x (suc (suc zero)) = x .c
@@ -26,7 +26,7 @@ unfoldable pub inWord : (q w k : ℕ) → Bool
 inWord q w k = eqb (k / 64) q && bitAt w (k % 64)
 
 -- the lowest number below n at which the test holds, or n
-unfoldable pub least : (ℕ → Bool) → ℕ → ℕ
+unfoldable pub least : (p : ℕ → Bool) (n : ℕ) → ℕ
 least p zero = 0
 least p (suc n) = cond (p 0) 0 (suc (least (λ k. p (suc k)) n))
 

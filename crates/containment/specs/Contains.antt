@@ -15,7 +15,7 @@ pub data Row : List ℕ → ℕ → ℕ → Type 0 where
   later : {x y a b : ℕ} {rows : List ℕ} → Row rows a b → Row (x ∷ y ∷ rows) a b
 
 -- that there is such a row, as a test that computes (`direct-iff`)
-unfoldable pub direct : List ℕ → ℕ → ℕ → Bool
+unfoldable pub direct : (rows : List ℕ) (a b : ℕ) → Bool
 direct [] a b = false
 direct (x ∷ []) a b = false
 direct (x ∷ y ∷ rows) a b = eqb x a && eqb y b || direct rows a b
@@ -27,7 +27,7 @@ pub data Chain (rows : List ℕ) : ℕ → ℕ → Type 0 where
 
 -- A contains B: that there is such a chain, as a test that computes (`contains-iff`). With one row (x, y) more, a contains b
 -- if it did before, or by way of that row: a is x or contains it, and y is b or contains it.
-unfoldable pub contains : List ℕ → ℕ → ℕ → Bool
+unfoldable pub contains : (rows : List ℕ) (a b : ℕ) → Bool
 contains [] a b = false
 contains (x ∷ []) a b = false
 contains (x ∷ y ∷ rows) a b = contains rows a b || (eqb a x || contains rows a x) && (eqb y b || contains rows y b)

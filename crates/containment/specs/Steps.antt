@@ -43,12 +43,12 @@ unfoldable pub through : (f : ℕ → ℕ → Bool) (k a b : ℕ) → Bool
 through f k a b = f a b || f a k && f k b
 
 -- ways through boxes below k
-unfoldable pub rounds : (ℕ → ℕ → Bool) → ℕ → ℕ → ℕ → Bool
+unfoldable pub rounds : (f : ℕ → ℕ → Bool) (k a b : ℕ) → Bool
 rounds f zero a b = f a b
 rounds f (suc k) a b = through (rounds f k) k a b
 
 -- f a b, or a and b are the same box below k
-unfoldable pub selves : (ℕ → ℕ → Bool) → ℕ → ℕ → ℕ → Bool
+unfoldable pub selves : (f : ℕ → ℕ → Bool) (k a b : ℕ) → Bool
 selves f zero a b = f a b
 selves f (suc k) a b = selves f k a b || eqb a k && eqb b k
 

@@ -17,7 +17,7 @@ use Rattle.list_meaning.specs.declared.Listed.{Listed}
 use Rattle.list_meaning.specs.declared.Listed.the-variants.{Written, Refused}
 
 -- the list with this arrow at its end, if there is one
-unfoldable pub followed : List ℕ → Option ℕ → List ℕ
+unfoldable pub followed : (l : List ℕ) (next : Option ℕ) → List ℕ
 followed l none = l
 followed l (some k) = l ++ (k ∷ [])
 
@@ -40,7 +40,7 @@ module _ (pic : Picture) where
     next l = lowest (addable l) (arrowCount (pic .arrows))
 
     -- the first n places of the list: at each stands the next arrow, and the list ends when there is none
-    unfoldable pub listTo : ℕ → List ℕ
+    unfoldable pub listTo : (n : ℕ) → List ℕ
     listTo zero = []
     listTo (suc n) = let l = listTo n in followed l (next l)
 
@@ -59,11 +59,11 @@ module _ (pic : Picture) where
     orderFault = leftBy greedy
 
     -- the answer, by the fault of the whole call, if any: how many places the list takes
-    unfoldable pub listedOf : Option Refusal → Listed
+    unfoldable pub listedOf : (fault : Option Refusal) → Listed
     listedOf none = Written (length greedy)
     listedOf (some r) = Refused r
 
     -- what goes into the list places once checks 1 to 12 have passed, by the fault of 13, if any: the list, or 65,535 in each needed place
-    unfoldable pub placesOf : Option Refusal → List ℕ
+    unfoldable pub placesOf : (fault : Option Refusal) → List ℕ
     placesOf none = greedy
     placesOf (some r) = blanks (listRoom pic m)

@@ -13,27 +13,27 @@ use Rattle.meaning.specs.Pairs.{pairs, userAt, fileAt, answerAt}
 use Rattle.list_meaning.specs.Lists.{gives, ofMode}
 
 -- a number of the list passes the test
-unfoldable pub anyOf : (ℕ → Bool) → List ℕ → Bool
+unfoldable pub anyOf : (t : ℕ → Bool) (l : List ℕ) → Bool
 anyOf t [] = false
 anyOf t (k ∷ l) = t k || anyOf t l
 
 -- each does
-unfoldable pub allOf : (ℕ → Bool) → List ℕ → Bool
+unfoldable pub allOf : (t : ℕ → Bool) (l : List ℕ) → Bool
 allOf t [] = true
 allOf t (k ∷ l) = t k && allOf t l
 
 -- the first that does
-unfoldable pub firstOf : (ℕ → Bool) → List ℕ → Option ℕ
+unfoldable pub firstOf : (t : ℕ → Bool) (l : List ℕ) → Option ℕ
 firstOf t [] = none
 firstOf t (k ∷ l) = cond (t k) (some k) (firstOf t l)
 
 -- no number stands twice in the list
-unfoldable pub distinct : List ℕ → Bool
+unfoldable pub distinct : (l : List ℕ) → Bool
 distinct [] = true
 distinct (k ∷ l) = not (anyOf (eqb k) l) && distinct l
 
 -- if there is one, it passes the test
-unfoldable pub passes : (ℕ → Bool) → Option ℕ → Bool
+unfoldable pub passes : (t : ℕ → Bool) (found : Option ℕ) → Bool
 passes t none = true
 passes t (some k) = t k
 

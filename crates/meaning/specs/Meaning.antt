@@ -72,14 +72,14 @@ module _ (pic : Picture) where
         (lowest (hits negative u f) (arrowCount (pic .arrows)))
 
 -- each case in the matrix: 0 denied, 1 granted, 2 unclear
-unfoldable pub byteOf : Entry → ℕ
+unfoldable pub byteOf : (e : Entry) → ℕ
 byteOf (Granted k) = 1
 byteOf (Denied k) = 0
 byteOf Default = 0
 byteOf (Unclear p n) = 2
 
 -- and its arrow, or 65,535 for default and unclear
-unfoldable pub numberOf : Entry → ℕ
+unfoldable pub numberOf : (e : Entry) → ℕ
 numberOf (Granted k) = k
 numberOf (Denied k) = k
 numberOf Default = noArrow

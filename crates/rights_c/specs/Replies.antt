@@ -29,41 +29,41 @@ abbrev pub doneReply : (a b c : ℕ) → Reply
 doneReply a b c = reply 5 0 a b c
 
 -- judge and matrix: done, or refused
-abbrev pub verdictReply : Verdict → Reply
+abbrev pub verdictReply : (v : Verdict) → Reply
 verdictReply Passed = doneReply 0 0 0
 verdictReply (Refused r) = refusedReply r
 
 -- kind 0 denied and 1 granted, with the arrow; 2 unclear, with the positive and the negative arrow; 3 denied by default
-abbrev pub entryReply : Entry → Reply
+abbrev pub entryReply : (e : Entry) → Reply
 entryReply (Denied k) = reply 0 0 k 0 0
 entryReply (Granted k) = reply 1 0 k 0 0
 entryReply (Unclear p n) = reply 2 0 p n 0
 entryReply Default = reply 3 0 0 0 0
 
-abbrev pub askedReply : EntryReply → Reply
+abbrev pub askedReply : (asked : EntryReply) → Reply
 askedReply (Answered e) = entryReply e
 askedReply (EntryRefused r) = refusedReply r
 
 -- the list: done with the count
-abbrev pub listReply : Listed → Reply
+abbrev pub listReply : (listed : Listed) → Reply
 listReply (Written count) = doneReply count 0 0
 listReply (ListRefused r) = refusedReply r
 
 -- the headings: done with the two counts
-abbrev pub headingReply : Headings → Reply
+abbrev pub headingReply : (headings : Headings) → Reply
 headingReply (HeadingsWritten users files) = doneReply users files 0
 headingReply (HeadingsRefused r) = refusedReply r
 
 -- reading: done with the three row counts
-abbrev pub readReply : Reading → Reply
+abbrev pub readReply : (reading : Reading) → Reply
 readReply (Tables c) = doneReply (c .boxes) (c .containments) (c .arrows)
 readReply (ReadRefused r) = refusedReply r
 
 -- packing: done with the length
-abbrev pub packReply : Packing → Reply
+abbrev pub packReply : (packing : Packing) → Reply
 packReply (Packed len) = doneReply len 0 0
 packReply (PackRefused r) = refusedReply r
 
--- the version: major 3, minor 1, patch 0, as major × 65,536 + minor × 256 + patch
+-- the version: major 4, minor 0, patch 0, as major × 65,536 + minor × 256 + patch
 abbrev pub version : ℕ
 version = 262144

@@ -8,7 +8,7 @@ use Rattle.base.specs.Search.{select}
 use Rattle.tables.specs.Rows.{user, file, isGroup, onSide}
 
 -- box b is the outer one of a row
-unfoldable pub outer : List ℕ → ℕ → Bool
+unfoldable pub outer : (rows : List ℕ) (b : ℕ) → Bool
 outer [] b = false
 outer (x ∷ []) b = false
 outer (x ∷ y ∷ rows) b = eqb x b || outer rows b

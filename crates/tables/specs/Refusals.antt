@@ -60,11 +60,11 @@ abbrev pub badBlock : (number block : ℕ) → Refusal
 badBlock number block = refusal number block 0 0
 
 -- what a call answers, by the fault that was found, if any
-abbrev pub verdictOf : Option Refusal → Verdict
+abbrev pub verdictOf : (fault : Option Refusal) → Verdict
 verdictOf none = Passed
 verdictOf (some r) = Refused r
 
 -- what lent places hold at the end: a refusal leaves them as they were
-abbrev pub unlessRefused : Option Refusal → List ℕ → List ℕ → List ℕ
+abbrev pub unlessRefused : (fault : Option Refusal) (new old : List ℕ) → List ℕ
 unlessRefused none new old = new
 unlessRefused (some r) new old = old

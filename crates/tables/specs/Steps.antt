@@ -29,6 +29,6 @@ pub record SoundArrows (boxes arrows : List ℕ) : Type 0 where
   pub sign-most : (k : ℕ) → k < arrowCount arrows → arrowAt arrows k .sign ≤ 1
 
 -- the first of two verdicts that refuses
-abbrev pub either : Verdict → Verdict → Verdict
+abbrev pub either : (one other : Verdict) → Verdict
 either (Refused r) v = Refused r
 either Passed v = v
