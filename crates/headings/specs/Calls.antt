@@ -15,7 +15,7 @@ use Rattle.headings.specs.declared.Headings.the-variants.{Written, Refus
 
 module _ (boxes rows : List ℕ) where
   -- the answer, by the fault that was found, if any: how many atomic users and atomic files there are
-  unfoldable pub headingsOf : Option Refusal → Headings
+  unfoldable pub headingsOf : (fault : Option Refusal) → Headings
   headingsOf none = Written (length (atoms boxes rows user)) (length (atoms boxes rows file))
   headingsOf (some r) = Refused r
 

@@ -10,7 +10,7 @@ use Rattle.lines.specs.declared.Line.{Line}
 use Rattle.lines.specs.declared.Line.the-variants.{Counts, Pair, Last, Stopped}
 
 -- the answer, arrow: default is "neg -", unclear "ambig" with its two arrows
-unfoldable pub answerFields : Entry → List (List ℕ)
+unfoldable pub answerFields : (e : Entry) → List (List ℕ)
 answerFields (Granted k) = text "pos" ∷ decimal k ∷ []
 answerFields (Denied k) = text "neg" ∷ decimal k ∷ []
 answerFields Default = text "neg" ∷ text "-" ∷ []
@@ -20,7 +20,7 @@ answerFields (Unclear p n) = text "ambig" ∷ decimal p ∷ decimal n ∷ []
 unfoldable pub threeFields : (r : Refusal) → List (List ℕ)
 threeFields r = decimal (r .first) ∷ decimal (r .second) ∷ decimal (r .third) ∷ []
 
-unfoldable pub lineText : Line → List ℕ
+unfoldable pub lineText : (l : Line) → List ℕ
 -- the first line: the three row counts read
 lineText (Counts boxes rows arrows) =
     line (text "boxes" ∷ decimal boxes ∷ text "containments" ∷ decimal rows ∷ text "arrows" ∷ decimal arrows ∷ [])

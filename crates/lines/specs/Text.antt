@@ -7,7 +7,7 @@ use Prim.Native.String.{String, [] as nothing, _∷_ as _before_}
 use lib.Dec.{ltb}
 
 -- the codes of a quoted text's characters
-unfoldable pub text : String → List ℕ
+unfoldable pub text : (s : String) → List ℕ
 text nothing = []
 text (c before s) = code c ∷ text s
 
@@ -17,7 +17,7 @@ digit d = (48 + d) ∷ []
 
 -- n in decimal with no zeros in front, if it has at most one digit more than `most`: its digit where it is below 10, else the tenth
 -- part in decimal, then the last digit
-unfoldable pub decimalTo : ℕ → ℕ → List ℕ
+unfoldable pub decimalTo : (most n : ℕ) → List ℕ
 decimalTo zero n = digit n
 decimalTo (suc most) n = cond (ltb n 10) (digit n) (decimalTo most (n / 10) ++ digit (n % 10))
 
@@ -26,7 +26,7 @@ unfoldable pub decimal : (n : ℕ) → List ℕ
 decimal n = decimalTo n n
 
 -- a line: its fields, separated by single spaces, and the line's end
-unfoldable pub line : List (List ℕ) → List ℕ
+unfoldable pub line : (fields : List (List ℕ)) → List ℕ
 line [] = text "\n"
 line (field ∷ []) = field ++ text "\n"
 line (field ∷ next ∷ more) = field ++ (text " " ++ line (next ∷ more))

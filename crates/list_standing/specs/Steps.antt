@@ -33,7 +33,7 @@ standingBy closure left granted a =
     (someIn (isIn (setAt closure (a .tail))) (setAt closure (a .head)) (has left))
 
 -- the mark of a place of the numbers: 1 if its arrow is spent, 2 if it is free
-unfoldable pub markOf : Standing → ℕ
+unfoldable pub markOf : (standing : Standing) → ℕ
 markOf Blocked = 0
 markOf Spent = 1
 markOf Free = 2

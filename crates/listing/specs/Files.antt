@@ -18,7 +18,7 @@ unfoldable pub fileRefusal : (file : List ℕ) → Option Refusal
 fileRefusal file = orElse (readFault file 256 2048 2048) (pictureFault (pictureOf file) (zeros 65536))
 
 -- a refused file or picture gives one line only
-unfoldable pub refusedOr : Option Refusal → List ℕ → List ℕ
+unfoldable pub refusedOr : (fault : Option Refusal) (whole : List ℕ) → List ℕ
 refusedOr none listing = listing
 refusedOr (some r) listing = lineText (Stopped r)
 

@@ -52,7 +52,7 @@ module _ (pic : Picture) where
   unfoldable pub lineCount : ℕ
   lineCount = pairLines + 2
 
-  unfoldable pub lineAt : ℕ → Line
+  unfoldable pub lineAt : (number : ℕ) → Line
   lineAt zero = countsLine pic
   lineAt (suc i) = cond (ltb i pairLines) (pairLine pic (modeOf i) (pairOf i)) (Last (verdictOf (anyUnclear pic)))
 
@@ -69,11 +69,11 @@ unfoldable pub linesFrom : (lines : ℕ → Line) (from n : ℕ) → List ℕ
 linesFrom lines from n = joined (λ k. lineText (lines (from + k))) n
 
 -- the lines of what was read: one only where it is refused
-unfoldable pub stoppedOr : Option Refusal → Line → Line
+unfoldable pub stoppedOr : (fault : Option Refusal) (l : Line) → Line
 stoppedOr none l = l
 stoppedOr (some r) l = Stopped r
 
-unfoldable pub oneOr : Option Refusal → ℕ → ℕ
+unfoldable pub oneOr : (fault : Option Refusal) (count : ℕ) → ℕ
 oneOr none n = n
 oneOr (some r) n = 1
 

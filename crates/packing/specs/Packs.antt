@@ -14,7 +14,7 @@ use Rattle.packing.specs.declared.Packing.{Packing}
 use Rattle.packing.specs.declared.Packing.the-variants.{Packed, Refused}
 
 -- the answer, by the fault that was found, if any: the file's length
-unfoldable pub packingOf : Option Refusal → ℕ → Packing
+unfoldable pub packingOf : (fault : Option Refusal) (len : ℕ) → Packing
 packingOf none len = Packed len
 packingOf (some r) len = Refused r
 

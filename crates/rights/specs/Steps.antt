@@ -4,6 +4,6 @@ use Rattle.rights.specs.declared.Input.{Input}
 use Rattle.rights.specs.declared.Input.the-variants.{Bytes, Failed}
 
 -- no more bytes than the buffer has
-abbrev pub GotMost : ℕ → Input → Type 0
+abbrev pub GotMost : (most : ℕ) (input : Input) → Type 0
 GotMost most (Bytes n) = n ≤ most
 GotMost most Failed = Unit
