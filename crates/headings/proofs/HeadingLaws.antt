@@ -11,6 +11,7 @@ use Rattle.tables.specs.Faults.{tableFault, roomFault}
 use Rattle.tables.specs.Refusals.{verdictOf, unlessRefused}
 use Rattle.tables.specs.Steps.{either}
 use Rattle.tables.specs.declared.Refusal.{Refusal}
+use Rattle.tables.specs.declared.Verdict.{Verdict}
 use Rattle.tables.specs.declared.Verdict.the-variants.{Passed, Refused as Stopped}
 use Rattle.tables.proofs.TableLaws.{both-none, room-passed}
 use Rattle.tables.proofs.Verdicts.{passed, refused, either-verdict}
@@ -20,13 +21,12 @@ use Rattle.headings.specs.declared.Headings.{Headings}
 use Rattle.headings.specs.declared.Headings.the-variants.{Written, Refused}
 
 module _ (boxes rows users files : List ℕ) where
-  -- the verdicts on both buffers
-  pub rooms-is : either
-      (verdictOf (roomFault 11 (length users) (length (atoms boxes rows user))))
-      (verdictOf (roomFault 12 (length files) (length (atoms boxes rows file))))
-      ≡ verdictOf (headingRooms boxes rows users files)
+  -- the verdict on both buffers, by those on each and the counts of atomic boxes
+  pub rooms-is : {m n : ℕ} {u f r : Verdict} → m ≡ length (atoms boxes rows user) → n ≡ length (atoms boxes rows file)
+      → u ≡ verdictOf (roomFault 11 (length users) m) → f ≡ verdictOf (roomFault 12 (length files) n) → r ≡ either u f
+      → r ≡ verdictOf (headingRooms boxes rows users files)
   unfolding headingRooms
-  rooms-is = either-verdict _ _
+  rooms-is em en eu ef er = er ∙ rw (eu, ef, em, en) (either-verdict _ _)
 
   -- where check 9 passes, the buffers suffice
   pub rooms-passed : verdictOf (headingRooms boxes rows users files) ≡ Passed
@@ -64,8 +64,8 @@ module _ (boxes rows users files : List ℕ) where
     unfolding headingsOf
     by-rooms r v = ends (some r) (rooms-left ∙ refused (headingRooms boxes rows users files) r v)
 
-    pub by-none : verdictOf (headingRooms boxes rows users files) ≡ Passed
-        → Ends (Written (length (atoms boxes rows user)) (length (atoms boxes rows file)))
-        (written (atoms boxes rows user) users) (written (atoms boxes rows file) files)
+    pub by-none : {m n : ℕ} {u f : List ℕ} → verdictOf (headingRooms boxes rows users files) ≡ Passed
+        → m ≡ length (atoms boxes rows user) → n ≡ length (atoms boxes rows file)
+        → u ≡ written (atoms boxes rows user) users → f ≡ written (atoms boxes rows file) files → Ends (Written m n) u f
     unfolding headingsOf
-    by-none v = ends none (rooms-left ∙ passed (headingRooms boxes rows users files) v)
+    by-none v em en eu ef = rw (em, en, eu, ef) (ends none (rooms-left ∙ passed (headingRooms boxes rows users files) v))

@@ -16,7 +16,9 @@ use case_text::show_verdict;
 use libc::STDOUT_FILENO;
 use tables::Verdict;
 
+// The call that a letter stands for, and what it is asked.
 struct Question {
+    letter: u8,
     scratch: usize,
     mode: u16,
     user: u16,
@@ -25,7 +27,7 @@ struct Question {
     numbers: usize,
 }
 
-fn ask() -> Question {
+fn ask(letter: u8) -> Question {
     let scratch = number();
     let mode = number();
     let user = number();
@@ -33,6 +35,7 @@ fn ask() -> Question {
     let bytes = number();
     let numbers = number();
     Question {
+        letter,
         scratch: scratch.value,
         mode: low(mode.value),
         user: low(user.value),
@@ -49,9 +52,8 @@ fn prepare(boxes: &[u8], rows: &[u16], arrows: &[u16], scratch: &mut [u8]) -> Ve
     scratch::prepare(early, boxes, rows, scratch, &mut closure)
 }
 
-// The call that a letter stands for, with the places that are lent.
+// The call, with the places that are lent.
 fn call(
-    letter: u8,
     boxes: &[u8],
     rows: &[u16],
     arrows: &[u16],
@@ -66,6 +68,7 @@ fn call(
     let scratch = &mut scratch[..s];
     let bytes = &mut bytes[..b];
     let numbers = &mut numbers[..n];
+    let letter = q.letter;
     match letter {
         b'p' => {
             show_verdict(prepare(boxes, rows, arrows, scratch));
@@ -86,12 +89,11 @@ fn call(
 }
 
 // The line of a call, on fresh buffers.
-fn run(letter: u8, boxes: &[u8], rows: &[u16], arrows: &[u16], q: Question) {
+fn run(boxes: &[u8], rows: &[u16], arrows: &[u16], q: Question) {
     let mut scratch = bytes();
     let mut bytes = bytes();
     let mut numbers = numbers();
     call(
-        letter,
         boxes,
         rows,
         arrows,
@@ -106,12 +108,16 @@ fn run(letter: u8, boxes: &[u8], rows: &[u16], arrows: &[u16], q: Question) {
     io::write_all(STDOUT_FILENO, b"\n");
 }
 
-fn run_all(letter: u8, boxes: &[u8], rows: &[u16], arrows: &[u16], q: Question) {
-    run(letter, boxes, rows, arrows, q);
-    if letter == b'p' {
-        run(b'j', boxes, rows, arrows, q);
-        run(b'e', boxes, rows, arrows, q);
-        run(b'm', boxes, rows, arrows, q);
+fn run_all(boxes: &[u8], rows: &[u16], arrows: &[u16], q: Question) {
+    run(boxes, rows, arrows, q);
+    if q.letter == b'p' {
+        let mut next = q;
+        next.letter = b'j';
+        run(boxes, rows, arrows, next);
+        next.letter = b'e';
+        run(boxes, rows, arrows, next);
+        next.letter = b'm';
+        run(boxes, rows, arrows, next);
     }
 }
 
@@ -122,7 +128,7 @@ pub fn picture_case(letter: u8) {
     let b = byte_table(&mut boxes);
     let r = number_table(&mut rows);
     let a = number_table(&mut arrows);
-    run_all(letter, &boxes[..b], &rows[..r], &arrows[..a], ask());
+    run_all(&boxes[..b], &rows[..r], &arrows[..a], ask(letter));
 }
 
 // Writes the headings into as many places of both buffers as the input says.

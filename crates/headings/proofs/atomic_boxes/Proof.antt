@@ -1,9 +1,11 @@
 -- `headings::atomic_boxes` meets its contract: each stage refuses, or leaves the next one its facts; what is copied are the atomic
 -- boxes. Assumes nothing.
-use mathlib.Core.List.{[]}
-use mathlib.Core.Path.{_≡_, sym, _∙_}
+use mathlib.Core.List.{List, []}
+use Prim.Native.Nat.{ℕ}
+use mathlib.Core.Path.{_≡_, sym, ap, _∙_}
 use native.Mathlib.Omega.{arith}
 use borrow.Author.Needs.{needs}
+use Rattle.base.specs.Buffers.{written}
 use Rattle.tables.specs.Rows.{picture, user, file}
 use Rattle.tables.specs.Faults.{tableFault}
 use Rattle.tables.specs.Refusals.{verdictOf}
@@ -18,34 +20,62 @@ use Rattle.headings.proofs.HeadingLaws.{rooms-is, rooms-passed, by-tabl
 use Rattle.headings.proofs.atomic_boxes.Statement.{statement}
 use Rattle.headings.proofs.atomic_boxes.Tie as tie
 
--- what each stage found
-tabled : (c : tie.After-enum-told) → let a = c .before .before .before .before .before .before .before .before .args in verdictOf (tableFault (picture (a .boxes .now) (a .rows .now) [])) ≡ Passed
-tabled c = sym (c .before .before .check .ensures) ∙ c .enum-told .given .1
+-- ---- points: the tables are checked, and passed; the users and the files are found; the rooms are checked, and passed
 
-sound : (c : tie.After-enum-told) → let a = c .before .before .before .before .before .before .before .before .args in SoundRows (a .boxes .now) (a .rows .now)
-sound c = let a = c .before .before .before .before .before .before .before .before .args in sound-rows (a .boxes .now) (a .rows .now) [] (passed _ (tabled c))
+abbrev start : tie.After-check → tie.Start
+start c = c .before .before .before .before .before .before
 
-roomed : (c : tie.After-or-else) → let a = c .before .before .before .before .before .before .before .before .before .before .before .before .before .before .before .before .before .before .before .args in
+abbrev checked : tie.After-enum-told → tie.After-check
+checked told = told .before .before
+
+abbrev passed-of : tie.After-atoms-of → tie.After-enum-told
+passed-of users = users .before .before .before .before
+
+abbrev users-of : tie.After-atoms-of2 → tie.After-atoms-of
+users-of files = files .before .before .before
+
+abbrev files-of : tie.After-or-else → tie.After-atoms-of2
+files-of rooms = rooms .before .before .before .before
+
+abbrev rooms-of : tie.After-enum-told2 → tie.After-or-else
+rooms-of told = told .before .before
+
+abbrev begin : tie.After-or-else → tie.Start
+begin rooms = start (checked (passed-of (users-of (files-of rooms))))
+
+-- ---- what each stage found
+
+tabled : (c : tie.After-enum-told) →
+    let a = start (checked c) .args in
+    verdictOf (tableFault (picture (a .boxes .now) (a .rows .now) [])) ≡ Passed
+tabled c = sym (checked c .check .ensures) ∙ c .enum-told .given .1
+
+sound : (c : tie.After-enum-told) → let a = start (checked c) .args in SoundRows (a .boxes .now) (a .rows .now)
+sound c = let a = start (checked c) .args in sound-rows (a .boxes .now) (a .rows .now) [] (passed _ (tabled c))
+
+roomed : (c : tie.After-or-else) →
+    let a = begin c .args in
     c .or-else .result ≡ verdictOf (headingRooms (a .boxes .now) (a .rows .now) (a .users .now) (a .files .now))
 roomed c =
-    let at-files = c .before .before .before .before in
-    let at-users = at-files .before .before .before in
-    let a = at-users .before .before .before .before .before .before .before .before .before .before .before .before .args in
-    rw (
-      c .or-else .ensures,
-      c .before .check-room2 .ensures,
-      c .before .before .check-room .ensures,
-      at-files .atoms-of2 .ensures .0,
-      at-users .atoms-of .ensures .0,
-    ) (rooms-is (a .boxes .now) (a .rows .now) (a .users .now) (a .files .now))
+    let files = files-of c in
+    let a = begin c .args in
+    rooms-is (a .boxes .now) (a .rows .now) (a .users .now) (a .files .now) (users-of files .atoms-of .ensures .0) (files .atoms-of2 .ensures .0)
+    (c .before .before .check-room .ensures) (c .before .check-room2 .ensures) (c .or-else .ensures)
 
-rooms-pass : (c : tie.After-enum-told2) → let a = c .before .before .before .before .before .before .before .before .before .before .before .before .before .before .before .before .before .before .before .before .before .args in
+rooms-pass : (c : tie.After-enum-told2) →
+    let a = begin (rooms-of c) .args in
     verdictOf (headingRooms (a .boxes .now) (a .rows .now) (a .users .now) (a .files .now)) ≡ Passed
-rooms-pass c = sym (roomed (c .before .before)) ∙ c .enum-told2 .given .1
+rooms-pass c = sym (roomed (rooms-of c)) ∙ c .enum-told2 .given .1
+
+-- ---- the tables are refused
 
 returns : tie.Need-returns
-returns c = let a = c .before .before .before .before .before .before .before .before .before .args in
-    by-tables (a .boxes .now) (a .rows .now) (a .users .now) (a .files .now) _ (sym (c .before .before .before .check .ensures) ∙ c .before .tables .given .1)
+returns c =
+    let at = c .before .before .before in
+    let a = start at .args in
+    by-tables (a .boxes .now) (a .rows .now) (a .users .now) (a .files .now) _ (sym (at .check .ensures) ∙ c .before .tables .given .1)
+
+-- ---- the atomic boxes
 
 atoms-of-requires : tie.Need-atoms-of-requires
 atoms-of-requires c κs = (sound (c .before .before .before), search needs)
@@ -53,55 +83,63 @@ atoms-of-requires c κs = (sound (c .before .before .before), search needs)
 atoms-of-requires-2 : tie.Need-atoms-of-requires-2
 atoms-of-requires-2 c κs = (sound (c .before .before .before .before .before .before), search needs)
 
+-- ---- a room is refused
+
 returns-2 : tie.Need-returns-2
-returns-2 c = let at-or-else = c .before .before .before in
-    let at-told = at-or-else .before .before .before .before .before .before .before .before .before .before .before in
-    let a = at-told .before .before .before .before .before .before .before .before .args in
-    by-rooms (a .boxes .now) (a .rows .now) (a .users .now) (a .files .now) (tabled at-told) _ (sym (roomed at-or-else) ∙ c .before .rooms .given .1)
+returns-2 c =
+    let at = c .before .before .before in
+    let a = begin at .args in
+    by-rooms (a .boxes .now) (a .rows .now) (a .users .now) (a .files .now) (tabled (passed-of (users-of (files-of at)))) _
+    (sym (roomed at) ∙ c .before .rooms .given .1)
+
+-- ---- what is copied
 
 array-share-prefix-atomic-users : tie.Need-array-share-prefix-atomic-users
-array-share-prefix-atomic-users c = let at-users = c .before .before .before .before .before .before .before .before .before in
-    let at-told = at-users .before .before .before .before in
-    let a = at-told .before .before .before .before .before .before .before .before .args in
-    part-within _ _ _ _ (at-users .atoms-of .ensures) (omega (arith, atoms-most (a .boxes .now) (a .rows .now) user, sound at-told .few-boxes))
+array-share-prefix-atomic-users c =
+    let found = users-of (files-of (rooms-of c)) in
+    let a = begin (rooms-of c) .args in
+    part-within _ _ _ _ (found .atoms-of .ensures)
+    (omega (arith, atoms-most (a .boxes .now) (a .rows .now) user, sound (passed-of found) .few-boxes))
 
 slice-aggregate-copy : tie.Need-slice-aggregate-copy
-slice-aggregate-copy c = part-length _ _ _ _ (c .before .before .before .before .before .before .before .before .before .before .atoms-of .ensures)
+slice-aggregate-copy c = part-length _ _ _ _ (users-of (files-of (rooms-of (c .before))) .atoms-of .ensures)
 
 copy-requires : tie.Need-copy-requires
-copy-requires c κs = let at-told2 = c .before .before in
-    let a = at-told2 .before .before .before .before .before .before .before .before .before .before .before .before .before .before .before .before .before .before .before .before .before .args in
-    rw (part-is _ _ _ _ (at-told2 .before .before .before .before .before .before .before .before .before .atoms-of .ensures)) (rooms-passed (a .boxes .now) (a .rows .now) (a .users .now) (a .files .now) (rooms-pass at-told2) .0)
+copy-requires c κs =
+    let told = c .before .before in
+    let a = begin (rooms-of told) .args in
+    rw (part-is _ _ _ _ (users-of (files-of (rooms-of told)) .atoms-of .ensures))
+    (rooms-passed (a .boxes .now) (a .rows .now) (a .users .now) (a .files .now) (rooms-pass told) .0)
 
 array-share-prefix-atomic-files : tie.Need-array-share-prefix-atomic-files
-array-share-prefix-atomic-files c = let at-files = c .before .before .before .before .before .before .before .before .before .before .before in
-    let at-told = at-files .before .before .before .before .before .before .before in
-    let a = at-told .before .before .before .before .before .before .before .before .args in
-    part-within _ _ _ _ (at-files .atoms-of2 .ensures) (omega (arith, atoms-most (a .boxes .now) (a .rows .now) file, sound at-told .few-boxes))
+array-share-prefix-atomic-files c =
+    let rooms = rooms-of (c .before .before .before .before .before) in
+    let a = begin rooms .args in
+    part-within _ _ _ _ (files-of rooms .atoms-of2 .ensures)
+    (omega (arith, atoms-most (a .boxes .now) (a .rows .now) file, sound (passed-of (users-of (files-of rooms))) .few-boxes))
 
 slice-aggregate-copy-2 : tie.Need-slice-aggregate-copy-2
-slice-aggregate-copy-2 c = part-length _ _ _ _ (c .before .before .before .before .before .before .before .before .before .before .before .before .atoms-of2 .ensures)
+slice-aggregate-copy-2 c =
+    part-length _ _ _ _ (files-of (rooms-of (c .before .before .before .before .before .before)) .atoms-of2 .ensures)
 
 copy-requires-2 : tie.Need-copy-requires-2
-copy-requires-2 c κs = let at-told2 = c .before .before .before .before .before .before .before in
-    let a = at-told2 .before .before .before .before .before .before .before .before .before .before .before .before .before .before .before .before .before .before .before .before .before .args in
-    rw (part-is _ _ _ _ (at-told2 .before .before .before .before .before .before .atoms-of2 .ensures)) (rooms-passed (a .boxes .now) (a .rows .now) (a .users .now) (a .files .now) (rooms-pass at-told2) .1)
+copy-requires-2 c κs =
+    let told = c .before .before .before .before .before .before .before in
+    let a = begin (rooms-of told) .args in
+    rw (part-is _ _ _ _ (files-of (rooms-of told) .atoms-of2 .ensures))
+    (rooms-passed (a .boxes .now) (a .rows .now) (a .users .now) (a .files .now) (rooms-pass told) .1)
 
 returns-3 : tie.Need-returns-3
 returns-3 c =
-    let at-copy = c .before .before .before .before .before .before .before in
-    let at-told2 = at-copy .before .before .before in
-    let at-files = at-told2 .before .before .before .before .before .before .atoms-of2 .ensures in
-    let at-users = at-told2 .before .before .before .before .before .before .before .before .before .atoms-of .ensures in
-    let at-told = at-told2 .before .before .before .before .before .before .before .before .before .before .before .before .before in
-    let a = at-told .before .before .before .before .before .before .before .before .args in
-    let z = by-none (a .boxes .now) (a .rows .now) (a .users .now) (a .files .now) (tabled at-told) (rooms-pass at-told2) in (
-      rw (at-users .0, at-files .0) (z .0),
-      (
-        at-copy .copy .ensures ∙ rw (part-is _ _ _ _ at-users) (z .1 .0),
-        c .before .before .copy2 .ensures ∙ rw (part-is _ _ _ _ at-files) (z .1 .1),
-      ),
-    )
+    let copied = c .before .before .before .before .before .before .before in
+    let told = copied .before .before .before in
+    let files = files-of (rooms-of told) in
+    let users = users-of files in
+    let a = begin (rooms-of told) .args in
+    by-none (a .boxes .now) (a .rows .now) (a .users .now) (a .files .now) (tabled (passed-of users)) (rooms-pass told)
+    (users .atoms-of .ensures .0) (files .atoms-of2 .ensures .0)
+    (copied .copy .ensures ∙ ap (λ (l : List ℕ). written l (a .users .now)) (part-is _ _ _ _ (users .atoms-of .ensures)))
+    (c .before .before .copy2 .ensures ∙ ap (λ (l : List ℕ). written l (a .files .now)) (part-is _ _ _ _ (files .atoms-of2 .ensures)))
 
 pub atomic-boxes-spec : {M : Type 1} → statement M
 atomic-boxes-spec =
