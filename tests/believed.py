@@ -1,11 +1,11 @@
 #!/usr/bin/env python3
 """How many lines of definitions a reader must believe: those of docs/PROMISES.md, "Meaning", without comments, imports and empty
-lines, and without what is proved equal to something plainer. Fails if document 01 takes more than 400."""
+lines, and without what is proved equal to something plainer. Fails if document 01 takes more than 420, so that it does not grow unseen."""
 import pathlib
 import re
 import sys
 
-MOST = 400
+MOST = 420
 
 # a file, and the definitions in it that are proved equal to something plainer
 PAPERS = {

@@ -79,7 +79,8 @@ fn gather(boxes: &[u8], side: u8, marks: &[u8], out: &mut [u16]) -> usize
     requires { ⌜ (length (now boxes) ≤ 256) × (256 ≤ length (now marks)) × (256 ≤ length (now out)) ⌝ }
     ensures { λ r. ⌜ r ≡ length (select (unmarked (now (boxes .entry)) side (now (marks .entry))) (length (now (boxes .entry)))) ⌝ }
     ensures { λ _. ⌜ now (out .exit)
-        ≡ written (select (unmarked (now (boxes .entry)) side (now (marks .entry))) (length (now (boxes .entry)))) (now (out .entry)) ⌝ }
+        ≡ written (select (unmarked (now (boxes .entry)) side (now (marks .entry))) (length (now (boxes .entry))))
+        (now (out .entry)) ⌝ }
 {
     let mut count = 0;
     for b in 0..boxes.len() {

@@ -67,7 +67,8 @@ fn check_tables(counts: Counts, boxes: usize, rows: usize, arrows: usize) -> Ver
 // Writes a block's boxes from row `at` on.
 fn put_boxes(file: &[u8], block: usize, count: usize, at: usize, boxes: &mut [u8])
     requires { ⌜ (block < blockCount (now file)) × (count ≤ 500) × (at + count ≤ length (now boxes)) ⌝ }
-    ensures { λ _. ⌜ now (boxes .exit) ≡ sets (now (boxes .entry)) at (joined (rowOf 1 (blockAt (now (file .entry)) block)) count) ⌝ }
+    ensures { λ _. ⌜ now (boxes .exit)
+        ≡ sets (now (boxes .entry)) at (joined (rowOf 1 (blockAt (now (file .entry)) block)) count) ⌝ }
 {
     for j in 0..count {
         let record = BoxRecord::at(file, block, j);
@@ -120,7 +121,8 @@ fn put_block(
     ensures { λ r. ⌜ now (boxes .exit) ≡ sets (now (boxes .entry)) (at .boxes) (said 1 (blockAt (now (file .entry)) block)) ⌝ }
     ensures { λ r. ⌜ now (rows .exit) ≡ sets (now (rows .entry)) (2 * at .containments)
         (said 2 (blockAt (now (file .entry)) block)) ⌝ }
-    ensures { λ r. ⌜ now (arrows .exit) ≡ sets (now (arrows .entry)) (4 * at .arrows) (said 3 (blockAt (now (file .entry)) block)) ⌝ }
+    ensures { λ r. ⌜ now (arrows .exit)
+        ≡ sets (now (arrows .entry)) (4 * at .arrows) (said 3 (blockAt (now (file .entry)) block)) ⌝ }
 {
     let head = head_of(file, block);
     put_boxes(file, block, head.count_of(BoxRecord::KIND), at.boxes, boxes);

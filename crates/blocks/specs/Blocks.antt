@@ -17,8 +17,14 @@ number16 block at = getD block at 0 + 256 * getD block (at + 1) 0
 
 -- byte 0 kind, byte 1 zero, bytes 2 and 3 block number, bytes 4 and 5 record count, bytes 6 and 7 zero
 unfoldable pub headOf : (block : List ℕ) → Head
-headOf b =
-    record { kind = getD b 0 0; byte1 = getD b 1 0; number = number16 b 2; count = number16 b 4; byte6 = getD b 6 0; byte7 = getD b 7 0 }
+headOf block = record {
+  kind = getD block 0 0;
+  byte1 = getD block 1 0;
+  number = number16 block 2;
+  count = number16 block 4;
+  byte6 = getD block 6 0;
+  byte7 = getD block 7 0;
+}
 
 -- by kind: 1 boxes, 2 containments, 3 arrows
 unfoldable pub byKind : (kind boxes containments arrows : ℕ) → ℕ

@@ -78,7 +78,8 @@ fn few_heads(heads: &[u64], sign: usize, tails: Set) -> Set
 // box, which has itself, so 256 turns are enough.
 fn outside_all(closure: &[u64], files: Set, boxes: Set) -> Set
     requires { ⌜ length (now closure) ≡ closureWords ⌝ }
-    ensures { λ r. ⌜ ((pic : Picture) → Drawn pic (now (closure .entry)) → ((b : ℕ) → T (isIn boxes b) → b < length (pic .boxes))
+    ensures { λ r. ⌜ ((pic : Picture) → Drawn pic (now (closure .entry))
+        → ((b : ℕ) → T (isIn boxes b) → b < length (pic .boxes))
         → (f : ℕ) → isIn r f ≡ (isIn files f && not (inOne pic (isIn boxes) f))) ⌝ }
 {
     let mut left = files;

@@ -51,7 +51,8 @@ fn judge_rows(
     requires { ⌜ Sized (now closure) (now heads) (now arrows) (now own) × Boxes (now users) ⌝ }
     ensures { λ r. ⌜ ((pic : Picture) → Drawn pic (now (closure .entry))
         → Moded pic mode (now (heads .entry)) (now (arrows .entry)) (now (own .entry))
-        → now (users .entry) ≡ atoms (pic .boxes) (pic .rows) user → ((f : ℕ) → isIn files f ≡ atom (pic .boxes) (pic .rows) file f)
+        → now (users .entry) ≡ atoms (pic .boxes) (pic .rows) user
+        → ((f : ℕ) → isIn files f ≡ atom (pic .boxes) (pic .rows) file f)
         → r ≡ verdictOf (unclearFault pic mode)) ⌝ }
 {
     let mut last = no_arrows(files);
@@ -77,7 +78,8 @@ fn signs_room() -> [u64; 8]
 // The modes that have arrows of both signs. Another one has no unclear pair.
 fn clashing(arrows: &[u16]) -> Set
     requires { ⌜ Signed (now arrows) ⌝ }
-    ensures { λ r. ⌜ ((m : ℕ) → isIn r m ≡ (signUsed (now (arrows .entry)) m negative && signUsed (now (arrows .entry)) m positive)) ⌝ }
+    ensures { λ r. ⌜ ((m : ℕ) → isIn r m
+        ≡ (signUsed (now (arrows .entry)) m negative && signUsed (now (arrows .entry)) m positive)) ⌝ }
 {
     let mut signs = signs_room();
     for k in 0..arrows.len() / 4 {
@@ -98,7 +100,8 @@ fn judge_mode(
 ) -> Verdict
     requires { ⌜ (length (now closure) ≡ closureWords) × Small (now arrows) × (mode < 256) × Boxes (now users) ⌝ }
     ensures { λ r. ⌜ ((pic : Picture) → Drawn pic (now (closure .entry)) → now (arrows .entry) ≡ pic .arrows
-        → now (users .entry) ≡ atoms (pic .boxes) (pic .rows) user → ((f : ℕ) → isIn files f ≡ atom (pic .boxes) (pic .rows) file f)
+        → now (users .entry) ≡ atoms (pic .boxes) (pic .rows) user
+        → ((f : ℕ) → isIn files f ≡ atom (pic .boxes) (pic .rows) file f)
         → isIn both mode ≡ (signUsed (pic .arrows) mode negative && signUsed (pic .arrows) mode positive)
         → r ≡ verdictOf (unclearFault pic mode)) ⌝ }
 {
@@ -115,7 +118,8 @@ fn judge_mode(
 fn judge_modes(closure: &[u64], arrows: &[u16], users: &[u16], files: Set) -> Verdict
     requires { ⌜ (length (now closure) ≡ closureWords) × Small (now arrows) × Signed (now arrows) × Boxes (now users) ⌝ }
     ensures { λ r. ⌜ ((pic : Picture) → Drawn pic (now (closure .entry)) → now (arrows .entry) ≡ pic .arrows
-        → now (users .entry) ≡ atoms (pic .boxes) (pic .rows) user → ((f : ℕ) → isIn files f ≡ atom (pic .boxes) (pic .rows) file f)
+        → now (users .entry) ≡ atoms (pic .boxes) (pic .rows) user
+        → ((f : ℕ) → isIn files f ≡ atom (pic .boxes) (pic .rows) file f)
         → r ≡ verdictOf (anyUnclear pic)) ⌝ }
 {
     let both = clashing(arrows);

@@ -16,7 +16,7 @@ use Rattle.tables.specs.Faults.{tableFault, modeFault, roomFault}
 use Rattle.tables.specs.declared.Refusal.{Refusal}
 use Rattle.tables.specs.declared.Verdict.the-variants.{Passed, Refused as VerdictRefused}
 use Rattle.tables.proofs.Verdicts.{either-verdict, refuses, passes}
-use Rattle.tables.proofs.TableLaws.{both-none, mode-passed, room-passed}
+use Rattle.tables.proofs.TableLaws.{both-none, room-passed}
 use Rattle.scratch.specs.Scratch.{scratchFault, scratchAfter}
 use Rattle.containment.specs.Contains.{loopFault}
 use Rattle.scratch.proofs.ScratchLaws.{scratch-room}
@@ -67,10 +67,9 @@ module _ (pic : Picture) (m : ℕ) where
             (orElse (roomFault 3 (length out) (listRoom pic m)) (roomFault 4 (length work) (pairs pic)))))
         asked = simp (either-verdict, orElse-assoc)
 
-    -- where they pass, the mode is one and there is room
+    -- where they pass, there is room
     pub record Rooms : Type 0 where
       pub no-fault : tableFault pic ≡ none
-      pub mode-few : m < 8
       pub scratch-room : length (pic .boxes) * length (pic .boxes) ≤ length s
       pub out-room : listRoom pic m ≤ length out
       pub work-room : pairs pic ≤ length work
@@ -84,7 +83,6 @@ module _ (pic : Picture) (m : ℕ) where
         let c = both-none (roomFault 3 (length out) (listRoom pic m)) _ (b .1) in
         record {
           no-fault = t .0;
-          mode-few = mode-passed m (a .0);
           scratch-room = scratch-room (length (pic .boxes)) s (b .0);
           out-room = room-passed 3 (length out) (listRoom pic m) (c .0);
           work-room = room-passed 4 (length work) (pairs pic) (c .1);

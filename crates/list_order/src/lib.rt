@@ -40,7 +40,8 @@ fn next_free(
     done: &mut [u8],
     from: usize,
 ) -> usize
-    requires { ⌜ (length (now closure) ≡ closureWords) × (length (now left) ≡ tableWords) × (length (now granted) ≡ tableWords) ⌝ }
+    requires { ⌜ (length (now closure) ≡ closureWords) × (length (now left) ≡ tableWords)
+        × (length (now granted) ≡ tableWords) ⌝ }
     requires { ⌜ Small (now arrows) × Numbers (now arrows) (now own) × (length (now own) ≤ length (now done)) ⌝ }
     requires { ⌜ Done (now closure) (now arrows) (now own) (now left) (now granted) (now done) ⌝ }
     requires { ⌜ (from ≤ length (now own)) × SpentBefore (now closure) (now arrows) (now own) (now left) (now granted) from ⌝ }
@@ -124,7 +125,8 @@ pub fn order(
     granted: &[u64],
     out: &mut [u16],
 ) -> usize
-    requires { ⌜ (length (now closure) ≡ closureWords) × (length (now left) ≡ tableWords) × (length (now granted) ≡ tableWords) ⌝ }
+    requires { ⌜ (length (now closure) ≡ closureWords) × (length (now left) ≡ tableWords)
+        × (length (now granted) ≡ tableWords) ⌝ }
     requires { ⌜ Small (now arrows) × Numbers (now arrows) (now own)
         × (length (now own) ≤ 512) × (length (now own) ≤ length (now out)) ⌝ }
     ensures { λ r. ⌜ ((pic : Picture) (m : ℕ)

@@ -50,7 +50,10 @@ module _ (pic : Picture) where
   -- p overrides n unless p's tail contains n's tail, or p's head contains n's head, or the tails are level and the heads are level
   unfoldable pub overrides : (p n : Arrow) → Bool
   overrides p n =
-      not (nests (p .tail) (n .tail) || nests (p .head) (n .head) || level (p .tail) (n .tail) && level (p .head) (n .head))
+      not
+      (nests (p .tail) (n .tail)
+      || nests (p .head) (n .head)
+      || level (p .tail) (n .tail) && level (p .head) (n .head))
 
   module _ (mode : ℕ) where
     -- arrow k has the mode and the sign, and reaches the pair

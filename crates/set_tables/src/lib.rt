@@ -78,7 +78,8 @@ pub fn join_each(t: &mut [u64], from: usize, numbers: Set, x: Set)
 // A set, and each set `from` + k whose k is in word q of a set of numbers.
 fn union_word(t: &[u64], from: usize, q: usize, word: u64, x: Set) -> Set
     requires { ⌜ (4 * (from + 256) ≤ length (now t)) × (q < 4) ⌝ }
-    ensures { λ r. ⌜ ((b : ℕ) → isIn r b ≡ (isIn x b || anyBelow (λ k. inWord q word k && has (now (t .entry)) (from + k) b) 256)) ⌝ }
+    ensures { λ r. ⌜ ((b : ℕ) → isIn r b
+        ≡ (isIn x b || anyBelow (λ k. inWord q word k && has (now (t .entry)) (from + k) b) 256)) ⌝ }
 {
     let mut rest = word;
     let mut found = x;

@@ -4,14 +4,13 @@ use mathlib.Core.Bool.{Bool, true, false, not, _&&_, _||_}
 use mathlib.Core.List.{List}
 use mathlib.Core.Option.{Option, none, some}
 use Prim.Native.Nat.{ℕ, _<_, _≤_, _%_}
-use native.Mathlib.Omega.{arith}
 use borrow.Author.Tests.{le-ltb}
 use lib.Dec.{T, eqb, ltb, leb, not-T, eqb→eq, nltb→le, nleb→lt}
 use lib.ListN.{length, getD}
 use Rattle.base.specs.Search.{orElse, given}
 use Rattle.tables.specs.Rows.{picture, user, file, sideOf, onSide, rowCount, rowAt, arrowCount, arrowAt}
 use Rattle.tables.specs.Refusals.{ragged, tooMany, badByte, badRow, tooShort}
-use Rattle.tables.specs.Faults.{raggedFault, countFault, byteFault, namesNoBox, acrossSides, wrongEnds, wrongMode, rowFault, tableFault, roomFault, modeFault}
+use Rattle.tables.specs.Faults.{raggedFault, countFault, byteFault, namesNoBox, acrossSides, wrongEnds, wrongMode, rowFault, tableFault, roomFault}
 use Rattle.tables.specs.Steps.{SoundRows, SoundArrows}
 use Rattle.tables.specs.declared.Refusal.{Refusal}
 use Rattle.tables.specs.declared.Containment.{Containment}
@@ -55,10 +54,6 @@ pub counts-few : (boxes rows arrows : ℕ) → boxes ≤ 256 → rows ≤ 1024 �
 unfolding countFault
 counts-few boxes rows arrows b r a =
     past _ _ (given-false _ _ (le-ltb 256 boxes b)) ∙ past _ _ (given-false _ _ (le-ltb 1024 rows r)) ∙ given-false _ _ (le-ltb 512 arrows a)
-
-pub mode-passed : (mode : ℕ) → modeFault mode ≡ none → mode < 8
-unfolding modeFault
-mode-passed mode e = let h = at-most 7 mode _ e in omega arith
 
 whole-rows : (n width : ℕ) (r : Refusal) → given (not (eqb (n % width) 0)) r ≡ none → n % width ≡ 0
 whole-rows n width r e = eqb→eq (n % width) 0 (not-not (eqb (n % width) 0) (given-none (not (eqb (n % width) 0)) r e))

@@ -52,4 +52,9 @@ abbrev pub arrowCount : (arrows : List ℕ) → ℕ
 arrowCount arrows = length arrows / 4
 
 abbrev pub arrowAt : (arrows : List ℕ) (k : ℕ) → Arrow
-arrowAt a k = record { tail = getD a (4 * k) 0; head = getD a (4 * k + 1) 0; mode = getD a (4 * k + 2) 0; sign = getD a (4 * k + 3) 0 }
+arrowAt arrows k = record {
+  tail = getD arrows (4 * k) 0;
+  head = getD arrows (4 * k + 1) 0;
+  mode = getD arrows (4 * k + 2) 0;
+  sign = getD arrows (4 * k + 3) 0;
+}
