@@ -1,7 +1,7 @@
 //! One entry, the judge, the matrix of a mode.
 
 use super::containment::{check_scratch, contain, Closure};
-use super::rows::{Kept, Mode, Rows};
+use super::rows::{Mode, Rows, Seen};
 use super::sets::Set;
 use super::tables::{atoms_of, check, check_mode, check_room, is_atom};
 use super::{refuse, Entry, Refusal, Tables, BOXES, NO_ARROW};
@@ -29,10 +29,12 @@ fn judge_mode(
         closure,
         mode: &mode,
     };
-    let mut last = Kept::EMPTY;
-    for &u in users {
-        last = rows.sort_next(u, files, last);
-        if let Some(f) = last.row.unclear.lowest() {
+    let mut seen = Seen::new();
+    for (i, &u) in users.iter().enumerate() {
+        if rows.alike(users, i, &mut seen) < i {
+            continue;
+        }
+        if let Some(f) = rows.sort(u, files).unclear.lowest() {
             return refuse(12, m as usize, u as usize, f as usize);
         }
     }
@@ -100,14 +102,19 @@ fn fill_matrix(rows: Rows, users: &[u8], files: &[u8], bytes: &mut [u8], numbers
         return;
     }
     let asked = files.iter().copied().collect();
-    let bytes = bytes.chunks_exact_mut(files.len());
-    let numbers = numbers.chunks_exact_mut(files.len());
-    let mut found = [NO_ARROW; BOXES];
-    let mut last = Kept::EMPTY;
-    for (&u, (bytes, numbers)) in users.iter().zip(bytes.zip(numbers)) {
-        last = rows.answer_next(u, asked, last, &mut found);
-        let row = last.row;
-        for (&f, (byte, number)) in files.iter().zip(bytes.iter_mut().zip(numbers)) {
+    let n = files.len();
+    let mut seen = Seen::new();
+    for (i, &u) in users.iter().enumerate() {
+        let j = rows.alike(users, i, &mut seen);
+        if j < i {
+            bytes.copy_within(j * n..(j + 1) * n, i * n);
+            numbers.copy_within(j * n..(j + 1) * n, i * n);
+            continue;
+        }
+        let mut found = [NO_ARROW; BOXES];
+        let row = rows.answer(u, asked, &mut found);
+        let bytes = bytes[i * n..].iter_mut();
+        for (&f, (byte, number)) in files.iter().zip(bytes.zip(&mut numbers[i * n..])) {
             *byte = row.granted.has(f) as u8 + 2 * row.unclear.has(f) as u8;
             *number = found[f as usize];
         }

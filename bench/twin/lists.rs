@@ -1,7 +1,7 @@
 //! The first-match list of a mode.
 
 use super::containment::{check_scratch, contain, Closure};
-use super::rows::{Arrow, Kept, Mode, Rows};
+use super::rows::{Arrow, Mode, Rows, Seen};
 use super::sets::Set;
 use super::tables::{atoms_of, check, check_mode, check_room};
 use super::{refuse, Refusal, Tables, ARROWS, BOXES, NO_ARROW};
@@ -112,15 +112,19 @@ pub fn list(
         mode: &mode,
     };
     let asked = files.iter().copied().collect();
-    let mut last = Kept::EMPTY;
-    for &u in users {
-        last = rows.sort_next(u, asked, last);
-        let row = last.row;
+    let mut seen = Seen::new();
+    for (i, &u) in users.iter().enumerate() {
+        let j = rows.alike(users, i, &mut seen);
+        order.left[u as usize] = asked;
+        if j < i {
+            order.granted[u as usize] = order.granted[users[j] as usize];
+            continue;
+        }
+        let row = rows.sort(u, asked);
         if let Some(f) = row.unclear.lowest() {
             return refuse(12, m as usize, u as usize, f as usize);
         }
         order.granted[u as usize] = row.granted;
-        order.left[u as usize] = asked;
     }
     let count = order.write(mode.own(), &mut out[..need]);
     work[..pairs].fill(0);

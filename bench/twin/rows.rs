@@ -84,23 +84,14 @@ pub struct Row {
     pub unclear: Set,
 }
 
-/// The row of the last user, and the tails of the mode's arrows around them: whoever has the same ones has
-/// the same row.
-#[derive(Clone, Copy)]
-pub struct Kept {
-    tails: Set,
-    pub row: Row,
-}
+/// Of users with the same tails of the mode's arrows around them, the place behind that of the last one, by
+/// a short number of the tails; 0 where there is none yet.
+pub struct Seen([u16; 107]);
 
-impl Kept {
-    /// Around whom there is no arrow, nothing is granted or unclear.
-    pub const EMPTY: Kept = Kept {
-        tails: Set::EMPTY,
-        row: Row {
-            granted: Set::EMPTY,
-            unclear: Set::EMPTY,
-        },
-    };
+impl Seen {
+    pub fn new() -> Seen {
+        Seen([0; 107])
+    }
 }
 
 /// What rows are answered by.
@@ -219,29 +210,17 @@ impl Rows<'_> {
         self.closure.above[user as usize] & (negative | positive)
     }
 
-    /// The row of the next user, by that of the last.
-    pub fn sort_next(self, user: u8, asked: Set, last: Kept) -> Kept {
-        let tails = self.tails_near(user);
-        if tails == last.tails {
-            return last;
+    /// The place of a user before place i around whom the same tails are, or i.
+    #[inline]
+    pub fn alike(self, users: &[u8], i: usize, seen: &mut Seen) -> usize {
+        let tails = self.tails_near(users[i]);
+        let slot = &mut seen.0[tails.short()];
+        let j = *slot as usize;
+        *slot = i as u16 + 1;
+        if j != 0 && tails == self.tails_near(users[j - 1]) {
+            return j - 1;
         }
-        Kept {
-            tails,
-            row: self.sort(user, asked),
-        }
-    }
-
-    /// The same with numbers.
-    pub fn answer_next(self, user: u8, asked: Set, last: Kept, numbers: &mut [u16; BOXES]) -> Kept {
-        let tails = self.tails_near(user);
-        if tails == last.tails {
-            return last;
-        }
-        numbers.fill(NO_ARROW);
-        Kept {
-            tails,
-            row: self.answer(user, asked, numbers),
-        }
+        i
     }
 
     /// The lowest arrow of a sign that reaches the pair.

@@ -17,6 +17,14 @@ impl Set {
         a | b | c | d == 0
     }
 
+    /// A number below 107, of which the powers of 2 leave other remainders, so that sets of few or of nested
+    /// boxes seldom share it.
+    #[inline]
+    pub fn short(self) -> usize {
+        let [a, b, c, d] = self.0;
+        ((a ^ b ^ c ^ d) % 107) as usize
+    }
+
     #[inline]
     pub fn has(&self, k: u8) -> bool {
         self.0[k as usize / 64] >> (k % 64) & 1 == 1

@@ -70,6 +70,15 @@ emitted-written g h at n old mid new room e m same =
         ∙ sym (built (at + n) p l)
     go p (no a) (no b) = m .miss p (inr (omega arith)) ∙ rw e (rest at p (omega arith)) ∙ sym (rest (at + n) p (omega arith))
 
+-- a row that is copied from a row before
+pub copied-written : (h : ℕ → ℕ) (from at n : ℕ) (old mid new : List ℕ) → from + n ≤ at → at + n ≤ length old → mid ≡ written (build h at) old
+    → Emitted (λ j. getD mid (from + j) 0) at n mid new → ((j : ℕ) → j < n → h (from + j) ≡ h (at + j)) → new ≡ written (build h (at + n)) old
+copied-written h from at n old mid new before room e m same =
+    emitted-written (λ j. getD mid (from + j) 0) h at n old mid new room e m
+    (λ j l.
+    let there : from + j < at = omega arith in
+    rw e (written-at (build h at) old (from + j) (rw build-length there) ∙ build-at h at (from + j) there) ∙ same j l)
+
 -- ---- what a row says of a file
 
 module _ (pic : Picture) (m : ℕ) where

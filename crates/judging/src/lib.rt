@@ -26,8 +26,6 @@ use boxsets::is_empty;
 use boxsets::is_in;
 use boxsets::lowest;
 use boxsets::shared;
-use kept_rows::next_row;
-use kept_rows::no_arrows;
 use mode_sets::arrow_room;
 use mode_sets::heads_room;
 use mode_sets::take_mode;
@@ -37,8 +35,12 @@ use tables::Arrow;
 use tables::BoxRow;
 use tables::Refusal;
 use tables::Verdict;
+use user_kinds::alike;
+use user_kinds::notes_room;
+use user_rows::sort_row;
 
-// Check 12 for a mode, by its arrows: row by row, and in a row the lowest file.
+// Check 12 for a mode, by its arrows: row by row, and in a row the lowest file. A user who is answered as one before has no unclear pair
+// either.
 fn judge_rows(
     closure: &[u64],
     heads: &[u64],
@@ -55,11 +57,13 @@ fn judge_rows(
         → ((f : ℕ) → isIn files f ≡ atom (pic .boxes) (pic .rows) file f)
         → r ≡ verdictOf (unclearFault pic mode)) ⌝ }
 {
-    let mut last = no_arrows(files);
+    let mut notes = notes_room();
     for i in 0..users.len() {
+        if alike(closure, heads, users, i, &mut notes) < i {
+            continue;
+        }
         let u = wide(users[i]);
-        last = next_row(closure, heads, arrows, own, u, last);
-        let row = last.row;
+        let row = sort_row(closure, heads, arrows, own, u, files);
         let unclear = row.unclear;
         if !is_empty(unclear) {
             return Verdict::refused(Refusal::UNCLEAR_PAIR, wide(mode), u, lowest(unclear));

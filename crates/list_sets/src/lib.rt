@@ -19,15 +19,18 @@ use base::wide;
 use boxsets::Set;
 use boxsets::is_empty;
 use boxsets::lowest;
+use boxsets::nothing;
 use boxsets::shared;
-use kept_rows::next_row;
-use kept_rows::no_arrows;
 use mode_sets::heads_room;
 use mode_sets::take_mode;
 use set_tables::put_set;
 use set_tables::set_at;
 use tables::Refusal;
 use tables::Verdict;
+use user_kinds::alike;
+use user_kinds::notes_room;
+use user_rows::Row;
+use user_rows::sort_row;
 
 // What is asked: the mode, the atomic files, and how many pairs there are.
 pub struct Asked {
@@ -52,7 +55,7 @@ pub fn sets_room() -> [u64; TABLE_WORDS]
     [0u64; TABLE_WORDS]
 }
 
-// Check 12, and the granted files of each user.
+// Check 12, and the granted files of each user. A user who is answered as one before has the same ones, and no unclear pair either.
 fn sort_rows(
     closure: &[u64],
     heads: &[u64],
@@ -68,11 +71,17 @@ fn sort_rows(
         → Moded pic (asked .mode) (now (heads .entry)) (now (arrows .entry)) (now (own .entry))
         → Check12 pic (asked .mode) r (now (granted .exit))) ⌝ }
 {
-    let mut last = no_arrows(asked.files);
+    let mut notes = notes_room();
     for i in 0..users.len() {
         let u = wide(users[i]);
-        last = next_row(closure, heads, arrows, own, u, last);
-        let row = last.row;
+        let j = alike(closure, heads, users, i, &mut notes);
+        let mut row = Row {
+            granted: set_at(granted, wide(users[j])),
+            unclear: nothing(),
+        };
+        if j == i {
+            row = sort_row(closure, heads, arrows, own, u, asked.files);
+        }
         let unclear = row.unclear;
         if !is_empty(unclear) {
             return Verdict::refused(Refusal::UNCLEAR_PAIR, wide(asked.mode), u, lowest(unclear));

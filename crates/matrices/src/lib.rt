@@ -14,16 +14,18 @@ use atoms::atoms_of;
 use atoms::box_room;
 use base::wide;
 use boxsets::set_of;
+use cells::copy_row;
 use cells::emit_row;
-use kept_rows::next_numbers;
-use kept_rows::no_arrows;
 use mode_sets::arrow_room;
 use mode_sets::heads_room;
 use mode_sets::take_mode;
 use tables::BoxRow;
+use user_kinds::alike;
+use user_kinds::notes_room;
+use user_rows::answer_row;
 use user_rows::row_room;
 
-// Writes the matrix of a mode for the atomic users and files.
+// Writes the matrix of a mode for the atomic users and files. The row of a user who is answered as one before is that one's.
 fn fill_matrix(
     closure: &[u64],
     arrows: &[u16],
@@ -45,12 +47,22 @@ fn fill_matrix(
     let mut heads = heads_room();
     let count = take_mode(arrows, mode, &mut own, &mut heads);
     let asked = set_of(files);
-    let mut found = row_room();
-    let mut last = no_arrows(asked);
+    let mut notes = notes_room();
     for i in 0..users.len() {
+        let j = alike(closure, &heads, users, i, &mut notes);
+        if j < i {
+            copy_row(
+                j * files.len(),
+                i * files.len(),
+                files.len(),
+                bytes,
+                numbers,
+            );
+            continue;
+        }
         let u = wide(users[i]);
-        last = next_numbers(closure, &heads, arrows, &own[..count], u, last, &mut found);
-        let row = last.row;
+        let mut found = row_room();
+        let row = answer_row(closure, &heads, arrows, &own[..count], u, asked, &mut found);
         emit_row(files, row, &found, i * files.len(), bytes, numbers);
     }
 }

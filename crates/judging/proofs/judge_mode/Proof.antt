@@ -3,7 +3,7 @@ use mathlib.Core.Path.{sym, ap, _∙_}
 use borrow.Author.Needs.{needs}
 use borrow.Author.Tests.{not-true}
 use Rattle.tables.specs.Refusals.{verdictOf}
-use Rattle.kept_rows.proofs.TakenLaws.{Taken, taken}
+use Rattle.user_kinds.proofs.TakenLaws.{Taken, taken}
 use Rattle.judging.proofs.SignLaws.{one-sign-clear}
 use Rattle.judging.proofs.judge_mode.Statement.{statement}
 use Rattle.judging.proofs.judge_mode.Tie as tie

@@ -3,8 +3,8 @@ use mathlib.Core.Path.{refl}
 use borrow.Author.Needs.{needs}
 use Rattle.tables.specs.Rows.{picture, user}
 use Rattle.mode_sets.proofs.CallerLaws.{small-arrows}
-use Rattle.kept_rows.proofs.TakenLaws.{room}
-use Rattle.kept_rows.proofs.AtomLaws.{Listed, listed}
+use Rattle.user_kinds.proofs.TakenLaws.{room}
+use Rattle.user_kinds.proofs.AtomLaws.{Listed, listed}
 use Rattle.judging.proofs.judge_picture.Statement.{statement}
 use Rattle.judging.proofs.judge_picture.Tie as tie
 

@@ -1,6 +1,6 @@
 -- `list_sets::sort_mode` meets its contract: the mode's arrows, and the rows. Assumes nothing.
 use borrow.Author.Needs.{needs}
-use Rattle.kept_rows.proofs.TakenLaws.{Taken, taken-in}
+use Rattle.user_kinds.proofs.TakenLaws.{Taken, taken-in}
 use Rattle.list_sets.proofs.sort_mode.Statement.{statement}
 use Rattle.list_sets.proofs.sort_mode.Tie as tie
 

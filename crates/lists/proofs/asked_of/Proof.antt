@@ -7,7 +7,7 @@ use lib.ListN.{length}
 use Rattle.tables.specs.Rows.{user, file}
 use Rattle.tables.specs.Atoms.{atoms}
 use Rattle.tables.proofs.AtomPlaces.{pairCount-is, few-pairs}
-use Rattle.kept_rows.proofs.AtomLaws.{Listed, listed, among-atoms}
+use Rattle.user_kinds.proofs.AtomLaws.{Listed, listed, among-atoms}
 use Rattle.lists.proofs.asked_of.Statement.{statement}
 use Rattle.lists.proofs.asked_of.Tie as tie
 

@@ -3,7 +3,7 @@ use mathlib.Core.Path.{refl}
 use borrow.Author.Needs.{needs}
 use Rattle.tables.specs.Rows.{picture, user}
 use Rattle.mode_sets.proofs.CallerLaws.{small-arrows}
-use Rattle.kept_rows.proofs.AtomLaws.{Listed, listed}
+use Rattle.user_kinds.proofs.AtomLaws.{Listed, listed}
 use Rattle.lists.proofs.write_list.Statement.{statement}
 use Rattle.lists.proofs.write_list.Tie as tie
 

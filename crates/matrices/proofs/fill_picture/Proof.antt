@@ -4,8 +4,8 @@ use borrow.Author.Needs.{needs}
 use Rattle.tables.specs.Rows.{picture, user, file}
 use Rattle.tables.proofs.AtomPlaces.{pairCount-is}
 use Rattle.mode_sets.proofs.CallerLaws.{small-arrows}
-use Rattle.kept_rows.proofs.TakenLaws.{room}
-use Rattle.kept_rows.proofs.AtomLaws.{Listed, listed}
+use Rattle.user_kinds.proofs.TakenLaws.{room}
+use Rattle.user_kinds.proofs.AtomLaws.{Listed, listed}
 use Rattle.matrices.proofs.fill_picture.Statement.{statement}
 use Rattle.matrices.proofs.fill_picture.Tie as tie
 

@@ -4,7 +4,7 @@ use native.Mathlib.Omega.{arith}
 use borrow.Author.Needs.{needs}
 use lib.Dec.{T, eqb-refl}
 use Rattle.boxsets.specs.Sets.{isIn}
-use Rattle.kept_rows.proofs.TakenLaws.{Taken, taken}
+use Rattle.user_kinds.proofs.TakenLaws.{Taken, taken}
 use Rattle.answers.proofs.pair.answer_pair.Statement.{statement}
 use Rattle.answers.proofs.pair.answer_pair.Tie as tie
 

@@ -1,7 +1,7 @@
 -- `judging::atom_sets::atom_set` meets its contract: the numbers of the written part. Assumes nothing.
 use mathlib.Core.Path.{_∙_}
 use borrow.Author.Needs.{needs}
-use Rattle.kept_rows.proofs.AtomLaws.{Listed, listed, among-atoms}
+use Rattle.user_kinds.proofs.AtomLaws.{Listed, listed, among-atoms}
 use Rattle.judging.proofs.atom_sets.atom_set.Statement.{statement}
 use Rattle.judging.proofs.atom_sets.atom_set.Tie as tie
 

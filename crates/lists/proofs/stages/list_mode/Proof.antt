@@ -8,7 +8,7 @@ use Rattle.base.specs.Buffers.{written, zeros}
 use Rattle.tables.proofs.Verdicts.{passed, refused}
 use Rattle.meaning.specs.Pairs.{unclearFault}
 use Rattle.mode_sets.specs.Mode.{ownArrows}
-use Rattle.kept_rows.proofs.TakenLaws.{room}
+use Rattle.user_kinds.proofs.TakenLaws.{room}
 use Rattle.list_meaning.proofs.CallLaws.{listing-refused, listing-done}
 use Rattle.lists.proofs.OwnPart.{OwnPart, own-part}
 use Rattle.lists.proofs.stages.list_mode.Statement.{statement}

@@ -16,10 +16,12 @@ use Rattle.boxsets.proofs.LowLaws.{low-least}
 use Rattle.boxsets.proofs.WalkLaws.{empty-none, some-low}
 use Rattle.meaning.specs.Meaning.{answer, isUnclear}
 use Rattle.meaning.specs.Pairs.{users, unclearFault}
+use Rattle.meaning.specs.declared.Entry.{Entry}
 use Rattle.meaning.proofs.MatrixLaws.{unclear-first}
 use Rattle.meaning.proofs.RowPairs.{RowsClear, rows-more, rows-found, rows-end}
 use Rattle.user_rows.specs.Steps.{Sorts}
 use Rattle.user_rows.specs.declared.Row.{Row}
+use Rattle.user_kinds.specs.Steps.{Alike}
 
 module _ (pic : Picture) (m : ℕ) where
   -- the pair is unclear
@@ -50,6 +52,11 @@ module _ (pic : Picture) (m : ℕ) where
         (sym (ap verdictOf (rows-found pic unclear (unclearPair m) i l before (low (row .unclear)) (both .0) (both .1)
         (λ g b a t. low-least (row .unclear) g b
         (subst T (sym (found-in g)) (T-and (atom (pic .boxes) (pic .rows) file g) (unclear (getD (users pic) i 0) g) a t))))))
+
+  -- a user before has the same answers
+  pub clear-alike : (i j : ℕ) → j < i → Alike pic m (getD (users pic) j 0) (getD (users pic) i 0) → Clear i → Clear (i + 1)
+  clear-alike i j l same before =
+      rows-more pic unclear i before (λ g a t. before j l g a (subst (λ (e : Entry). T (isUnclear e)) (sym (same g)) t))
 
   pub clear-end : Clear (length (users pic)) → unclearFault pic m ≡ none
   clear-end c = unclear-first pic m ∙ rows-end pic unclear (unclearPair m) c

@@ -12,7 +12,7 @@ use Rattle.tables.specs.Atoms.{atom, atoms}
 use Rattle.tables.proofs.AtomPlaces.{atom-there, atoms-found, atoms-has, atoms-most}
 use Rattle.boxsets.specs.Sets.{among, Boxes}
 use Rattle.boxsets.proofs.AmongLaws.{among-is, among-found}
-use Rattle.kept_rows.proofs.TakenLaws.{room}
+use Rattle.user_kinds.proofs.TakenLaws.{room}
 
 -- the first `count` places of `out` are lent on: they hold the atomic boxes
 pub record Listed (boxes rows : List ℕ) (side count : ℕ) (out : List ℕ) : Type 0 where

@@ -1,33 +1,29 @@
--- Users around whom the same tails are have the same row. Assumes nothing.
+-- Users around whom the same tails are have the same answers, and where they are noted. Assumes nothing.
 use mathlib.Core.Path.{_≡_, refl, sym, ap, ap₂, _∙_}
 use mathlib.Core.Bool.{Bool, true, false, _&&_, _||_}
 use mathlib.Core.List.{List}
 use Prim.Native.Nat.{ℕ, zero, suc, _+_, _<_, _≤_}
+use native.Mathlib.Decide.{ℕ-discrete}
 use native.Mathlib.Omega.{arith}
 use lib.Dec.{T}
-use lib.ListN.{length, getD, replicate, length-replicate}
-use Rattle.base.specs.Buffers.{written}
-use Rattle.base.proofs.BufferLaws.{written-all}
+use lib.ListN.{length, getD, set, length-set}
+use lib.Seq.{getD-set-same, getD-set-other}
+use Rattle.base.specs.Buffers.{zeros}
+use Rattle.base.proofs.BufferLaws.{zeros-length, zeros-at}
 use Rattle.base.proofs.Tests.{T-true, T-or₁, T-or₂}
 use Rattle.tables.specs.Rows.{Picture, arrowCount, arrowAt}
 use Rattle.tables.specs.Steps.{SoundArrows}
 use Rattle.containment.specs.Contains.{around}
-use Rattle.meaning.specs.Meaning.{positive, negative, hasMode, answer, isGranted, isUnclear, numberOf}
-use Rattle.meaning.specs.declared.Entry.{Entry}
-use Rattle.meaning.proofs.SameUsers.{SameAround, same-user, not-granted, not-unclear, no-number}
+use Rattle.meaning.specs.Meaning.{positive, negative, hasMode, answer}
+use Rattle.meaning.proofs.SameUsers.{SameAround, same-user}
 use Rattle.boxsets.specs.Sets.{isIn, setAt}
 use Rattle.boxsets.specs.declared.Set.{Set}
 use Rattle.boxsets.proofs.TableLaws.{has-in}
-use Rattle.boxsets.proofs.WalkLaws.{in-below}
 use Rattle.mode_sets.specs.Mode.{tailsBelow}
 use Rattle.mode_sets.specs.Steps.{ModeSets}
 use Rattle.mode_sets.proofs.TailLaws.{tail-taken}
 use Rattle.certificates.specs.Steps.{Drawn}
-use Rattle.user_rows.specs.Steps.{Sorts, blankRow}
-use Rattle.user_rows.specs.declared.Row.{Row}
-use Rattle.user_rows.proofs.BlankLaws.{blank-is, blank-at}
-use Rattle.kept_rows.specs.Steps.{TailsNear, Keeps, KeepsNumbers}
-use Rattle.kept_rows.specs.declared.Kept.{Kept}
+use Rattle.user_kinds.specs.Steps.{TailsNear, Alike, Noted, noteCount}
 
 and-yes : (a b : Bool) → b ≡ true → (a && b) ≡ a
 and-yes true b e = e
@@ -66,46 +62,8 @@ module _ (pic : Picture) (m : ℕ) (sound : SoundArrows (pic .boxes) (pic .arrow
     same-around : SameAround pic m u v
     same-around k l t = sym (around-by u tails one k l t) ∙ around-by v tails other k l t
 
-    same-sorts : (asked : ℕ → Bool) (row : Row) → Sorts pic m u asked row → Sorts pic m v asked row
-    same-sorts asked row s = record {
-      granted-are = λ f. s .granted-are f ∙ ap (λ (e : Entry). asked f && isGranted e) (same-user pic m u v same-around f);
-      unclear-are = λ f. s .unclear-are f ∙ ap (λ (e : Entry). asked f && isUnclear e) (same-user pic m u v same-around f);
-    }
-
-    same-number : (f : ℕ) → numberOf (answer pic m u f) ≡ numberOf (answer pic m v f)
-    same-number f = ap numberOf (same-user pic m u v same-around f)
-
-  -- the row of one user is that of all around whom the tails are the same
-  module _ (asked tails : Set) (row : Row) (u : ℕ) (near : TailsNear pic m u tails) where
-    abbrev kept : Kept
-    kept = record { asked = asked; tails = tails; row = row }
-
-    pub keeps : Sorts pic m u (isIn asked) row → Keeps pic m kept
-    keeps s v l other = same-sorts tails u v near other (isIn asked) row s
-
-    pub keeps-numbers : (numbers : List ℕ) → ((f : ℕ) → T (isIn asked f) → getD numbers f 0 ≡ numberOf (answer pic m u f))
-        → KeepsNumbers pic m kept numbers
-    keeps-numbers numbers says v l other f t = says f t ∙ same-number tails u v near other f
-
-  -- around whom there is no tail, has nothing that is granted or unclear
-  module _ (asked tails granted unclear : Set) (no-tail : (t : ℕ) → isIn tails t ≡ false) where
-    no-around : (u : ℕ) → TailsNear pic m u tails → (k : ℕ) → k < arrowCount (pic .arrows) → T (hasMode (pic .arrows) m k)
-        → around (pic .rows) (arrowAt (pic .arrows) k .tail) u ≡ false
-    no-around u near k l t = sym (around-by u tails near k l t) ∙ no-tail (arrowAt (pic .arrows) k .tail)
-
-    no-and : (a b : Bool) → b ≡ false → false ≡ (a && b)
-    no-and true b e = sym e
-    no-and false b e = refl
-
-    pub keeps-none : ((f : ℕ) → isIn granted f ≡ false) → ((f : ℕ) → isIn unclear f ≡ false)
-        → Keeps pic m (record { asked = asked; tails = tails; row = record { granted = granted; unclear = unclear } })
-    keeps-none g n u l near = record {
-      granted-are = λ f. g f ∙ no-and (isIn asked f) _ (not-granted pic m u (no-around u near) f);
-      unclear-are = λ f. n f ∙ no-and (isIn asked f) _ (not-unclear pic m u (no-around u near) f);
-    }
-
-    pub keeps-blank : KeepsNumbers pic m (record { asked = asked; tails = tails; row = record { granted = granted; unclear = unclear } }) blankRow
-    keeps-blank u l near f t = blank-at f (in-below asked f t) ∙ sym (no-number pic m u (no-around u near) f)
+    pub alike-by : (x y : ℕ) → u ≡ x → v ≡ y → Alike pic m x y
+    alike-by x y e i f = ap (λ (z : ℕ). answer pic m z f) (sym e) ∙ same-user pic m u v same-around f ∙ ap (λ (z : ℕ). answer pic m z f) i
 
 -- what `tails_near` gives
 pub near-made : (pic : Picture) (m : ℕ) (closure heads : List ℕ) → Drawn pic closure → ModeSets (pic .arrows) m heads
@@ -123,6 +81,17 @@ near-made pic m closure heads d sets u there up first second both r e₀ e₁ e�
       (ap (λ (x : Set). isIn x t) e₂ ∙ sym (has-in heads 513 t) ∙ sets .tails-are positive t (omega arith)));
 }
 
--- the numbers are blank after they were filled
-pub blank-filled : (old new : List ℕ) → length old ≡ 256 → new ≡ written (replicate 256 65535) old → new ≡ blankRow
-blank-filled old new e w = w ∙ written-all (replicate 256 65535) old (length-replicate {A = ℕ} 256 65535 ∙ sym e) ∙ blank-is
+-- ---- notes
+
+pub noted-none : (notes : List ℕ) → notes ≡ zeros noteCount → Noted 0 notes
+noted-none notes e = record {
+  len = ap length e ∙ zeros-length 107;
+  before = λ k l. let z : getD notes k 0 ≡ 0 = rw e (zeros-at 107 k l) in omega arith;
+}
+
+pub noted-more : (i k v : ℕ) (notes : List ℕ) → k < noteCount → v ≤ i + 1 → Noted i notes → Noted (i + 1) (set notes k v)
+noted-more i k v notes there most n = record { len = length-set notes k v ∙ n .len; before = λ j l. go j l (ℕ-discrete j k) }
+  where
+    go : (j : ℕ) → j < noteCount → Dec (j ≡ k) → getD (set notes k v) j 0 ≤ i + 1
+    go j l (yes e) = rw (e, getD-set-same notes k v 0 (omega (arith, n .len))) most
+    go j l (no o) = rw (getD-set-other notes k j v 0 o) (omega (arith, n .before j l))

@@ -1,5 +1,5 @@
 -- Laws for the proofs of this crate and of the crates above it.
-pub mod KeptLaws
+pub mod AlikeLaws
 pub mod TakenLaws
 pub mod AtomLaws
 pub mod RowLaws

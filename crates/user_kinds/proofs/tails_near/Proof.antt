@@ -1,8 +1,8 @@
--- `kept_rows::tails_near` meets its contract. Assumes nothing.
+-- `user_kinds::tails_near` meets its contract. Assumes nothing.
 use borrow.Author.Needs.{needs}
-use Rattle.kept_rows.proofs.KeptLaws.{near-made}
-use Rattle.kept_rows.proofs.tails_near.Statement.{statement}
-use Rattle.kept_rows.proofs.tails_near.Tie as tie
+use Rattle.user_kinds.proofs.AlikeLaws.{near-made}
+use Rattle.user_kinds.proofs.tails_near.Statement.{statement}
+use Rattle.user_kinds.proofs.tails_near.Tie as tie
 
 returns : tie.Need-returns
 returns c =
