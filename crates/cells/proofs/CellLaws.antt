@@ -40,6 +40,21 @@ module _ (g : ℕ → ℕ) (at : ℕ) (old : List ℕ) where
       go k (inl i) = rw i (getD-set-same new (at + j) v 0 (omega (arith, m .len)) ∙ e)
       go k (inr l) = getD-set-other new (at + j) (at + k) v 0 (λ i. omega arith) ∙ m .hit k l
 
+-- ---- a row that is copied from places before it
+
+-- the first j places are
+abbrev pub Copied : (from at : ℕ) (old : List ℕ) (j : ℕ) (new : List ℕ) → Type 0
+Copied from at old j new = Emitted (λ k. getD old (from + k) 0) at j old new
+
+module _ (from at : ℕ) (old : List ℕ) where
+  pub copied-none : Copied from at old 0 old
+  copied-none = emitted-none (λ k. getD old (from + k) 0) at old
+
+  pub copied-more : (j : ℕ) (new : List ℕ) → from + j < at → at + j < length old → Copied from at old j new
+      → Copied from at old (j + 1) (set new (at + j) (getD new (from + j) 0))
+  copied-more j new before room m =
+      emitted-more (λ k. getD old (from + k) 0) at old j (getD new (from + j) 0) new room (m .miss (from + j) (inl before)) m
+
 -- ---- one row after another: h says what stands at each place
 
 pub emitted-written : (g h : ℕ → ℕ) (at n : ℕ) (old mid new : List ℕ) → at + n ≤ length old → mid ≡ written (build h at) old
@@ -70,9 +85,9 @@ emitted-written g h at n old mid new room e m same =
         ∙ sym (built (at + n) p l)
     go p (no a) (no b) = m .miss p (inr (omega arith)) ∙ rw e (rest at p (omega arith)) ∙ sym (rest (at + n) p (omega arith))
 
--- a row that is copied from a row before
+-- where the row is copied
 pub copied-written : (h : ℕ → ℕ) (from at n : ℕ) (old mid new : List ℕ) → from + n ≤ at → at + n ≤ length old → mid ≡ written (build h at) old
-    → Emitted (λ j. getD mid (from + j) 0) at n mid new → ((j : ℕ) → j < n → h (from + j) ≡ h (at + j)) → new ≡ written (build h (at + n)) old
+    → Copied from at mid n new → ((j : ℕ) → j < n → h (from + j) ≡ h (at + j)) → new ≡ written (build h (at + n)) old
 copied-written h from at n old mid new before room e m same =
     emitted-written (λ j. getD mid (from + j) 0) h at n old mid new room e m
     (λ j l.

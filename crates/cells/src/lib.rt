@@ -47,14 +47,32 @@ pub fn emit_row(
     }
 }
 
+// Copies so many bytes from place `from` on to places behind them. One table at a time, so that the compiler copies many at once.
+fn copy_bytes(from: usize, at: usize, count: usize, bytes: &mut [u8])
+    requires { ⌜ (from + count ≤ at) × (at + count ≤ length (now bytes)) ⌝ }
+    ensures { λ _. ⌜ Emitted (λ j. getD (now (bytes .entry)) (from + j) 0) at count (now (bytes .entry)) (now (bytes .exit)) ⌝ }
+{
+    for j in 0..count {
+        bytes[at + j] = bytes[from + j];
+    }
+}
+
+// The same for numbers.
+fn copy_numbers(from: usize, at: usize, count: usize, numbers: &mut [u16])
+    requires { ⌜ (from + count ≤ at) × (at + count ≤ length (now numbers)) ⌝ }
+    ensures { λ _. ⌜ Emitted (λ j. getD (now (numbers .entry)) (from + j) 0) at count (now (numbers .entry)) (now (numbers .exit)) ⌝ }
+{
+    for j in 0..count {
+        numbers[at + j] = numbers[from + j];
+    }
+}
+
 // Copies the cells of a row, from place `from` on, to the places of a later one.
 pub fn copy_row(from: usize, at: usize, count: usize, bytes: &mut [u8], numbers: &mut [u16])
     requires { ⌜ (from + count ≤ at) × (at + count ≤ length (now bytes)) × (at + count ≤ length (now numbers)) ⌝ }
     ensures { λ _. ⌜ Emitted (λ j. getD (now (bytes .entry)) (from + j) 0) at count (now (bytes .entry)) (now (bytes .exit)) ⌝ }
     ensures { λ _. ⌜ Emitted (λ j. getD (now (numbers .entry)) (from + j) 0) at count (now (numbers .entry)) (now (numbers .exit)) ⌝ }
 {
-    for j in 0..count {
-        bytes[at + j] = bytes[from + j];
-        numbers[at + j] = numbers[from + j];
-    }
+    copy_bytes(from, at, count, bytes);
+    copy_numbers(from, at, count, numbers);
 }
