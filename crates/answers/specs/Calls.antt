@@ -5,7 +5,6 @@ use mathlib.Core.Option.{Option, none, some}
 use Prim.Native.Nat.{ℕ}
 use lib.ListN.{length}
 use Rattle.base.specs.Search.{orElse, given}
-use Rattle.base.specs.Buffers.{written}
 use Rattle.tables.specs.Rows.{Picture, user, file}
 use Rattle.tables.specs.Atoms.{atom, pairCount}
 use Rattle.tables.specs.Refusals.{notAtomic, unlessRefused}
@@ -54,7 +53,7 @@ module _ (pic : Picture) (s : List ℕ) where
 
   -- its buffers at the end
   unfoldable pub bytesAfter : (mode : ℕ) (bytes numbers : List ℕ) → List ℕ
-  bytesAfter mode bytes numbers = unlessRefused (matrixFault mode bytes numbers) (written (matrixBytes pic mode) bytes) bytes
+  bytesAfter mode bytes numbers = unlessRefused (matrixFault mode bytes numbers) (matrixBytes pic mode) bytes
 
   unfoldable pub numbersAfter : (mode : ℕ) (bytes numbers : List ℕ) → List ℕ
-  numbersAfter mode bytes numbers = unlessRefused (matrixFault mode bytes numbers) (written (matrixNumbers pic mode) numbers) numbers
+  numbersAfter mode bytes numbers = unlessRefused (matrixFault mode bytes numbers) (matrixNumbers pic mode) numbers

@@ -5,7 +5,7 @@ use Prim.Native.Nat.{ℕ}
 use lib.ListN.{length}
 use Rattle.tables.specs.Rows.{Picture}
 use Rattle.base.specs.Search.{orElse}
-use Rattle.base.specs.Buffers.{written, zeros}
+use Rattle.base.specs.Buffers.{zeros}
 use Rattle.tables.specs.Refusals.{unlessRefused}
 use Rattle.tables.specs.Faults.{tableFault, modeFault, roomFault}
 use Rattle.tables.specs.declared.Refusal.{Refusal}
@@ -34,7 +34,7 @@ module _ (pic : Picture) (m : ℕ) where
   listAnswer fault = listedOf pic m (orElse fault (orderFault pic m))
 
   unfoldable pub listAfter : (fault : Option Refusal) (out : List ℕ) → List ℕ
-  listAfter fault out = unlessRefused fault (written (placesOf pic m (orderFault pic m)) out) out
+  listAfter fault out = unlessRefused fault (placesOf pic m (orderFault pic m)) out
 
   unfoldable pub workAfter : (fault : Option Refusal) (work : List ℕ) → List ℕ
-  workAfter fault work = unlessRefused fault (written (zeros (pairs pic)) work) work
+  workAfter fault work = unlessRefused fault (zeros (pairs pic)) work
