@@ -10,7 +10,7 @@ use Rattle.base.specs.Steps.{bit}
 use Rattle.base.specs.Buffers.{build}
 use Rattle.tables.specs.Rows.{Picture}
 use Rattle.tables.specs.Refusals.{unlessRefused}
-use Rattle.tables.specs.Faults.{tableFault, roomFault}
+use Rattle.tables.specs.Faults.{tableFault, modeFault, roomFault}
 use Rattle.tables.specs.declared.Refusal.{Refusal}
 use Rattle.containment.specs.Contains.{Row, Chain, direct, contains, loopFault}
 
@@ -40,6 +40,10 @@ scratchAfter early boxes rows s = unlessRefused early (scratchBytes (length boxe
 unfoldable pub earlyFault : (pic : Picture) (s : List ℕ) → Option Refusal
 earlyFault pic s = orElse (tableFault pic) (scratchFault (length (pic .boxes)) s)
 
--- and 10
+-- checks 1 to 9 of a call for a mode, up to the scratch
+unfoldable pub modeEarly : (pic : Picture) (s : List ℕ) (mode : ℕ) → Option Refusal
+modeEarly pic s mode = orElse (tableFault pic) (orElse (modeFault mode) (scratchFault (length (pic .boxes)) s))
+
+-- checks 1 to 7 of a picture, 9 for the scratch, 10
 unfoldable pub pictureFault : (pic : Picture) (s : List ℕ) → Option Refusal
 pictureFault pic s = orElse (earlyFault pic s) (loopFault (pic .boxes) (pic .rows))
