@@ -28,7 +28,7 @@ use Rattle.meaning.specs.declared.Entry.the-variants.{Granted, Denied, Default,
 use Rattle.answers.specs.declared.EntryReply.{EntryReply}
 use Rattle.answers.specs.declared.EntryReply.the-variants.{Answered, Refused}
 use Rattle.list_meaning.specs.Order.{passes, anyOf, allOf, firstOf, distinct}
-use Rattle.list_meaning.specs.Lists.{gives, ofMode, blanks, listRoom}
+use Rattle.list_meaning.specs.Lists.{gives, ofMode, listRoom}
 use Rattle.list_meaning.specs.Order.{meets, reached, granted, right, honest, coversAll, qualifies}
 use Rattle.list_meaning.specs.Greedy.{followed, new, fits, addable, next, listTo, greedy, leftBy, orderFault, listedOf, placesOf}
 use Rattle.list_meaning.specs.Calls.{listEarly, listBefore, listAnswer, listAfter}
@@ -249,7 +249,7 @@ unfolding compute table groups picture-A picture-B picture-C picture-D picture-E
     userAt fileAt firstPair answerAt matrixBytes matrixNumbers unclearFault anyUnclear
     askedFault entryFault judgeFault replyOf
     anyOf allOf firstOf passes distinct gives ofMode meets reached granted right honest coversAll qualifies
-    new fits addable followed next listTo greedy leftBy orderFault blanks listEarly listBefore listedOf placesOf listAnswer listAfter written
+    new fits addable followed next listTo greedy leftBy orderFault listEarly listBefore listedOf placesOf listAnswer listAfter written
 both-right = (refl, refl)
 
 pub table-right : map compute table ≡ table

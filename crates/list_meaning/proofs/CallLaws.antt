@@ -9,7 +9,7 @@ use Rattle.base.specs.Search.{orElse}
 use Rattle.base.specs.Buffers.{written, zeros}
 use Rattle.base.proofs.Options.{past, stop, orElse-assoc}
 use Rattle.base.proofs.BufferLaws.{written-over}
-use Rattle.tables.specs.Rows.{Picture}
+use Rattle.tables.specs.Rows.{Picture, noArrow}
 use Rattle.tables.specs.Refusals.{verdictOf}
 use Rattle.tables.specs.Steps.{either}
 use Rattle.tables.specs.Faults.{tableFault, modeFault, roomFault}
@@ -24,7 +24,7 @@ use Rattle.meaning.specs.Pairs.{pairs, unclearFault}
 use Rattle.list_meaning.specs.Greedy.{greedy, orderFault, listedOf, placesOf}
 use Rattle.list_meaning.specs.Calls.{listEarly, listBefore, listAnswer, listAfter, workAfter}
 use Rattle.list_meaning.specs.Steps.{Listing}
-use Rattle.list_meaning.specs.Lists.{blanks, listRoom}
+use Rattle.list_meaning.specs.Lists.{listRoom}
 use Rattle.list_meaning.specs.declared.Listed.{Listed}
 use Rattle.list_meaning.specs.declared.Listed.the-variants.{Written, Refused}
 use Rattle.list_meaning.proofs.GreedyLaws.{mode-room}
@@ -41,7 +41,7 @@ module _ (pic : Picture) (m : ℕ) where
   answered-list e out = (rw (past none _ refl, e), rw e)
 
   pub answered-none : (x : Refusal) → orderFault pic m ≡ some x → (out : List ℕ)
-      → Answered (Refused x) out (written (blanks (listRoom pic m)) out)
+      → Answered (Refused x) out (written (replicate (listRoom pic m) noArrow) out)
   unfolding listAnswer listedOf listAfter placesOf
   answered-none x e out = (rw (past none _ refl, e), rw e)
 
@@ -90,16 +90,16 @@ module _ (pic : Picture) (m : ℕ) (count : ℕ) (out old : List ℕ) (counted :
 
   -- a pair is left: 65,535 in each needed place
   pub finish-refused : (x : Refusal) → orderFault pic m ≡ some x → (need : ℕ) → need ≡ listRoom pic m → need ≤ length old
-      → Answered pic m (Refused x) old (written (replicate need 65535) out)
-  unfolding blanks
+      → Answered pic m (Refused x) old (written (replicate need noArrow) out)
   finish-refused x e need is room =
-      let n : length (blanks need) ≡ need = length-replicate {A = ℕ} need 65535 in
+      let blanks : List ℕ = replicate need noArrow in
+      let n : length blanks ≡ need = length-replicate {A = ℕ} need noArrow in
       let short = mode-room pic m (greedy pic m) (greedy-grown pic m) in
       let a = answered-none pic m x e old in (
         a .0,
-        ap (written (blanks need)) listed
-            ∙ written-over (blanks need) (greedy pic m) old (omega (arith, short)) (omega arith)
-            ∙ ap (λ (k : ℕ). written (blanks k) old) is
+        ap (written blanks) listed
+            ∙ written-over blanks (greedy pic m) old (omega (arith, short)) (omega arith)
+            ∙ ap (λ (k : ℕ). written (replicate k noArrow) old) is
             ∙ a .1,
       )
 
