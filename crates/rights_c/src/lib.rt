@@ -3,9 +3,9 @@
 ghost use mathlib.Core.Path.{_≡_};
 ghost use Rattle.tables.specs.Rows.{picture};
 ghost use Rattle.tables.specs.Refusals.{verdictOf};
-ghost use Rattle.scratch.specs.Scratch.{scratchAfter, earlyFault};
+ghost use Rattle.scratch.specs.Scratch.{scratchAfter, earlyFault, modeEarly};
 ghost use Rattle.meaning.specs.Meaning.{answer};
-ghost use Rattle.answers.specs.Calls.{replyOf, entryEarly, entryFault, judgeFault, matrixEarly, matrixFault, bytesAfter, numbersAfter};
+ghost use Rattle.answers.specs.Calls.{replyOf, entryFault, judgeFault, matrixEarly, matrixFault, bytesAfter, numbersAfter};
 ghost use Rattle.list_meaning.specs.Calls.{listEarly, listBefore, listAnswer, listAfter, workAfter};
 ghost use Rattle.headings.specs.Calls.{headingsOf, headingFault, usersAfter, filesAfter};
 ghost use Rattle.blocks.specs.Reads.{ReadDone};
@@ -161,7 +161,7 @@ pub extern "C" fn rights_entry(
     ensures { λ r. ⌜ (let pic = picture (now (boxes .entry)) (now (rows .entry)) (now (arrows .entry)) in
         r ≡ askedReply (replyOf (entryFault pic (now (scratch .entry)) mode user file) (answer pic mode user file))) ⌝ }
     ensures { λ _. ⌜ (let pic = picture (now (boxes .entry)) (now (rows .entry)) (now (arrows .entry)) in
-        now (scratch .exit) ≡ scratchAfter (entryEarly pic (now (scratch .entry)) mode) (now (boxes .entry)) (now (rows .entry))
+        now (scratch .exit) ≡ scratchAfter (modeEarly pic (now (scratch .entry)) mode) (now (boxes .entry)) (now (rows .entry))
         (now (scratch .entry))) ⌝ }
 {
     of_asked(answers::one_entry(boxes, rows, arrows, scratch, user, file, mode))
