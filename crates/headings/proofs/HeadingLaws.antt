@@ -4,6 +4,7 @@ use mathlib.Core.List.{List, []}
 use mathlib.Core.Option.{Option, none, some}
 use Prim.Native.Nat.{ℕ, _≤_}
 use lib.ListN.{length}
+use Rattle.base.specs.Search.{orElse}
 use Rattle.base.specs.Buffers.{written}
 use Rattle.tables.specs.Rows.{picture, user, file}
 use Rattle.tables.specs.Atoms.{atoms}
@@ -16,22 +17,25 @@ use Rattle.tables.specs.declared.Verdict.the-variants.{Passed, Refused as Stopp
 use Rattle.tables.proofs.TableLaws.{both-none, room-passed}
 use Rattle.tables.proofs.Verdicts.{passed, refused, either-verdict}
 use Rattle.base.proofs.Options.{past, stop}
-use Rattle.headings.specs.Calls.{headingsOf, headingRooms, headingFault, usersAfter, filesAfter}
+use Rattle.headings.specs.Calls.{headingsOf, headingFault, usersAfter, filesAfter}
 use Rattle.headings.specs.declared.Headings.{Headings}
 use Rattle.headings.specs.declared.Headings.the-variants.{Written, Refused}
+
+-- 9 for both buffers
+abbrev pub headingRooms : (boxes rows users files : List ℕ) → Option Refusal
+headingRooms boxes rows users files =
+    orElse (roomFault 11 (length users) (length (atoms boxes rows user))) (roomFault 12 (length files) (length (atoms boxes rows file)))
 
 module _ (boxes rows users files : List ℕ) where
   -- the verdict on both buffers, by those on each and the counts of atomic boxes
   pub rooms-is : {m n : ℕ} {u f r : Verdict} → m ≡ length (atoms boxes rows user) → n ≡ length (atoms boxes rows file)
       → u ≡ verdictOf (roomFault 11 (length users) m) → f ≡ verdictOf (roomFault 12 (length files) n) → r ≡ either u f
       → r ≡ verdictOf (headingRooms boxes rows users files)
-  unfolding headingRooms
   rooms-is em en eu ef er = er ∙ rw (eu, ef, em, en) (either-verdict _ _)
 
   -- where check 9 passes, the buffers suffice
   pub rooms-passed : verdictOf (headingRooms boxes rows users files) ≡ Passed
       → (length (atoms boxes rows user) ≤ length users) × (length (atoms boxes rows file) ≤ length files)
-  unfolding headingRooms
   rooms-passed e =
       let first = roomFault 11 (length users) (length (atoms boxes rows user)) in
       let last = roomFault 12 (length files) (length (atoms boxes rows file)) in
