@@ -17,13 +17,14 @@ use Rattle.base.proofs.SearchLaws.{given-false, first-zero}
 use Rattle.base.proofs.Options.{past}
 use Rattle.blocks.specs.Fnv.{fnvFold, fnv1a}
 use Rattle.blocks.specs.Blocks.{number16, headOf, byKind, capacity, recordSize, rowOf, countOf, joined, said, wrongCheck, wrongHead}
-use Rattle.blocks.specs.Blocks.{allZero, wrongFiller, blockFault}
+use Rattle.blocks.specs.Blocks.{wrongFiller, blockFault}
 use Rattle.blocks.specs.Files.{kindBefore, blocksFault}
 use Rattle.blocks.specs.Reads.{rowCounts, tablesFault}
-use Rattle.blocks.specs.Steps.{number32, tableIn, countsIn}
+use Rattle.blocks.specs.Steps.{number32, recordsEnd, allZero, tableIn, countsIn}
 use Rattle.blocks.specs.declared.Head.{Head}
 use Rattle.blocks.specs.declared.Counts.{Counts}
 use Rattle.blocks.proofs.Counting.{blocks-more}
+use Rattle.blocks.proofs.Filler.{filler-is}
 use Rattle.blocks.proofs.JoinedLaws.{joined-none}
 use Rattle.blocks.proofs.RowLaws.{box-row-is, containment-row-is, arrow-row-is}
 use Rattle.blocks.proofs.Made.{joined-same}
@@ -151,8 +152,8 @@ head-right before place kind count low high after fits =
 
 filler-right : (place kind count filler : ℕ) (block : List ℕ) → drop (8 + recordSize kind * count) (take 508 block) ≡ zeros filler
     → wrongFiller (headMade kind place count) block ≡ false
-unfolding wrongFiller
-filler-right place kind count filler block e = rw (e, ← zeros-is, zeros-zero)
+unfolding recordsEnd
+filler-right place kind count filler block e = rw (filler-is, e, ← zeros-is, zeros-zero)
 
 -- a block of a kind with a right head, a right check, and zero filler, after blocks of no higher kind
 pub block-passed : (before place kind count filler : ℕ) (block : List ℕ) → headOf block ≡ headMade kind place count

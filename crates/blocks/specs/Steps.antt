@@ -1,6 +1,8 @@
 -- What the inner functions of reading promise each other; what reading a file promises does not speak of it. Assumes nothing.
-use mathlib.Core.List.{List}
+use mathlib.Core.Bool.{Bool, true, _&&_}
+use mathlib.Core.List.{List, [], _∷_}
 use Prim.Native.Nat.{ℕ, _+_, _*_}
+use lib.Dec.{eqb}
 use lib.ListN.{getD}
 use Rattle.tables.specs.Rows.{picture}
 use Rattle.blocks.specs.Blocks.{number16, recordSize, rowOf, countOf, joined, said}
@@ -19,6 +21,11 @@ number32 block at = number16 block at + 65536 * number16 block (at + 2)
 -- the byte after the records
 unfoldable pub recordsEnd : (head : Head) → ℕ
 recordsEnd head = 8 + recordSize (head .kind) * head .count
+
+-- every byte is zero
+unfoldable pub allZero : (bytes : List ℕ) → Bool
+allZero [] = true
+allZero (x ∷ xs) = eqb x 0 && allZero xs
 
 -- record j of each kind, by the numbers of its row
 unfoldable pub boxRecord : (block : List ℕ) (j : ℕ) → BoxRecord
