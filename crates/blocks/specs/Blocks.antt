@@ -46,18 +46,14 @@ rowOf kind block j =
     (cond (eqb kind 2) (number16 block at ∷ number16 block (at + 2) ∷ [])
     (number16 block at ∷ number16 block (at + 2) ∷ getD block (at + 4) 0 ∷ getD block (at + 5) 0 ∷ []))
 
--- how many records of a kind a block has
-unfoldable pub countOf : (kind : ℕ) (head : Head) → ℕ
-countOf kind head = cond (eqb (head .kind) kind) (head .count) 0
-
 -- f 0, f 1, .., n lists one after the other
 unfoldable pub joined : (f : ℕ → List ℕ) (n : ℕ) → List ℕ
 joined f zero = []
 joined f (suc n) = joined f n ++ f n
 
--- what a block says of the table of a kind: the rows of its records, in order
+-- what a block says of the table of a kind: the rows of its records, in order, if it is of that kind, else nothing
 unfoldable pub said : (kind : ℕ) (block : List ℕ) → List ℕ
-said kind block = joined (rowOf kind block) (countOf kind (headOf block))
+said kind block = cond (eqb (headOf block .kind) kind) (joined (rowOf kind block) (headOf block .count)) []
 
 -- 15: the check in bytes 508 to 511 isn't that of bytes 0 to 507
 unfoldable pub wrongCheck : (block : List ℕ) → Bool

@@ -1,11 +1,11 @@
 -- What the inner functions of reading promise each other; what reading a file promises does not speak of it. Assumes nothing.
-use mathlib.Core.Bool.{Bool, true, _&&_}
+use mathlib.Core.Bool.{Bool, true, cond, _&&_}
 use mathlib.Core.List.{List, [], _∷_}
 use Prim.Native.Nat.{ℕ, _+_, _*_}
 use lib.Dec.{eqb}
 use lib.ListN.{getD}
 use Rattle.tables.specs.Rows.{picture}
-use Rattle.blocks.specs.Blocks.{number16, recordSize, rowOf, countOf, joined, said}
+use Rattle.blocks.specs.Blocks.{number16, recordSize, rowOf, joined, said}
 use Rattle.blocks.specs.Files.{pictureOf}
 use Rattle.blocks.specs.Reads.{rowCounts}
 use Rattle.blocks.specs.declared.Head.{Head}
@@ -21,6 +21,10 @@ number32 block at = number16 block at + 65536 * number16 block (at + 2)
 -- the byte after the records
 unfoldable pub recordsEnd : (head : Head) → ℕ
 recordsEnd head = 8 + recordSize (head .kind) * head .count
+
+-- how many records of a kind the block has
+unfoldable pub countOf : (kind : ℕ) (head : Head) → ℕ
+countOf kind head = cond (eqb (head .kind) kind) (head .count) 0
 
 -- every byte is zero
 unfoldable pub allZero : (bytes : List ℕ) → Bool
