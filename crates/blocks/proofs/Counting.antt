@@ -17,9 +17,9 @@ use Rattle.base.proofs.SearchLaws.{first-none, first-nothing, first-more, first
 use Rattle.base.proofs.BufferLaws.{written-run}
 use Rattle.tables.proofs.TableLaws.{both-none}
 use Rattle.blocks.specs.Blocks.{headOf, byKind, capacity, recordSize, rowOf, joined, said, wrongHead, blockFault}
-use Rattle.blocks.specs.Files.{kindBefore, blocksFault}
+use Rattle.blocks.specs.Files.{kindBefore}
 use Rattle.blocks.specs.Reads.{rowCounts}
-use Rattle.blocks.specs.Steps.{countOf, tableIn, countsIn, noCounts, countsWith}
+use Rattle.blocks.specs.Steps.{blocksFault, countOf, tableIn, countsIn, noCounts, countsWith}
 use Rattle.blocks.specs.declared.Head.{Head}
 use Rattle.blocks.specs.declared.Counts.{Counts}
 use Rattle.blocks.proofs.Placing.{joined-length, joined-most}

@@ -17,7 +17,7 @@ use Rattle.base.proofs.BufferLaws.{zeros-is}
 use Rattle.blocks.specs.Fnv.{fnv1a}
 use Rattle.blocks.specs.Blocks.{number16, headOf, capacity, recordSize, wrongCheck, wrongHead, wrongFiller, blockFault}
 use Rattle.blocks.specs.Files.{blockCount, blockAt, kindBefore, lengthFault, fileFault}
-use Rattle.blocks.specs.Steps.{number32, recordsEnd, allZero}
+use Rattle.blocks.specs.Steps.{number32, blocksFault, recordsEnd, allZero}
 use Rattle.blocks.specs.declared.Head.{Head}
 use Rattle.blocks.proofs.Counting.{block-good}
 use Rattle.blocks.proofs.Filler.{filler-is}
@@ -163,12 +163,12 @@ module _ (file : List ℕ) where
 
   module _ (good : fileFault file ≡ none) where
     pub file-some : 0 < blockCount file
-    unfolding fileFault
+    unfolding fileFault blocksFault
     file-some = length-some (length file) (both-none _ _ good .0)
 
     pub file-block : (k : ℕ) → k < blockCount file
         → Good (kindBefore (blockAt file) k) k (headOf (blockAt file k) .kind) (headOf (blockAt file k) .count) (blockAt file k)
-    unfolding fileFault
+    unfolding fileFault blocksFault
     file-block k h =
         good-block _ k (blockAt file k) (block-whole k h)
         (block-good (blockAt file) k (blockCount file) h (both-none _ _ good .1))

@@ -1,12 +1,15 @@
 -- What the inner functions of reading promise each other; what reading a file promises does not speak of it. Assumes nothing.
 use mathlib.Core.Bool.{Bool, true, cond, _&&_}
 use mathlib.Core.List.{List, [], _∷_}
+use mathlib.Core.Option.{Option}
 use Prim.Native.Nat.{ℕ, _+_, _*_}
 use lib.Dec.{eqb}
 use lib.ListN.{getD}
+use Rattle.base.specs.Search.{first}
 use Rattle.tables.specs.Rows.{picture}
-use Rattle.blocks.specs.Blocks.{number16, recordSize, rowOf, joined, said}
-use Rattle.blocks.specs.Files.{pictureOf}
+use Rattle.tables.specs.declared.Refusal.{Refusal}
+use Rattle.blocks.specs.Blocks.{number16, recordSize, rowOf, joined, said, blockFault}
+use Rattle.blocks.specs.Files.{kindBefore, pictureOf}
 use Rattle.blocks.specs.Reads.{rowCounts}
 use Rattle.blocks.specs.declared.Head.{Head}
 use Rattle.blocks.specs.declared.BoxRecord.{BoxRecord}
@@ -45,6 +48,10 @@ arrowRecord block j = record {
   mode = getD (rowOf 3 block j) 2 0;
   sign = getD (rowOf 3 block j) 3 0;
 }
+
+-- for each of n blocks in turn 15, 16, 17: `fileFault` has that of a file's blocks
+unfoldable pub blocksFault : (blocks : ℕ → List ℕ) (n : ℕ) → Option Refusal
+blocksFault blocks n = first (λ k. blockFault (kindBefore blocks k) k (blocks k)) n
 
 -- what n blocks say of the table of a kind: `tableOf` is that of a file's blocks
 abbrev pub tableIn : (kind : ℕ) (blocks : ℕ → List ℕ) (n : ℕ) → List ℕ
