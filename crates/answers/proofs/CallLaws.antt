@@ -13,31 +13,25 @@ use Rattle.base.proofs.Options.{past, stop, orElse-assoc}
 use Rattle.base.proofs.SearchLaws.{given-none}
 use Rattle.tables.specs.Rows.{Picture, user, file}
 use Rattle.tables.specs.Atoms.{atom, pairCount}
-use Rattle.tables.specs.Faults.{tableFault, modeFault, roomFault}
+use Rattle.tables.specs.Faults.{tableFault, roomFault}
 use Rattle.tables.specs.Refusals.{notAtomic, verdictOf}
-use Rattle.tables.specs.Steps.{SoundRows, either}
+use Rattle.tables.specs.Steps.{SoundRows}
 use Rattle.tables.specs.declared.Refusal.{Refusal}
 use Rattle.tables.specs.declared.Verdict.{Verdict}
 use Rattle.tables.specs.declared.Verdict.the-variants.{Passed, Refused as Stopped}
 use Rattle.tables.proofs.TableLaws.{both-none, not-not, room-passed, sound-rows, sound-arrows}
 use Rattle.tables.proofs.AtomPlaces.{atom-there}
-use Rattle.tables.proofs.Verdicts.{passed, refused, either-verdict}
+use Rattle.tables.proofs.Verdicts.{passed, refused}
 use Rattle.containment.specs.Contains.{loopFault}
-use Rattle.scratch.specs.Scratch.{scratchFault, earlyFault}
+use Rattle.scratch.specs.Scratch.{scratchFault, earlyFault, modeEarly}
 use Rattle.containment.specs.Steps.{Closure}
 use Rattle.scratch.proofs.ScratchLaws.{scratch-room}
-use Rattle.scratch.proofs.PictureLaws.{early-parts}
+use Rattle.scratch.proofs.PictureLaws.{early-parts, mode-parts}
 use Rattle.meaning.specs.Pairs.{matrixBytes, matrixNumbers}
 use Rattle.meaning.specs.declared.Entry.{Entry}
 use Rattle.certificates.specs.Steps.{Drawn}
-use Rattle.answers.specs.Calls.{askedFault, replyOf, entryEarly, entryFault, matrixEarly, matrixFault, bytesAfter, numbersAfter}
+use Rattle.answers.specs.Calls.{askedFault, replyOf, entryFault, matrixEarly, matrixFault, bytesAfter, numbersAfter}
 use Rattle.answers.specs.declared.EntryReply.the-variants.{Answered, Refused}
-
--- ---- checks in a row
-
-pub chained : (a b c d : Option Refusal)
-    → either (either (either (verdictOf a) (verdictOf b)) (verdictOf c)) (verdictOf d) ≡ verdictOf (orElse a (orElse b (orElse c d)))
-chained a b c d = simp (either-verdict, orElse-assoc)
 
 -- where check 11 passes, both boxes are there
 pub asked-there : (boxes rows : List ℕ) (u f : ℕ) → askedFault boxes rows u f ≡ none → (u < length boxes) × (f < length boxes)
@@ -57,12 +51,8 @@ module _ (pic : Picture) (s : List ℕ) where
   pub picture-early : Early (earlyFault pic s)
   picture-early = early-parts pic s
 
-  pub entry-early : (m : ℕ) → Early (entryEarly pic s m)
-  unfolding entryEarly
-  entry-early m e =
-      let a = both-none (tableFault pic) (orElse (modeFault m) (scratchFault (length (pic .boxes)) s)) e in
-      let b = both-none (modeFault m) (scratchFault (length (pic .boxes)) s) (a .1) in
-      (a .0, b .1)
+  pub mode-early : (m : ℕ) → Early (modeEarly pic s m)
+  mode-early m = mode-parts pic s m
 
   -- those of the matrix, and the two buffers suffice
   matrix-parts : (m : ℕ) (bytes numbers : List ℕ) → matrixEarly pic s m bytes numbers ≡ none
@@ -72,11 +62,10 @@ module _ (pic : Picture) (s : List ℕ) where
   matrix-parts m bytes numbers e =
       let pairs = pairCount (pic .boxes) (pic .rows) in
       let last = orElse (roomFault 1 (length bytes) pairs) (roomFault 2 (length numbers) pairs) in
-      let a = both-none (tableFault pic) (orElse (modeFault m) (orElse (scratchFault (length (pic .boxes)) s) last)) e in
-      let b = both-none (modeFault m) (orElse (scratchFault (length (pic .boxes)) s) last) (a .1) in
-      let c = both-none (scratchFault (length (pic .boxes)) s) last (b .1) in
-      let d = both-none (roomFault 1 (length bytes) pairs) (roomFault 2 (length numbers) pairs) (c .1) in
-      (a .0, c .0, room-passed 1 (length bytes) pairs (d .0), room-passed 2 (length numbers) pairs (d .1))
+      let a = both-none (modeEarly pic s m) last e in
+      let p = mode-parts pic s m (a .0) in
+      let d = both-none (roomFault 1 (length bytes) pairs) (roomFault 2 (length numbers) pairs) (a .1) in
+      (p .0, p .1, room-passed 1 (length bytes) pairs (d .0), room-passed 2 (length numbers) pairs (d .1))
 
   pub matrix-early : (m : ℕ) (bytes numbers : List ℕ) → Early (matrixEarly pic s m bytes numbers)
   matrix-early m bytes numbers e = let p = matrix-parts m bytes numbers e in (p .0, p .1)
@@ -106,14 +95,14 @@ module _ (pic : Picture) (s : List ℕ) where
 
   module _ (m u f : ℕ) (x : Entry) where
     abbrev pub entryReady : Option Refusal
-    entryReady = orElse (entryEarly pic s m) (loopFault (pic .boxes) (pic .rows))
+    entryReady = orElse (modeEarly pic s m) (loopFault (pic .boxes) (pic .rows))
 
     abbrev pub asked : Option Refusal
     asked = askedFault (pic .boxes) (pic .rows) u f
 
     whole : entryFault pic s m u f ≡ orElse entryReady asked
     unfolding entryFault
-    whole = sym (orElse-assoc (entryEarly pic s m) (loopFault (pic .boxes) (pic .rows)) asked)
+    whole = sym (orElse-assoc (modeEarly pic s m) (loopFault (pic .boxes) (pic .rows)) asked)
 
     pub entry-stopped : (r : Refusal) → verdictOf entryReady ≡ Stopped r → Refused r ≡ replyOf (entryFault pic s m u f) x
     unfolding replyOf

@@ -2,7 +2,8 @@
 ghost use mathlib.Core.Path.{_≡_};
 ghost use Rattle.tables.specs.Rows.{picture};
 ghost use Rattle.tables.specs.Refusals.{verdictOf};
-ghost use Rattle.answers.specs.Calls.{entryEarly, matrixEarly};
+ghost use Rattle.scratch.specs.Scratch.{modeEarly};
+ghost use Rattle.answers.specs.Calls.{matrixEarly};
 use atoms::pair_count;
 use checks::check_mode;
 use checks::check_room;
@@ -11,7 +12,7 @@ use tables::Verdict;
 
 // Of one entry: 1 to 9.
 pub fn early_entry(boxes: &[u8], rows: &[u16], arrows: &[u16], scratch: &[u8], mode: u16) -> Verdict
-    ensures { λ r. ⌜ r ≡ verdictOf (entryEarly (picture (now (boxes .entry)) (now (rows .entry)) (now (arrows .entry)))
+    ensures { λ r. ⌜ r ≡ verdictOf (modeEarly (picture (now (boxes .entry)) (now (rows .entry)) (now (arrows .entry)))
         (now (scratch .entry)) mode) ⌝ }
 {
     let tables = checks::check(boxes, rows, arrows);

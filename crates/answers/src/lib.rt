@@ -6,9 +6,9 @@ mod pair;
 ghost use mathlib.Core.Path.{_≡_};
 ghost use Rattle.tables.specs.Rows.{picture};
 ghost use Rattle.tables.specs.Refusals.{verdictOf};
-ghost use Rattle.scratch.specs.Scratch.{scratchAfter, earlyFault};
+ghost use Rattle.scratch.specs.Scratch.{scratchAfter, earlyFault, modeEarly};
 ghost use Rattle.meaning.specs.Meaning.{answer};
-ghost use Rattle.answers.specs.Calls.{replyOf, entryEarly, entryFault, judgeFault};
+ghost use Rattle.answers.specs.Calls.{replyOf, entryFault, judgeFault};
 ghost use Rattle.answers.specs.Calls.{matrixEarly, matrixFault, bytesAfter, numbersAfter};
 use base::wide;
 use containment::closure_room;
@@ -61,7 +61,7 @@ pub fn one_entry(
         r ≡ replyOf (entryFault pic (now (scratch .entry)) mode u f) (answer pic mode u f)) ⌝ }
     ensures { λ _. ⌜ (let pic = picture (now (boxes .entry)) (now (rows .entry)) (now (arrows .entry)) in
         now (scratch .exit)
-        ≡ scratchAfter (entryEarly pic (now (scratch .entry)) mode) (now (boxes .entry)) (now (rows .entry)) (now (scratch .entry))) ⌝ }
+        ≡ scratchAfter (modeEarly pic (now (scratch .entry)) mode) (now (boxes .entry)) (now (rows .entry)) (now (scratch .entry))) ⌝ }
 {
     let mut closure = closure_room();
     let early = early_entry(boxes, rows, arrows, scratch, mode);

@@ -5,7 +5,6 @@ use mathlib.Core.Option.{Option, none, some}
 use Prim.Native.Nat.{ℕ, _*_}
 use lib.ListN.{length}
 use Rattle.base.specs.Search.{orElse}
-use Rattle.base.specs.Buffers.{written}
 use Rattle.tables.specs.Rows.{Picture, rowCount, arrowCount}
 use Rattle.tables.specs.Refusals.{unlessRefused}
 use Rattle.tables.specs.Faults.{countFault, roomFault}
@@ -36,13 +35,9 @@ abbrev pub answerOf : (fault : Option Refusal) (counts : Counts) → Reading
 answerOf none counts = Tables counts
 answerOf (some r) counts = Refused r
 
--- a refusal leaves every place untouched; else the places beyond what is read stay
-abbrev pub endOf : (fault : Option Refusal) (new old : List ℕ) → List ℕ
-endOf fault new old = unlessRefused fault (written new old) old
-
--- the answer, and what each table holds at the end
+-- the answer, and what each table holds at the end: a refusal leaves every place untouched; else the places beyond what is read stay
 pub record ReadDone (file boxes rows arrows boxesEnd rowsEnd arrowsEnd : List ℕ) (r : Reading) : Type 0 where
   pub answer : r ≡ answerOf (readFault file (length boxes) (length rows) (length arrows)) (rowCounts (pictureOf file))
-  pub boxes-end : boxesEnd ≡ endOf (readFault file (length boxes) (length rows) (length arrows)) (pictureOf file .boxes) boxes
-  pub rows-end : rowsEnd ≡ endOf (readFault file (length boxes) (length rows) (length arrows)) (pictureOf file .rows) rows
-  pub arrows-end : arrowsEnd ≡ endOf (readFault file (length boxes) (length rows) (length arrows)) (pictureOf file .arrows) arrows
+  pub boxes-end : boxesEnd ≡ unlessRefused (readFault file (length boxes) (length rows) (length arrows)) (pictureOf file .boxes) boxes
+  pub rows-end : rowsEnd ≡ unlessRefused (readFault file (length boxes) (length rows) (length arrows)) (pictureOf file .rows) rows
+  pub arrows-end : arrowsEnd ≡ unlessRefused (readFault file (length boxes) (length rows) (length arrows)) (pictureOf file .arrows) arrows

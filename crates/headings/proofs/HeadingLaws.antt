@@ -56,8 +56,8 @@ module _ (boxes rows users files : List ℕ) where
 
   -- the fault decides
   ends : (o : Option Refusal) → headingFault boxes rows users files ≡ o
-      → Ends (headingsOf boxes rows o) (unlessRefused o (written (atoms boxes rows user) users) users)
-      (unlessRefused o (written (atoms boxes rows file) files) files)
+      → Ends (headingsOf boxes rows o) (unlessRefused o (atoms boxes rows user) users)
+      (unlessRefused o (atoms boxes rows file) files)
   unfolding usersAfter filesAfter
   ends o e = (rw e, (rw e, rw e))
 

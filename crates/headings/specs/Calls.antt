@@ -4,7 +4,6 @@ use mathlib.Core.Option.{Option, none, some}
 use Prim.Native.Nat.{ℕ}
 use lib.ListN.{length}
 use Rattle.base.specs.Search.{orElse}
-use Rattle.base.specs.Buffers.{written}
 use Rattle.tables.specs.Rows.{picture, user, file}
 use Rattle.tables.specs.Atoms.{atoms}
 use Rattle.tables.specs.Refusals.{unlessRefused}
@@ -32,7 +31,7 @@ module _ (boxes rows : List ℕ) where
 
     -- the buffers at the end: the atomic users, and the atomic files, by rising number
     unfoldable pub usersAfter : List ℕ
-    usersAfter = unlessRefused headingFault (written (atoms boxes rows user) users) users
+    usersAfter = unlessRefused headingFault (atoms boxes rows user) users
 
     unfoldable pub filesAfter : List ℕ
-    filesAfter = unlessRefused headingFault (written (atoms boxes rows file) files) files
+    filesAfter = unlessRefused headingFault (atoms boxes rows file) files

@@ -16,11 +16,11 @@ use Rattle.tables.specs.Faults.{raggedFault, countFault, byteFault, namesNoBox,
 use Rattle.tables.specs.Faults.{rowFault, tableFault, modeFault, roomFault}
 use Rattle.tables.specs.declared.Refusal.{Refusal}
 use Rattle.containment.specs.Contains.{contains, around, loopFault}
-use Rattle.scratch.specs.Scratch.{scratchFault, earlyFault, pictureFault}
+use Rattle.scratch.specs.Scratch.{scratchFault, earlyFault, modeEarly, pictureFault}
 use Rattle.meaning.specs.Meaning.{hasMode, modeArrows, reaches, nests, level, overrides, settle, hits, certifies, answer}
 use Rattle.meaning.specs.Meaning.{byteOf, numberOf, isGranted, isUnclear}
 use Rattle.meaning.specs.Pairs.{userAt, fileAt, firstPair, answerAt, matrixBytes, matrixNumbers, unclearFault, anyUnclear}
-use Rattle.answers.specs.Calls.{askedFault, entryEarly, entryFault, judgeFault, replyOf}
+use Rattle.answers.specs.Calls.{askedFault, entryFault, judgeFault, replyOf}
 use Rattle.meaning.specs.Cases.{picture-A, picture-B, picture-C, picture-D, picture-E, picture-F}
 use Rattle.meaning.specs.Cases.{picture-G, picture-H, picture-I, picture-J}
 use Rattle.meaning.specs.Cases.{emptied-group, around-emptied, emptied-both, groups-left}
@@ -28,7 +28,7 @@ use Rattle.meaning.specs.declared.Entry.the-variants.{Granted, Denied, Default,
 use Rattle.answers.specs.declared.EntryReply.{EntryReply}
 use Rattle.answers.specs.declared.EntryReply.the-variants.{Answered, Refused}
 use Rattle.list_meaning.specs.Order.{passes, anyOf, allOf, firstOf, distinct}
-use Rattle.list_meaning.specs.Lists.{gives, ofMode, blanks, listRoom}
+use Rattle.list_meaning.specs.Lists.{gives, ofMode, listRoom}
 use Rattle.list_meaning.specs.Order.{meets, reached, granted, right, honest, coversAll, qualifies}
 use Rattle.list_meaning.specs.Greedy.{followed, new, fits, addable, next, listTo, greedy, leftBy, orderFault, listedOf, placesOf}
 use Rattle.list_meaning.specs.Calls.{listEarly, listBefore, listAnswer, listAfter}
@@ -244,12 +244,12 @@ unfolding compute table groups picture-A picture-B picture-C picture-D picture-E
     emptied-group around-emptied emptied-both groups-left
     orElse given first lowest every select build sideOf isGroup onSide outer atom atoms pairCount
     raggedFault countFault byteFault namesNoBox acrossSides wrongEnds wrongMode rowFault tableFault modeFault roomFault
-    contains around loopFault scratchFault earlyFault pictureFault
+    contains around loopFault scratchFault earlyFault modeEarly pictureFault
     hasMode modeArrows reaches nests level overrides settle hits certifies answer byteOf numberOf isGranted isUnclear
     userAt fileAt firstPair answerAt matrixBytes matrixNumbers unclearFault anyUnclear
-    askedFault entryEarly entryFault judgeFault replyOf
+    askedFault entryFault judgeFault replyOf
     anyOf allOf firstOf passes distinct gives ofMode meets reached granted right honest coversAll qualifies
-    new fits addable followed next listTo greedy leftBy orderFault blanks listEarly listBefore listedOf placesOf listAnswer listAfter written
+    new fits addable followed next listTo greedy leftBy orderFault listEarly listBefore listedOf placesOf listAnswer listAfter written
 both-right = (refl, refl)
 
 pub table-right : map compute table ≡ table

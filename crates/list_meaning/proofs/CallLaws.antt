@@ -9,22 +9,22 @@ use Rattle.base.specs.Search.{orElse}
 use Rattle.base.specs.Buffers.{written, zeros}
 use Rattle.base.proofs.Options.{past, stop, orElse-assoc}
 use Rattle.base.proofs.BufferLaws.{written-over}
-use Rattle.tables.specs.Rows.{Picture}
+use Rattle.tables.specs.Rows.{Picture, noArrow}
 use Rattle.tables.specs.Refusals.{verdictOf}
 use Rattle.tables.specs.Steps.{either}
 use Rattle.tables.specs.Faults.{tableFault, modeFault, roomFault}
 use Rattle.tables.specs.declared.Refusal.{Refusal}
 use Rattle.tables.specs.declared.Verdict.the-variants.{Passed, Refused as VerdictRefused}
-use Rattle.tables.proofs.Verdicts.{either-verdict, refuses, passes}
 use Rattle.tables.proofs.TableLaws.{both-none, room-passed}
-use Rattle.scratch.specs.Scratch.{scratchFault, scratchAfter}
+use Rattle.scratch.specs.Scratch.{scratchFault, scratchAfter, modeEarly}
 use Rattle.containment.specs.Contains.{loopFault}
 use Rattle.scratch.proofs.ScratchLaws.{scratch-room}
+use Rattle.scratch.proofs.PictureLaws.{mode-parts, rooms-refused, rooms-passed}
 use Rattle.meaning.specs.Pairs.{pairs, unclearFault}
 use Rattle.list_meaning.specs.Greedy.{greedy, orderFault, listedOf, placesOf}
 use Rattle.list_meaning.specs.Calls.{listEarly, listBefore, listAnswer, listAfter, workAfter}
 use Rattle.list_meaning.specs.Steps.{Listing}
-use Rattle.list_meaning.specs.Lists.{blanks, listRoom}
+use Rattle.list_meaning.specs.Lists.{listRoom}
 use Rattle.list_meaning.specs.declared.Listed.{Listed}
 use Rattle.list_meaning.specs.declared.Listed.the-variants.{Written, Refused}
 use Rattle.list_meaning.proofs.GreedyLaws.{mode-room}
@@ -41,7 +41,7 @@ module _ (pic : Picture) (m : ℕ) where
   answered-list e out = (rw (past none _ refl, e), rw e)
 
   pub answered-none : (x : Refusal) → orderFault pic m ≡ some x → (out : List ℕ)
-      → Answered (Refused x) out (written (blanks (listRoom pic m)) out)
+      → Answered (Refused x) out (written (replicate (listRoom pic m) noArrow) out)
   unfolding listAnswer listedOf listAfter placesOf
   answered-none x e out = (rw (past none _ refl, e), rw e)
 
@@ -60,7 +60,7 @@ module _ (pic : Picture) (m : ℕ) where
     -- one of 1 to 7 refuses
     pub early-refused : (x : Refusal) → verdictOf (tableFault pic) ≡ VerdictRefused x → VerdictRefused x ≡ verdictOf (listEarly pic m s out work)
     unfolding listEarly
-    early-refused x e = refuses _ _ _ e
+    early-refused x e = rooms-refused pic s m _ _ x e
 
     -- they pass: 8 and 9, one after the other
     pub early-passed : verdictOf (tableFault pic) ≡ Passed
@@ -68,13 +68,7 @@ module _ (pic : Picture) (m : ℕ) where
         (verdictOf (roomFault 3 (length out) (listRoom pic m)))) (verdictOf (roomFault 4 (length work) (pairs pic)))
         ≡ verdictOf (listEarly pic m s out work)
     unfolding listEarly
-    early-passed e = asked ∙ passes _ _ e
-      where
-        asked : either (either (either (verdictOf (modeFault m)) (verdictOf (scratchFault (length (pic .boxes)) s)))
-            (verdictOf (roomFault 3 (length out) (listRoom pic m)))) (verdictOf (roomFault 4 (length work) (pairs pic)))
-            ≡ verdictOf (orElse (modeFault m) (orElse (scratchFault (length (pic .boxes)) s)
-            (orElse (roomFault 3 (length out) (listRoom pic m)) (roomFault 4 (length work) (pairs pic)))))
-        asked = simp (either-verdict, orElse-assoc)
+    early-passed e = rooms-passed pic s m (roomFault 3 (length out) (listRoom pic m)) (roomFault 4 (length work) (pairs pic)) e
 
     -- where they pass, there is room
     pub record Rooms : Type 0 where
@@ -86,15 +80,14 @@ module _ (pic : Picture) (m : ℕ) where
     pub rooms : listEarly pic m s out work ≡ none → Rooms
     unfolding listEarly
     rooms e =
-        let t = both-none (tableFault pic) _ e in
-        let a = both-none (modeFault m) _ (t .1) in
-        let b = both-none (scratchFault (length (pic .boxes)) s) _ (a .1) in
-        let c = both-none (roomFault 3 (length out) (listRoom pic m)) _ (b .1) in
+        let a = both-none (modeEarly pic s m) _ e in
+        let early = mode-parts pic s m (a .0) in
+        let b = both-none (roomFault 3 (length out) (listRoom pic m)) _ (a .1) in
         record {
-          no-fault = t .0;
-          scratch-room = scratch-room (length (pic .boxes)) s (b .0);
-          out-room = room-passed 3 (length out) (listRoom pic m) (c .0);
-          work-room = room-passed 4 (length work) (pairs pic) (c .1);
+          no-fault = early .0;
+          scratch-room = scratch-room (length (pic .boxes)) s (early .1);
+          out-room = room-passed 3 (length out) (listRoom pic m) (b .0);
+          work-room = room-passed 4 (length work) (pairs pic) (b .1);
         }
 
 -- ---- check 13
@@ -106,16 +99,16 @@ module _ (pic : Picture) (m : ℕ) (count : ℕ) (out old : List ℕ) (counted :
 
   -- a pair is left: 65,535 in each needed place
   pub finish-refused : (x : Refusal) → orderFault pic m ≡ some x → (need : ℕ) → need ≡ listRoom pic m → need ≤ length old
-      → Answered pic m (Refused x) old (written (replicate need 65535) out)
-  unfolding blanks
+      → Answered pic m (Refused x) old (written (replicate need noArrow) out)
   finish-refused x e need is room =
-      let n : length (blanks need) ≡ need = length-replicate {A = ℕ} need 65535 in
+      let blanks : List ℕ = replicate need noArrow in
+      let n : length blanks ≡ need = length-replicate {A = ℕ} need noArrow in
       let short = mode-room pic m (greedy pic m) (greedy-grown pic m) in
       let a = answered-none pic m x e old in (
         a .0,
-        ap (written (blanks need)) listed
-            ∙ written-over (blanks need) (greedy pic m) old (omega (arith, short)) (omega arith)
-            ∙ ap (λ (k : ℕ). written (blanks k) old) is
+        ap (written blanks) listed
+            ∙ written-over blanks (greedy pic m) old (omega (arith, short)) (omega arith)
+            ∙ ap (λ (k : ℕ). written (replicate k noArrow) old) is
             ∙ a .1,
       )
 

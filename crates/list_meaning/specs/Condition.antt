@@ -7,14 +7,14 @@ use mathlib.Core.Bool.{Bool}
 use mathlib.Core.List.{List}
 use Prim.Native.Nat.{ℕ, _<_, _≤_}
 use lib.Dec.{T}
-use lib.ListN.{length, getD, take}
+use lib.ListN.{length, getD, take, replicate}
 use Rattle.base.specs.Buffers.{written, zeros}
-use Rattle.tables.specs.Rows.{Picture, user, file, arrowAt}
+use Rattle.tables.specs.Rows.{Picture, user, file, noArrow, arrowAt}
 use Rattle.tables.specs.Atoms.{atom}
 use Rattle.tables.specs.Refusals.{noOrder}
 use Rattle.meaning.specs.Meaning.{reaches, answer, isGranted}
 use Rattle.meaning.specs.Pairs.{Before, pairs}
-use Rattle.list_meaning.specs.Lists.{gives, ofMode, blanks, listRoom}
+use Rattle.list_meaning.specs.Lists.{gives, ofMode, listRoom}
 use Rattle.list_meaning.specs.declared.Listed.{Listed}
 use Rattle.list_meaning.specs.declared.Listed.the-variants.{Written, Refused}
 
@@ -84,5 +84,5 @@ module _ (pic : Picture) where
       pub no-order : ((u f : ℕ) × (r ≡ Refused (noOrder m u f))) ↔ (SomeReachesAll → ⊥)
       pub names : (u f : ℕ) → r ≡ Refused (noOrder m u f) → FirstUnreached u f
       -- 13 sets the needed list places to 65,535, and the needed work bytes are 0 after both
-      pub blanked : (u f : ℕ) → r ≡ Refused (noOrder m u f) → out′ ≡ written (blanks (listRoom pic m)) out
+      pub blanked : (u f : ℕ) → r ≡ Refused (noOrder m u f) → out′ ≡ written (replicate (listRoom pic m) noArrow) out
       pub work-after : work′ ≡ written (zeros (pairs pic)) work

@@ -5,14 +5,14 @@ use mathlib.Core.Bool.{Bool, not, _&&_}
 use mathlib.Core.List.{List, [], _∷_, _++_}
 use mathlib.Core.Option.{Option, none, some}
 use Prim.Native.Nat.{ℕ, zero, suc}
-use lib.ListN.{length}
+use lib.ListN.{length, replicate}
 use Rattle.base.specs.Search.{implies, first, given, every, lowest}
-use Rattle.tables.specs.Rows.{Picture, arrowCount}
+use Rattle.tables.specs.Rows.{Picture, noArrow, arrowCount}
 use Rattle.tables.specs.Refusals.{noOrder}
 use Rattle.tables.specs.declared.Refusal.{Refusal}
 use Rattle.meaning.specs.Pairs.{pairs, userAt, fileAt}
 use Rattle.list_meaning.specs.Order.{meets, reached, granted, right}
-use Rattle.list_meaning.specs.Lists.{ofMode, blanks, listRoom}
+use Rattle.list_meaning.specs.Lists.{ofMode, listRoom}
 use Rattle.list_meaning.specs.declared.Listed.{Listed}
 use Rattle.list_meaning.specs.declared.Listed.the-variants.{Written, Refused}
 
@@ -66,4 +66,4 @@ module _ (pic : Picture) where
     -- what goes into the list places once checks 1 to 12 have passed, by the fault of 13, if any: the list, or 65,535 in each needed place
     unfoldable pub placesOf : (fault : Option Refusal) → List ℕ
     placesOf none = greedy
-    placesOf (some r) = blanks (listRoom pic m)
+    placesOf (some r) = replicate (listRoom pic m) noArrow

@@ -4,8 +4,8 @@ use mathlib.Core.Bool.{Bool, not, cond, _&&_}
 use mathlib.Core.List.{List}
 use Prim.Native.Nat.{ℕ}
 use lib.Dec.{eqb, ltb}
-use lib.ListN.{length, replicate}
-use Rattle.tables.specs.Rows.{Picture, noArrow, arrowCount}
+use lib.ListN.{length}
+use Rattle.tables.specs.Rows.{Picture, arrowCount}
 use Rattle.meaning.specs.Meaning.{positive, negative, hasMode, modeArrows, isGranted, isUnclear}
 use Rattle.meaning.specs.declared.Entry.{Entry}
 
@@ -16,10 +16,6 @@ gives s e = cond (isGranted e) (eqb s positive) (eqb s negative && not (isUnclea
 -- k is the number of an arrow of mode m
 unfoldable pub ofMode : (arrows : List ℕ) (m k : ℕ) → Bool
 ofMode arrows m k = ltb k (arrowCount arrows) && hasMode arrows m k
-
--- n times 65,535
-unfoldable pub blanks : (n : ℕ) → List ℕ
-blanks n = replicate n noArrow
 
 -- the needed length of the list: a place for each arrow of the mode
 abbrev pub listRoom : (pic : Picture) (m : ℕ) → ℕ

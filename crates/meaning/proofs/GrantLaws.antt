@@ -7,7 +7,8 @@ use borrow.Author.Tests.{lt-ltb}
 use lib.Dec.{ltb}
 use Rattle.tables.specs.Rows.{Picture, arrowCount}
 use Rattle.base.proofs.SearchLaws.{lowest-some}
-use Rattle.meaning.specs.Meaning.{settle, answer, isGranted, grantingOf, byteOf, numberOf}
+use Rattle.meaning.specs.Meaning.{settle, answer, isGranted, byteOf, numberOf}
+use Rattle.meaning.specs.Steps.{grantingOf}
 use Rattle.meaning.specs.Pairs.{answerAt}
 
 -- where the certificates are numbers of arrows

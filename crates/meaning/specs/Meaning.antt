@@ -1,5 +1,5 @@
 -- What a picture says of a pair (document 01, "Meaning"; source 002, section 4). Assumes nothing.
-use mathlib.Core.Bool.{Bool, not, cond, _&&_, _||_}
+use mathlib.Core.Bool.{Bool, not, _&&_, _||_}
 use mathlib.Core.List.{List}
 use mathlib.Core.Option.{Option, none, some}
 use Prim.Native.Nat.{ℕ}
@@ -93,7 +93,3 @@ isGranted e = eqb (byteOf e) 1
 
 unfoldable pub isUnclear : (e : Entry) → Bool
 isUnclear e = eqb (byteOf e) 2
-
--- the granting arrow, or 65,535
-unfoldable pub grantingOf : (e : Entry) → ℕ
-grantingOf e = cond (isGranted e) (numberOf e) noArrow

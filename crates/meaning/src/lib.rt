@@ -1,6 +1,6 @@
 // What a picture says of a pair: the four answers, and what each is in the matrix.
 ghost use mathlib.Core.Path.{_≡_};
-ghost use Rattle.meaning.specs.Meaning.{grantingOf};
+ghost use Rattle.meaning.specs.Steps.{grantingOf};
 use tables::Arrow;
 
 // The answer to one question (document 01, "Meaning").

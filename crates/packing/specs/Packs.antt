@@ -4,7 +4,6 @@ use mathlib.Core.Option.{Option, none, some}
 use Prim.Native.Nat.{ℕ}
 use lib.ListN.{length}
 use Rattle.base.specs.Search.{orElse}
-use Rattle.base.specs.Buffers.{written}
 use Rattle.tables.specs.Refusals.{unlessRefused}
 use Rattle.tables.specs.Rows.{Picture}
 use Rattle.tables.specs.Faults.{tableFault, roomFault}
@@ -28,4 +27,4 @@ module _ (pic : Picture) (file : List ℕ) where
 
   -- a refusal writes nothing; else bytes beyond the length stay
   unfoldable pub fileAfter : List ℕ
-  fileAfter = unlessRefused packFault (written (packed pic) file) file
+  fileAfter = unlessRefused packFault (packed pic) file

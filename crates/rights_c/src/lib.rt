@@ -4,15 +4,16 @@ ghost use mathlib.Core.Path.{_≡_};
 ghost use lib.ListN.{length};
 ghost use Rattle.base.specs.Search.{orElse};
 ghost use Rattle.tables.specs.Rows.{picture, user as userSide, file as fileSide};
+ghost use Rattle.tables.specs.Refusals.{unlessRefused};
 ghost use Rattle.tables.specs.Atoms.{atoms};
-ghost use Rattle.scratch.specs.Scratch.{scratchAfter, earlyFault};
+ghost use Rattle.scratch.specs.Scratch.{scratchAfter, earlyFault, modeEarly};
 ghost use Rattle.meaning.specs.Meaning.{answer};
-ghost use Rattle.answers.specs.Calls.{entryEarly, entryFault, judgeFault, matrixEarly, matrixFault, bytesAfter, numbersAfter};
+ghost use Rattle.answers.specs.Calls.{entryFault, judgeFault, matrixEarly, matrixFault, bytesAfter, numbersAfter};
 ghost use Rattle.list_meaning.specs.Greedy.{greedy, orderFault};
 ghost use Rattle.list_meaning.specs.Calls.{listEarly, listBefore, listAfter, workAfter};
 ghost use Rattle.headings.specs.Calls.{headingFault, usersAfter, filesAfter};
 ghost use Rattle.blocks.specs.Files.{pictureOf};
-ghost use Rattle.blocks.specs.Reads.{rowCounts, readFault, endOf};
+ghost use Rattle.blocks.specs.Reads.{rowCounts, readFault};
 ghost use Rattle.packing.specs.Packed.{packed};
 ghost use Rattle.packing.specs.Packs.{packFault, fileAfter};
 ghost use Rattle.rights_c.specs.Replies.{reply, doneReply, replyBy, entryReply, version};
@@ -165,7 +166,7 @@ pub extern "C" fn rights_entry(
     ensures { λ r. ⌜ (let pic = picture (now (boxes .entry)) (now (rows .entry)) (now (arrows .entry)) in
         r ≡ replyBy (entryFault pic (now (scratch .entry)) mode user file) (entryReply (answer pic mode user file))) ⌝ }
     ensures { λ _. ⌜ (let pic = picture (now (boxes .entry)) (now (rows .entry)) (now (arrows .entry)) in
-        now (scratch .exit) ≡ scratchAfter (entryEarly pic (now (scratch .entry)) mode) (now (boxes .entry)) (now (rows .entry))
+        now (scratch .exit) ≡ scratchAfter (modeEarly pic (now (scratch .entry)) mode) (now (boxes .entry)) (now (rows .entry))
         (now (scratch .entry))) ⌝ }
 {
     of_asked(answers::one_entry(boxes, rows, arrows, scratch, user, file, mode))
@@ -251,13 +252,13 @@ pub extern "C" fn rights_read(
         r ≡ replyBy fault (doneReply (counts .boxes) (counts .containments) (counts .arrows))) ⌝ }
     ensures { λ _. ⌜ (let fault = readFault (now (file .entry)) (length (now (boxes .entry))) (length (now (rows .entry)))
         (length (now (arrows .entry))) in
-        now (boxes .exit) ≡ endOf fault (pictureOf (now (file .entry)) .boxes) (now (boxes .entry))) ⌝ }
+        now (boxes .exit) ≡ unlessRefused fault (pictureOf (now (file .entry)) .boxes) (now (boxes .entry))) ⌝ }
     ensures { λ _. ⌜ (let fault = readFault (now (file .entry)) (length (now (boxes .entry))) (length (now (rows .entry)))
         (length (now (arrows .entry))) in
-        now (rows .exit) ≡ endOf fault (pictureOf (now (file .entry)) .rows) (now (rows .entry))) ⌝ }
+        now (rows .exit) ≡ unlessRefused fault (pictureOf (now (file .entry)) .rows) (now (rows .entry))) ⌝ }
     ensures { λ _. ⌜ (let fault = readFault (now (file .entry)) (length (now (boxes .entry))) (length (now (rows .entry)))
         (length (now (arrows .entry))) in
-        now (arrows .exit) ≡ endOf fault (pictureOf (now (file .entry)) .arrows) (now (arrows .entry))) ⌝ }
+        now (arrows .exit) ≡ unlessRefused fault (pictureOf (now (file .entry)) .arrows) (now (arrows .entry))) ⌝ }
 {
     of_reading(block_files::read(file, boxes, rows, arrows))
 }

@@ -7,8 +7,8 @@ use Prim.Native.Nat.{ℕ, _*_, _/_, _%_}
 use lib.Dec.{T, eqb}
 use Rattle.base.specs.Steps.{bit}
 use Rattle.containment.specs.Contains.{Row, Chain, one, direct, contains}
-use Rattle.scratch.specs.Scratch.{Drawn, directly, through-others, otherwise, drawn, filled}
-use Rattle.scratch.specs.Steps.{over}
+use Rattle.scratch.specs.Scratch.{Drawn, directly, through-others, otherwise, drawn, scratchBytes}
+use Rattle.scratch.specs.Steps.{filled, over}
 use Rattle.base.proofs.Bits.{bit-is, bit-test}
 use Rattle.base.proofs.Tests.{T?, T-true, not-false}
 use Rattle.base.proofs.BufferLaws.{build-same}
@@ -74,6 +74,6 @@ module _ (rows new : List ℕ) (same : (a b : ℕ) → Row rows a b ↔ Row new 
   same-drawn a b = rw (same-direct rows new same a b, same-contains rows new same a b)
 
   pub same-filled : (n : ℕ) (s : List ℕ) → filled n rows s ≡ filled n new s
-  unfolding filled
+  unfolding scratchBytes
   same-filled n s =
       rw (build-same (λ p. drawn rows (p / n) (p % n)) (λ p. drawn new (p / n) (p % n)) (n * n) (λ p l. same-drawn (p / n) (p % n)))

@@ -15,9 +15,8 @@ use Rattle.base.proofs.Tests.{and-T, not-false}
 use Rattle.tables.proofs.RowLaws.{rows-from}
 use Rattle.boxsets.specs.Sets.{has}
 use Rattle.containment.specs.Contains.{direct, contains}
-use Rattle.scratch.specs.Scratch.{filled}
 use Rattle.containment.specs.Steps.{RowsBelow, Both}
-use Rattle.scratch.specs.Steps.{Bytes, Cells, over, SameFrom, Square}
+use Rattle.scratch.specs.Steps.{filled, Bytes, Cells, over, SameFrom, Square}
 use Rattle.containment.proofs.RowBoxes.{RowBoxes}
 use Rattle.containment.proofs.ContainsLaws.{direct-more}
 use Rattle.containment.proofs.ClosureLaws.{contains-below}

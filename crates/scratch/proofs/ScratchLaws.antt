@@ -19,8 +19,8 @@ use Rattle.tables.specs.declared.Verdict.the-variants.{Passed, Refused}
 use Rattle.tables.proofs.Verdicts.{passed, refused, passes, refuses}
 use Rattle.tables.proofs.TableLaws.{room-passed}
 use Rattle.containment.specs.Contains.{loopFault}
-use Rattle.scratch.specs.Scratch.{Drawn, drawn, filled, scratchFault, scratchAfter}
-use Rattle.scratch.specs.Steps.{Bytes, SameFrom}
+use Rattle.scratch.specs.Scratch.{Drawn, drawn, scratchBytes, scratchFault, scratchAfter}
+use Rattle.scratch.specs.Steps.{filled, Bytes, SameFrom}
 use Rattle.scratch.proofs.DrawnLaws.{drawn-iff}
 
 module _ (n : ℕ) (rows s : List ℕ) where
@@ -28,15 +28,15 @@ module _ (n : ℕ) (rows s : List ℕ) where
   cell p = drawn rows (p / n) (p % n)
 
   pub filled-length : n * n ≤ length s → length (filled n rows s) ≡ length s
-  unfolding filled
+  unfolding scratchBytes
   filled-length h = written-length (build cell (n * n)) s (rw build-length h)
 
   filled-place : (p : ℕ) → p < n * n → getD (filled n rows s) p 0 ≡ cell p
-  unfolding filled
+  unfolding scratchBytes
   filled-place p l = written-at (build cell (n * n)) s p (rw build-length l) ∙ build-at cell (n * n) p l
 
   filled-rest : (p : ℕ) → n * n ≤ p → getD (filled n rows s) p 0 ≡ getD s p 0
-  unfolding filled
+  unfolding scratchBytes
   filled-rest p h = written-rest (build cell (n * n)) s p (rw build-length h)
 
   pub filled-cell : (a b : ℕ) → a < n → b < n → getD (filled n rows s) (a * n + b) 0 ≡ drawn rows a b

@@ -11,7 +11,8 @@ use Rattle.base.specs.Buffers.{build, written}
 use Rattle.tables.specs.Refusals.{inItself}
 use Rattle.tables.specs.declared.Refusal.{Refusal}
 use Rattle.containment.specs.Contains.{direct, contains, loopFault}
-use Rattle.scratch.specs.Scratch.{drawn, filled}
+use Rattle.scratch.specs.Scratch.{drawn, scratchBytes}
+use Rattle.scratch.specs.Steps.{filled}
 
 pub record Case : Type 0 where
   -- so many boxes, and the rows
@@ -112,5 +113,5 @@ compute c = record {
 }
 
 pub scratches-right : map compute scratches ≡ scratches
-unfolding compute scratches bit orElse given first build written direct contains loopFault drawn filled
+unfolding compute scratches bit orElse given first build written direct contains loopFault drawn scratchBytes
 scratches-right = refl

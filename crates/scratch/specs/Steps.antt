@@ -6,8 +6,14 @@ use Prim.Native.Nat.{ℕ, _+_, _*_, _<_, _≤_}
 use lib.Dec.{T}
 use lib.ListN.{length, getD}
 use Rattle.base.specs.Steps.{bit}
+use Rattle.base.specs.Buffers.{written}
 use Rattle.boxsets.specs.Sets.{has}
 use Rattle.containment.specs.Contains.{direct}
+use Rattle.scratch.specs.Scratch.{scratchBytes}
+
+-- the scratch of n boxes once it is filled: places beyond n × n are as they were
+abbrev pub filled : (n : ℕ) (rows s : List ℕ) → List ℕ
+filled n rows s = written (scratchBytes n rows) s
 
 -- no set of the first n has a number from n on
 abbrev pub Square : (n : ℕ) (t : List ℕ) → Type 0

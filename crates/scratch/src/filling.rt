@@ -5,8 +5,7 @@ ghost use lib.ListN.{length};
 ghost use Rattle.boxsets.specs.Sets.{isIn, inWord, has};
 ghost use Rattle.containment.specs.Contains.{contains};
 ghost use Rattle.containment.specs.Steps.{RowsBelow, Both};
-ghost use Rattle.scratch.specs.Scratch.{filled};
-ghost use Rattle.scratch.specs.Steps.{Square, Bytes, Cells, over, SameFrom, Ones, Room};
+ghost use Rattle.scratch.specs.Steps.{filled, Square, Bytes, Cells, over, SameFrom, Ones, Room};
 use boxsets::Set;
 use tables::Containment;
 

@@ -3,6 +3,7 @@
 use mathlib.Core.List.{List}
 use mathlib.Core.Option.{Option, none, some}
 use Prim.Native.Nat.{ℕ}
+use Rattle.base.specs.Buffers.{written}
 use Rattle.tables.specs.declared.Refusal.{Refusal}
 use Rattle.tables.specs.declared.Verdict.{Verdict}
 use Rattle.tables.specs.declared.Verdict.the-variants.{Passed, Refused}
@@ -64,7 +65,8 @@ abbrev pub verdictOf : (fault : Option Refusal) → Verdict
 verdictOf none = Passed
 verdictOf (some r) = Refused r
 
--- what lent places hold at the end: a refusal leaves them as they were
+-- what lent places hold at the end: a refusal leaves them as they were; else the first hold the new values, and places beyond are as
+-- they were
 abbrev pub unlessRefused : (fault : Option Refusal) (new old : List ℕ) → List ℕ
-unlessRefused none new old = new
+unlessRefused none new old = written new old
 unlessRefused (some r) new old = old

@@ -9,14 +9,14 @@ use native.Mathlib.Omega.{arith}
 use lib.ListN.{length}
 use Rattle.tables.specs.declared.Verdict.the-variants.{Passed}
 use Rattle.tables.proofs.Verdicts.{passed}
-use Rattle.scratch.specs.Scratch.{scratchAfter}
+use Rattle.scratch.specs.Scratch.{scratchAfter, modeEarly}
 use Rattle.meaning.specs.Meaning.{answer}
 use Rattle.meaning.specs.declared.Entry.{Entry}
 use Rattle.certificates.specs.Steps.{Drawn}
-use Rattle.answers.specs.Calls.{askedFault, entryEarly}
+use Rattle.answers.specs.Calls.{askedFault}
 use Rattle.answers.specs.declared.EntryReply.the-variants.{Answered}
 use Rattle.mode_sets.proofs.CallerLaws.{small-arrows}
-use Rattle.answers.proofs.CallLaws.{entry-early, ready-asks, ready-drawn, asked-there}
+use Rattle.answers.proofs.CallLaws.{mode-early, ready-asks, ready-drawn, asked-there}
 use Rattle.answers.proofs.CallLaws.{entryReady, entry-stopped, entry-not-asked, entry-answered}
 use Rattle.answers.proofs.one_entry.Statement.{statement}
 use Rattle.answers.proofs.one_entry.Tie as tie
@@ -45,7 +45,7 @@ prepare-requires c κs =
     let begin = c .before .before .before .before .before .before .before .before .before in
     let s = begin .args .scratch .now in
     let m = begin .args .mode in (
-      ready-asks (pic begin) s (entryEarly (pic begin) s m) (entry-early (pic begin) s m) (c .before .before .early-entry .result)
+      ready-asks (pic begin) s (modeEarly (pic begin) s m) (mode-early (pic begin) s m) (c .before .before .early-entry .result)
           (c .before .before .early-entry .ensures),
       c .before .before .before .before .closure-room .ensures,
     )
@@ -56,10 +56,10 @@ prepared : (c : tie.After-prepare) →
     let a = begin .args in
     (c .prepare .result ≡ verdictOf (entryReady (pic begin) (a .scratch .now) (a .mode) (a .u) (a .f) (said begin)))
     × (c .prepare .last .1 .1 .1 .0
-    ≡ scratchAfter (entryEarly (pic begin) (a .scratch .now) (a .mode)) (a .boxes .now) (a .rows .now) (a .scratch .now))
+    ≡ scratchAfter (modeEarly (pic begin) (a .scratch .now) (a .mode)) (a .boxes .now) (a .rows .now) (a .scratch .now))
 prepared c =
     let a = start c .args in
-    c .prepare .ensures .0 (entryEarly (pic (start c)) (a .scratch .now) (a .mode)) (c .before .before .before .early-entry .ensures)
+    c .prepare .ensures .0 (modeEarly (pic (start c)) (a .scratch .now) (a .mode)) (c .before .before .before .early-entry .ensures)
 
 returns : tie.Need-returns
 returns c =
@@ -77,7 +77,7 @@ drawn c =
     let begin = start (ready c) in
     let s = begin .args .scratch .now in
     let m = begin .args .mode in
-    ready-drawn (pic begin) s (entryEarly (pic begin) s m) (entry-early (pic begin) s m) (prepare .result) _ (prepared (ready c) .0)
+    ready-drawn (pic begin) s (modeEarly (pic begin) s m) (mode-early (pic begin) s m) (prepare .result) _ (prepared (ready c) .0)
     (prepare .ensures .1) (c .enum-told .given .1)
 
 -- ---- check 11

@@ -8,7 +8,8 @@ use denote.Enum.Declared.{tagOf}
 use types.Run.{OneOf}
 use Rattle.meaning.specs.declared.Entry.the-variants.{Granted, Denied, Default, Unclear}
 use Rattle.meaning.specs.declared.Entry.{Entry}
-use Rattle.meaning.specs.Meaning.{grantingOf, byteOf, isGranted, numberOf}
+use Rattle.meaning.specs.Meaning.{byteOf, isGranted, numberOf}
+use Rattle.meaning.specs.Steps.{grantingOf}
 use Rattle.meaning.proofs.Entry.{the-type}
 use Rattle.meaning.proofs.granting.Statement.{statement}
 use Rattle.meaning.proofs.granting.Tie as tie

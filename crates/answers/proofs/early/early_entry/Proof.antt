@@ -3,18 +3,18 @@ use mathlib.Core.Path.{_≡_, sym, _∙_}
 use mathlib.Core.Option.{none}
 use borrow.Author.Needs.{needs}
 use Rattle.tables.specs.Rows.{picture}
-use Rattle.tables.specs.Faults.{tableFault, modeFault}
+use Rattle.tables.specs.Faults.{tableFault}
 use Rattle.tables.proofs.TableLaws.{sound-rows}
-use Rattle.tables.proofs.Verdicts.{passed, refuses, passes, either-verdict}
-use lib.ListN.{length}
-use Rattle.scratch.specs.Scratch.{scratchFault}
-use Rattle.answers.specs.Calls.{entryEarly}
+use Rattle.tables.proofs.Verdicts.{passed}
+use Rattle.scratch.proofs.PictureLaws.{mode-refused, mode-passed}
 use Rattle.answers.proofs.early.early_entry.Statement.{statement}
 use Rattle.answers.proofs.early.early_entry.Tie as tie
 
 returns : tie.Need-returns
-unfolding entryEarly
-returns c = refuses _ _ _ (sym (c .before .before .before .check .ensures) ∙ c .before .tables .given .1)
+returns c =
+    let a = c .before .before .before .before .before .before .before .before .args in
+    mode-refused (picture (a .boxes .now) (a .rows .now) (a .arrows .now)) (a .scratch .now) (a .mode) _
+    (sym (c .before .before .before .check .ensures) ∙ c .before .tables .given .1)
 
 tabled : (c : tie.After-enum-told) →
     let a = c .before .before .before .before .before .before .before .args in
@@ -27,13 +27,12 @@ check-scratch-requires c κs =
     sound-rows (a .boxes .now) (a .rows .now) (a .arrows .now) (tabled (c .before)) .few-boxes
 
 returns-2 : tie.Need-returns-2
-unfolding entryEarly
 returns-2 c =
     let told = c .before .before .before in
     let a = told .before .before .before .before .before .before .before .args in
     rw (c .or-else .ensures, c .before .before .check-mode .ensures, c .before .check-scratch .ensures)
-    (either-verdict (modeFault (a .mode)) (scratchFault (length (a .boxes .now)) (a .scratch .now)))
-    ∙ passes _ _ (sym (told .before .before .check .ensures) ∙ told .enum-told .given .1)
+    (mode-passed (picture (a .boxes .now) (a .rows .now) (a .arrows .now)) (a .scratch .now) (a .mode)
+    (sym (told .before .before .check .ensures) ∙ told .enum-told .given .1))
 
 pub early-entry-spec : {M : Type 1} → statement M
 early-entry-spec =

@@ -1,21 +1,24 @@
 -- `answers::early::early_matrix` meets its contract: checks 1 to 7 refuse, or leave 8 and 9 their facts. Assumes nothing.
 use mathlib.Core.Path.{sym, _∙_}
 use borrow.Author.Needs.{needs}
-use Rattle.tables.specs.Faults.{modeFault, roomFault}
+use Rattle.tables.specs.Rows.{picture}
+use Rattle.tables.specs.Faults.{roomFault}
 use Rattle.tables.proofs.TableLaws.{sound-rows}
-use Rattle.tables.proofs.Verdicts.{passed, refuses, passes}
+use Rattle.tables.proofs.Verdicts.{passed}
 use Rattle.tables.specs.Atoms.{pairCount}
 use Rattle.tables.specs.Steps.{SoundRows}
-use Rattle.scratch.specs.Scratch.{scratchFault}
+use Rattle.scratch.proofs.PictureLaws.{rooms-refused, rooms-passed}
 use Rattle.answers.specs.Calls.{matrixEarly}
-use Rattle.answers.proofs.CallLaws.{chained}
 use lib.ListN.{length}
 use Rattle.answers.proofs.early.early_matrix.Statement.{statement}
 use Rattle.answers.proofs.early.early_matrix.Tie as tie
 
 returns : tie.Need-returns
 unfolding matrixEarly
-returns c = refuses _ _ _ (sym (c .before .before .before .check .ensures) ∙ c .before .tables .given .1)
+returns c =
+    let a = c .before .before .before .before .before .before .before .before .before .before .args in
+    rooms-refused (picture (a .boxes .now) (a .rows .now) (a .arrows .now)) (a .scratch .now) (a .mode) _ _ _
+    (sym (c .before .before .before .check .ensures) ∙ c .before .tables .given .1)
 
 sound : (c : tie.After-enum-told) →
     let a = c .before .before .before .before .before .before .before .before .before .args in
@@ -47,9 +50,9 @@ returns-2 c =
       c .before .before .before .before .before .check-scratch .ensures,
       at-mode .check-mode .ensures,
       at-mode .before .pair-count .ensures,
-    ) (chained (modeFault (a .mode)) (scratchFault (length (a .boxes .now)) (a .scratch .now)) (roomFault 1 (length (a .bytes .now)) pairs)
-    (roomFault 2 (length (a .numbers .now)) pairs))
-    ∙ passes _ _ (sym (told .before .before .check .ensures) ∙ told .enum-told .given .1)
+    ) (rooms-passed (picture (a .boxes .now) (a .rows .now) (a .arrows .now)) (a .scratch .now) (a .mode)
+    (roomFault 1 (length (a .bytes .now)) pairs) (roomFault 2 (length (a .numbers .now)) pairs)
+    (sym (told .before .before .check .ensures) ∙ told .enum-told .given .1))
 
 pub early-matrix-spec : {M : Type 1} → statement M
 early-matrix-spec =
