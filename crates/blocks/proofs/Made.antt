@@ -13,8 +13,8 @@ use Rattle.base.proofs.SearchLaws.{first-same}
 use Rattle.base.proofs.Options.{past}
 use Rattle.blocks.specs.Blocks.{headOf, joined, said}
 use Rattle.blocks.specs.Files.{blockCount, blockAt, kindBefore, lengthFault, fileFault, tableOf}
-use Rattle.blocks.specs.Reads.{rowCounts, tablesFault, readFault}
-use Rattle.blocks.specs.Steps.{blocksFault, tableIn, countsIn, countsOf}
+use Rattle.blocks.specs.Reads.{rowCounts, readFault}
+use Rattle.blocks.specs.Steps.{blocksFault, tableIn, countsIn, countsOf, tablesFault}
 use Rattle.tables.proofs.TableLaws.{both-none}
 use Rattle.blocks.proofs.Order.{length-whole, length-good}
 use Rattle.blocks.proofs.Placing.{joined-length}
@@ -109,5 +109,5 @@ module _ (blocks : ℕ → List ℕ) (n : ℕ) (whole : (k : ℕ) → k < n → 
   -- reading it is refused only by 2 and 9
   pub made-read : 0 < n → n ≤ 64 → blocksFault blocks n ≡ none → (boxes rows arrows : ℕ)
       → readFault (joined blocks n) boxes rows arrows ≡ tablesFault (countsIn blocks n) boxes rows arrows
-  unfolding readFault
+  unfolding readFault tablesFault
   made-read most few good boxes rows arrows = rw made-counts (past _ _ (made-good most few good))

@@ -19,8 +19,8 @@ use Rattle.blocks.specs.Fnv.{fnvFold, fnv1a}
 use Rattle.blocks.specs.Blocks.{number16, headOf, byKind, capacity, recordSize, rowOf, joined, said, wrongCheck, wrongHead}
 use Rattle.blocks.specs.Blocks.{wrongFiller, blockFault}
 use Rattle.blocks.specs.Files.{kindBefore}
-use Rattle.blocks.specs.Reads.{rowCounts, tablesFault}
-use Rattle.blocks.specs.Steps.{blocksFault, number32, recordsEnd, countOf, allZero, tableIn, countsIn}
+use Rattle.blocks.specs.Reads.{rowCounts}
+use Rattle.blocks.specs.Steps.{blocksFault, number32, recordsEnd, countOf, allZero, tableIn, countsIn, tablesFault}
 use Rattle.blocks.specs.declared.Head.{Head}
 use Rattle.blocks.specs.declared.Counts.{Counts}
 use Rattle.blocks.proofs.Counting.{blocks-more}

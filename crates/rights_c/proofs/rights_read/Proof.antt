@@ -15,8 +15,8 @@ returns c =
     let a = did .before .before .before .before .before .before .before .before .args in
     let fault = readFault (a .file .now) (length (a .boxes .now)) (length (a .rows .now)) (length (a .arrows .now)) in
     let done = did .read .ensures in (
-      c .of-reading .ensures ∙ ap readReply (done .answer) ∙ read-reply fault (rowCounts (pictureOf (a .file .now))),
-      (done .boxes-end, (done .rows-end, done .arrows-end)),
+      c .of-reading .ensures ∙ ap readReply (done .0) ∙ read-reply fault (rowCounts (pictureOf (a .file .now))),
+      done .1,
     )
 
 pub rights-read-spec : {M : Type 1} → statement M
