@@ -6,9 +6,8 @@ use Prim.Native.Nat.{ℕ, _+_, _<_}
 use native.Mathlib.Omega.{arith}
 use lib.ListN.{length}
 use Rattle.blocks.specs.Blocks.{headOf}
-use Rattle.blocks.specs.Files.{blockAt, blockCount, lengthFault, blocksFault}
-use Rattle.blocks.specs.Reads.{tablesFault}
-use Rattle.blocks.specs.Steps.{countsIn, countsOf}
+use Rattle.blocks.specs.Files.{blockAt, blockCount, lengthFault}
+use Rattle.blocks.specs.Steps.{blocksFault, countsIn, countsOf, tablesFault}
 use Rattle.blocks.proofs.Counting.{counts-with, counts-more, Holds, good-holds, blocks-before, Few, few-counts, counts-most}
 use Rattle.blocks.proofs.Order.{length-whole, tables-fit}
 use Rattle.block_files.specs.Steps.{BlockFits, Fitting}

@@ -3,9 +3,8 @@ use mathlib.Core.Path.{_≡_}
 use mathlib.Core.List.{List}
 use mathlib.Core.Option.{none}
 use Prim.Native.Nat.{ℕ, _+_, _*_, _≤_}
-use Rattle.blocks.specs.Blocks.{countOf}
-use Rattle.blocks.specs.Files.{blockAt, blockCount, blocksFault}
-use Rattle.blocks.specs.Steps.{countsOf}
+use Rattle.blocks.specs.Files.{blockAt, blockCount}
+use Rattle.blocks.specs.Steps.{blocksFault, countOf, countsOf}
 use Rattle.blocks.specs.declared.Head.{Head}
 use Rattle.blocks.specs.declared.Counts.{Counts}
 

@@ -4,11 +4,11 @@ ghost use Prim.Native.Nat.{_+_, _*_, _/_, _%_, _<_, _≤_};
 ghost use lib.ListN.{length};
 ghost use lib.Seq.{sets};
 ghost use Rattle.base.specs.Buffers.{written};
-ghost use Rattle.tables.specs.Refusals.{verdictOf};
+ghost use Rattle.tables.specs.Refusals.{verdictOf, unlessRefused};
 ghost use Rattle.blocks.specs.Blocks.{headOf, rowOf, joined, said};
-ghost use Rattle.blocks.specs.Files.{blockCount, blockAt, blocksFault, lengthFault, tableOf};
-ghost use Rattle.blocks.specs.Reads.{tablesFault, answerOf, ReadDone};
-ghost use Rattle.blocks.specs.Steps.{countsOf, countsWith};
+ghost use Rattle.blocks.specs.Files.{blockCount, blockAt, lengthFault, tableOf, pictureOf};
+ghost use Rattle.blocks.specs.Reads.{rowCounts, readFault, answerOf};
+ghost use Rattle.blocks.specs.Steps.{blocksFault, countsOf, countsWith, tablesFault};
 ghost use Rattle.block_files.specs.Steps.{BlockFits, Fitting};
 use block_reader::head_of;
 use blocks::ArrowRecord;
@@ -158,8 +158,18 @@ fn write_blocks(file: &[u8], boxes: &mut [u8], rows: &mut [u16], arrows: &mut [u
 
 // Reads a block file into three lent tables. One pass over the blocks checks, a second one writes.
 pub fn read(file: &[u8], boxes: &mut [u8], rows: &mut [u16], arrows: &mut [u16]) -> Reading
-    ensures { λ r. ⌜ ReadDone (now (file .entry)) (now (boxes .entry)) (now (rows .entry)) (now (arrows .entry)) (now (boxes .exit))
-        (now (rows .exit)) (now (arrows .exit)) r ⌝ }
+    ensures { λ r. ⌜ (let fault = readFault (now (file .entry)) (length (now (boxes .entry))) (length (now (rows .entry)))
+        (length (now (arrows .entry))) in
+        r ≡ answerOf fault (rowCounts (pictureOf (now (file .entry))))) ⌝ }
+    ensures { λ _. ⌜ (let fault = readFault (now (file .entry)) (length (now (boxes .entry))) (length (now (rows .entry)))
+        (length (now (arrows .entry))) in
+        now (boxes .exit) ≡ unlessRefused fault (pictureOf (now (file .entry)) .boxes) (now (boxes .entry))) ⌝ }
+    ensures { λ _. ⌜ (let fault = readFault (now (file .entry)) (length (now (boxes .entry))) (length (now (rows .entry)))
+        (length (now (arrows .entry))) in
+        now (rows .exit) ≡ unlessRefused fault (pictureOf (now (file .entry)) .rows) (now (rows .entry))) ⌝ }
+    ensures { λ _. ⌜ (let fault = readFault (now (file .entry)) (length (now (boxes .entry))) (length (now (rows .entry)))
+        (length (now (arrows .entry))) in
+        now (arrows .exit) ≡ unlessRefused fault (pictureOf (now (file .entry)) .arrows) (now (arrows .entry))) ⌝ }
 {
     let length = check_length(file.len());
     if let Verdict::Refused(r) = length {

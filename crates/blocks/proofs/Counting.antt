@@ -16,13 +16,14 @@ use Rattle.base.proofs.Tests.{not-false}
 use Rattle.base.proofs.SearchLaws.{first-none, first-nothing, first-more, first-here, given-none}
 use Rattle.base.proofs.BufferLaws.{written-run}
 use Rattle.tables.proofs.TableLaws.{both-none}
-use Rattle.blocks.specs.Blocks.{headOf, byKind, capacity, recordSize, rowOf, countOf, joined, said, wrongHead, blockFault}
-use Rattle.blocks.specs.Files.{kindBefore, blocksFault}
+use Rattle.blocks.specs.Blocks.{headOf, byKind, capacity, recordSize, rowOf, joined, said, wrongHead, blockFault}
+use Rattle.blocks.specs.Files.{kindBefore}
 use Rattle.blocks.specs.Reads.{rowCounts}
-use Rattle.blocks.specs.Steps.{tableIn, countsIn, noCounts, countsWith}
+use Rattle.blocks.specs.Steps.{blocksFault, countOf, tableIn, countsIn, noCounts, countsWith}
 use Rattle.blocks.specs.declared.Head.{Head}
 use Rattle.blocks.specs.declared.Counts.{Counts}
 use Rattle.blocks.proofs.Placing.{joined-length, joined-most}
+use Rattle.blocks.proofs.RowLaws.{said-is}
 
 -- one block more in a table
 table-more : (f : ℕ → List ℕ) (old : List ℕ) (k n i : ℕ) → k < n → length (joined f n) ≤ length old → i ≡ length (joined f k)
@@ -35,16 +36,16 @@ table-more f old k n i h l e =
 
 -- how long what a block says of each table is
 boxes-said : (b : List ℕ) → length (said 1 b) ≡ countOf 1 (headOf b)
-unfolding said rowOf recordSize byKind
-boxes-said b = let e = joined-length (rowOf 1 b) 1 (countOf 1 (headOf b)) (λ k h. refl) in omega arith
+unfolding rowOf recordSize byKind
+boxes-said b = rw (said-is b 1) (let e = joined-length (rowOf 1 b) 1 (countOf 1 (headOf b)) (λ k h. refl) in omega arith)
 
 rows-said : (b : List ℕ) → length (said 2 b) ≡ 2 * countOf 2 (headOf b)
-unfolding said rowOf recordSize byKind
-rows-said b = joined-length (rowOf 2 b) 2 (countOf 2 (headOf b)) (λ k h. refl)
+unfolding rowOf recordSize byKind
+rows-said b = rw (said-is b 2) (joined-length (rowOf 2 b) 2 (countOf 2 (headOf b)) (λ k h. refl))
 
 arrows-said : (b : List ℕ) → length (said 3 b) ≡ 4 * countOf 3 (headOf b)
-unfolding said rowOf recordSize byKind
-arrows-said b = joined-length (rowOf 3 b) 4 (countOf 3 (headOf b)) (λ k h. refl)
+unfolding rowOf recordSize byKind
+arrows-said b = rw (said-is b 3) (joined-length (rowOf 3 b) 4 (countOf 3 (headOf b)) (λ k h. refl))
 
 half-more : (l c : ℕ) → (l + 2 * c) / 2 ≡ l / 2 + c
 half-more l c = omega arith

@@ -15,11 +15,12 @@ use Rattle.base.proofs.SearchLaws.{given-none}
 use Rattle.tables.proofs.TableLaws.{both-none}
 use Rattle.base.proofs.BufferLaws.{zeros-is}
 use Rattle.blocks.specs.Fnv.{fnv1a}
-use Rattle.blocks.specs.Blocks.{number16, headOf, capacity, recordSize, wrongCheck, wrongHead, allZero, wrongFiller, blockFault}
+use Rattle.blocks.specs.Blocks.{number16, headOf, capacity, recordSize, wrongCheck, wrongHead, wrongFiller, blockFault}
 use Rattle.blocks.specs.Files.{blockCount, blockAt, kindBefore, lengthFault, fileFault}
-use Rattle.blocks.specs.Steps.{number32}
+use Rattle.blocks.specs.Steps.{number32, blocksFault, recordsEnd, allZero}
 use Rattle.blocks.specs.declared.Head.{Head}
 use Rattle.blocks.proofs.Counting.{block-good}
+use Rattle.blocks.proofs.Filler.{filler-is}
 use Rattle.blocks.proofs.MadeBlocks.{headMade, kind-after}
 use Rattle.blocks.proofs.Order.{length-whole}
 use Rattle.blocks.proofs.Parts.{byte-at}
@@ -129,7 +130,7 @@ pub record Good (before place kind count : ℕ) (block : List ℕ) : Type 0 wher
 
 good-block : (before place : ℕ) (block : List ℕ) → length block ≡ 512 → blockFault before place block ≡ none
     → Good before place (headOf block .kind) (headOf block .count) block
-unfolding blockFault wrongCheck wrongFiller number32
+unfolding blockFault wrongCheck number32 recordsEnd
 good-block before place block whole e =
     let head = headOf block in
     let part = drop (8 + recordSize (head .kind) * (head .count)) (take 508 block) in
@@ -137,7 +138,8 @@ good-block before place block whole e =
     let two = both-none _ _ (one .1) in
     let c : not (eqb (fnv1a (take 508 block)) (number32 block 508)) ≡ false = not-T-false _ (given-none _ _ (one .0)) in
     let r = right-head before place head (not-T-false _ (given-none _ _ (two .0))) in
-    let z = all-zeros part (not-false (allZero part) (not-T-false _ (given-none _ _ (two .1)))) in
+    let w : wrongFiller head block ≡ false = not-T-false _ (given-none _ _ (two .1)) in
+    let z = all-zeros part (not-false (allZero part) (sym (filler-is head block) ∙ w)) in
     let l : length part ≡ 500 - recordSize (head .kind) * (head .count) = simp (length-drop, length-take) (omega arith) in
     record {
       low = r .low;
@@ -161,12 +163,12 @@ module _ (file : List ℕ) where
 
   module _ (good : fileFault file ≡ none) where
     pub file-some : 0 < blockCount file
-    unfolding fileFault
+    unfolding fileFault blocksFault
     file-some = length-some (length file) (both-none _ _ good .0)
 
     pub file-block : (k : ℕ) → k < blockCount file
         → Good (kindBefore (blockAt file) k) k (headOf (blockAt file k) .kind) (headOf (blockAt file k) .count) (blockAt file k)
-    unfolding fileFault
+    unfolding fileFault blocksFault
     file-block k h =
         good-block _ k (blockAt file k) (block-whole k h)
         (block-good (blockAt file) k (blockCount file) h (both-none _ _ good .1))

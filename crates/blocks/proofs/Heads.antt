@@ -10,8 +10,9 @@ use lib.Bits.{bitOr, or-add-and, and-le-l, and-le-r}
 use lib.Dec.{eqb}
 use lib.ListN.{length, getD, drop}
 use lib.Seq.{drop-cons}
-use Rattle.blocks.specs.Blocks.{headOf, byKind, countOf, allZero}
+use Rattle.blocks.specs.Blocks.{headOf, byKind}
 use Rattle.blocks.specs.Files.{kindBefore}
+use Rattle.blocks.specs.Steps.{countOf, allZero}
 use Rattle.blocks.specs.declared.Head.{Head}
 
 cond-most : (t : Bool) {a b m : ℕ} → a ≤ m → b ≤ m → cond t a b ≤ m

@@ -4,6 +4,7 @@ pub mod Parts
 pub mod Placing
 pub mod JoinedLaws
 pub mod Heads
+pub mod Filler
 pub mod Counting
 pub mod RowLaws
 pub mod Order

@@ -12,15 +12,15 @@ use lib.Seq.{take-add, take-length, take-all, drop-at, drop-append-le, take-appe
 use Rattle.base.proofs.SearchLaws.{first-same}
 use Rattle.base.proofs.Options.{past}
 use Rattle.blocks.specs.Blocks.{headOf, joined, said}
-use Rattle.blocks.specs.Files.{blockCount, blockAt, kindBefore, blocksFault, lengthFault, fileFault, tableOf}
-use Rattle.blocks.specs.Reads.{rowCounts, tablesFault, readFault}
-use Rattle.blocks.specs.Steps.{tableIn, countsIn, countsOf}
+use Rattle.blocks.specs.Files.{blockCount, blockAt, kindBefore, lengthFault, fileFault, tableOf}
+use Rattle.blocks.specs.Reads.{rowCounts, readFault}
+use Rattle.blocks.specs.Steps.{blocksFault, tableIn, countsIn, countsOf, tablesFault}
 use Rattle.tables.proofs.TableLaws.{both-none}
 use Rattle.blocks.proofs.Order.{length-whole, length-good}
 use Rattle.blocks.proofs.Placing.{joined-length}
 
 pub good-whole : (file : List ℕ) → fileFault file ≡ none → length file % 512 ≡ 0
-unfolding fileFault
+unfolding fileFault blocksFault
 good-whole file e = length-whole (length file) (both-none _ _ e .0) .0
 
 -- lists that agree at each number below n
@@ -100,7 +100,7 @@ module _ (blocks : ℕ → List ℕ) (n : ℕ) (whole : (k : ℕ) → k < n → 
   made-counts = rw (made-count blocks n whole) (same-counts _ blocks n same)
 
   pub made-good : 0 < n → n ≤ 64 → blocksFault blocks n ≡ none → fileFault (joined blocks n) ≡ none
-  unfolding fileFault
+  unfolding fileFault blocksFault
   made-good most few good =
       let l : lengthFault (length (joined blocks n)) ≡ none = rw (made-length blocks n whole) (length-good (512 * n) (omega arith) (omega arith) (omega arith)) in
       let f : blocksFault (blockAt (joined blocks n)) (blockCount (joined blocks n)) ≡ none = rw (made-count blocks n whole) (same-faults _ blocks n same ∙ good) in
@@ -109,5 +109,5 @@ module _ (blocks : ℕ → List ℕ) (n : ℕ) (whole : (k : ℕ) → k < n → 
   -- reading it is refused only by 2 and 9
   pub made-read : 0 < n → n ≤ 64 → blocksFault blocks n ≡ none → (boxes rows arrows : ℕ)
       → readFault (joined blocks n) boxes rows arrows ≡ tablesFault (countsIn blocks n) boxes rows arrows
-  unfolding readFault
+  unfolding readFault tablesFault
   made-read most few good boxes rows arrows = rw made-counts (past _ _ (made-good most few good))

@@ -16,16 +16,17 @@ use Rattle.base.proofs.BufferLaws.{zeros-is}
 use Rattle.base.proofs.SearchLaws.{given-false, first-zero}
 use Rattle.base.proofs.Options.{past}
 use Rattle.blocks.specs.Fnv.{fnvFold, fnv1a}
-use Rattle.blocks.specs.Blocks.{number16, headOf, byKind, capacity, recordSize, rowOf, countOf, joined, said, wrongCheck, wrongHead}
-use Rattle.blocks.specs.Blocks.{allZero, wrongFiller, blockFault}
-use Rattle.blocks.specs.Files.{kindBefore, blocksFault}
-use Rattle.blocks.specs.Reads.{rowCounts, tablesFault}
-use Rattle.blocks.specs.Steps.{number32, tableIn, countsIn}
+use Rattle.blocks.specs.Blocks.{number16, headOf, byKind, capacity, recordSize, rowOf, joined, said, wrongCheck, wrongHead}
+use Rattle.blocks.specs.Blocks.{wrongFiller, blockFault}
+use Rattle.blocks.specs.Files.{kindBefore}
+use Rattle.blocks.specs.Reads.{rowCounts}
+use Rattle.blocks.specs.Steps.{blocksFault, number32, recordsEnd, countOf, allZero, tableIn, countsIn, tablesFault}
 use Rattle.blocks.specs.declared.Head.{Head}
 use Rattle.blocks.specs.declared.Counts.{Counts}
 use Rattle.blocks.proofs.Counting.{blocks-more}
+use Rattle.blocks.proofs.Filler.{filler-is}
 use Rattle.blocks.proofs.JoinedLaws.{joined-none}
-use Rattle.blocks.proofs.RowLaws.{box-row-is, containment-row-is, arrow-row-is}
+use Rattle.blocks.proofs.RowLaws.{box-row-is, containment-row-is, arrow-row-is, said-is}
 use Rattle.blocks.proofs.Made.{joined-same}
 
 -- ---- by kind
@@ -128,13 +129,11 @@ module _ (block : List ℕ) (kind number count : ℕ) (head : headOf block ≡ h
 
   -- nothing, where it is of another kind
   pub no-rows : (other : ℕ) → (kind ≡ other → ⊥) → said other block ≡ []
-  unfolding said
-  no-rows other n = ap (joined (rowOf other block)) (count-other other n) ∙ joined-none (rowOf other block)
+  no-rows other n = said-is block other ∙ ap (joined (rowOf other block)) (count-other other n) ∙ joined-none (rowOf other block)
 
   -- else its rows
   pub rows-are : (f : ℕ → List ℕ) → ((j : ℕ) → j < count → rowOf kind block j ≡ f j) → said kind block ≡ joined f count
-  unfolding said
-  rows-are f e = ap (joined (rowOf kind block)) count-own ∙ joined-same (rowOf kind block) f count e
+  rows-are f e = said-is block kind ∙ ap (joined (rowOf kind block)) count-own ∙ joined-same (rowOf kind block) f count e
 
 -- ---- no fault
 
@@ -151,8 +150,8 @@ head-right before place kind count low high after fits =
 
 filler-right : (place kind count filler : ℕ) (block : List ℕ) → drop (8 + recordSize kind * count) (take 508 block) ≡ zeros filler
     → wrongFiller (headMade kind place count) block ≡ false
-unfolding wrongFiller
-filler-right place kind count filler block e = rw (e, ← zeros-is, zeros-zero)
+unfolding recordsEnd
+filler-right place kind count filler block e = rw (filler-is, e, ← zeros-is, zeros-zero)
 
 -- a block of a kind with a right head, a right check, and zero filler, after blocks of no higher kind
 pub block-passed : (before place kind count filler : ℕ) (block : List ℕ) → headOf block ≡ headMade kind place count

@@ -17,9 +17,9 @@ use Rattle.base.proofs.Tests.{T-or₁, T-or₂}
 use Rattle.base.proofs.SearchLaws.{given-none, given-false}
 use Rattle.tables.proofs.TableLaws.{both-none, not-not, room-passed}
 use Rattle.base.proofs.Options.{past, stop}
-use Rattle.blocks.specs.Files.{blockCount, blockAt, blocksFault, lengthFault, fileFault, tableOf}
-use Rattle.blocks.specs.Reads.{tablesFault, readFault, answerOf, ReadDone}
-use Rattle.blocks.specs.Steps.{countsOf}
+use Rattle.blocks.specs.Files.{blockCount, blockAt, lengthFault, fileFault, tableOf}
+use Rattle.blocks.specs.Reads.{readFault, answerOf}
+use Rattle.blocks.specs.Steps.{blocksFault, countsOf, tablesFault, ReadDone}
 use Rattle.blocks.specs.declared.Counts.{Counts}
 use Rattle.blocks.specs.declared.Reading.the-variants.{Tables, Refused}
 
@@ -56,17 +56,17 @@ length-good len p e h = given-false _ _ (rw (ne-eqb len 0 (λ z. omega arith), e
 module _ (file : List ℕ) (boxes rows arrows : ℕ) where
   -- the checks in turn
   pub by-length : {r : Refusal} → lengthFault (length file) ≡ some r → readFault file boxes rows arrows ≡ some r
-  unfolding readFault fileFault
+  unfolding readFault fileFault blocksFault
   by-length e = stop _ _ (stop _ _ e)
 
   module _ (whole : lengthFault (length file) ≡ none) where
     pub by-blocks : {r : Refusal} → blocksFault (blockAt file) (blockCount file) ≡ some r → readFault file boxes rows arrows ≡ some r
-    unfolding readFault fileFault
+    unfolding readFault fileFault blocksFault
     by-blocks e = stop _ _ (past _ _ whole ∙ e)
 
     module _ (good : blocksFault (blockAt file) (blockCount file) ≡ none) where
       pub by-tables : readFault file boxes rows arrows ≡ tablesFault (countsOf file) boxes rows arrows
-      unfolding readFault fileFault
+      unfolding readFault tablesFault fileFault blocksFault
       by-tables = past _ _ (past _ _ whole ∙ good)
 
 -- 2 first, then 9 for each table
@@ -95,21 +95,11 @@ module _ (counts : Counts) (boxes rows arrows : ℕ) where
 -- a refusal leaves the tables as they were
 pub read-refused : (file boxes rows arrows : List ℕ) {r : Refusal} → readFault file (length boxes) (length rows) (length arrows) ≡ some r
     → ReadDone file boxes rows arrows boxes rows arrows (Refused r)
-read-refused file boxes rows arrows e = record {
-  answer = rw e;
-  boxes-end = rw e;
-  rows-end = rw e;
-  arrows-end = rw e;
-}
+read-refused file boxes rows arrows e = (rw e, (rw e, (rw e, rw e)))
 
 -- else the row counts are answered
 pub read-done : (file boxes rows arrows boxesEnd rowsEnd arrowsEnd : List ℕ) (counts : Counts)
     → readFault file (length boxes) (length rows) (length arrows) ≡ none → countsOf file ≡ counts
     → boxesEnd ≡ written (tableOf 1 file) boxes → rowsEnd ≡ written (tableOf 2 file) rows → arrowsEnd ≡ written (tableOf 3 file) arrows
     → ReadDone file boxes rows arrows boxesEnd rowsEnd arrowsEnd (Tables counts)
-read-done file boxes rows arrows boxesEnd rowsEnd arrowsEnd counts e c p q r = record {
-  answer = rw (e, c);
-  boxes-end = rw e p;
-  rows-end = rw e q;
-  arrows-end = rw e r;
-}
+read-done file boxes rows arrows boxesEnd rowsEnd arrowsEnd counts e c p q r = (rw (e, c), (rw e p, (rw e q, rw e r)))

@@ -1,12 +1,14 @@
 -- The rows that a block says of each table: by its bytes, and stored one after the other. Assumes nothing.
 use mathlib.Core.Path.{_≡_, refl}
+use mathlib.Core.Bool.{Bool, true, false, cond}
 use mathlib.Core.List.{List, [], _∷_}
 use Prim.Native.Nat.{ℕ, _+_, _*_}
 use native.Mathlib.Omega.{arith}
+use lib.Dec.{eqb}
 use lib.ListN.{getD}
 use lib.Seq.{sets}
-use Rattle.blocks.specs.Blocks.{number16, headOf, byKind, recordSize, rowOf, countOf, joined, said}
-use Rattle.blocks.specs.Steps.{boxRecord, containmentRecord, arrowRecord}
+use Rattle.blocks.specs.Blocks.{number16, headOf, byKind, recordSize, rowOf, joined, said}
+use Rattle.blocks.specs.Steps.{countOf, boxRecord, containmentRecord, arrowRecord}
 use Rattle.blocks.proofs.Placing.{put-more}
 
 -- the numbers of record j by the block's bytes
@@ -50,8 +52,12 @@ arrow-record block j = rw (arrow-row-is block j)
 module _ (block : List ℕ) where
   -- as many rows as the block has records of the table's kind
   pub said-is : (kind : ℕ) → said kind block ≡ joined (rowOf kind block) (countOf kind (headOf block))
-  unfolding said
-  said-is kind = refl
+  unfolding said countOf joined
+  said-is kind = go (eqb (headOf block .kind) kind)
+    where
+      go : (t : Bool) → cond t (joined (rowOf kind block) (headOf block .count)) [] ≡ joined (rowOf kind block) (cond t (headOf block .count) 0)
+      go true = refl
+      go false = refl
 
   -- one record more
   module _ (l : List ℕ) (at j i : ℕ) where

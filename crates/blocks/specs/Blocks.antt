@@ -1,11 +1,11 @@
 -- Document 01, "Block files": what a block of 512 bytes says, and what is wrong with it. Assumes nothing.
-use mathlib.Core.Bool.{Bool, true, not, cond, _&&_, _||_}
+use mathlib.Core.Bool.{Bool, not, cond, _||_}
 use mathlib.Core.List.{List, [], _∷_, _++_}
 use mathlib.Core.Option.{Option}
 use Prim.Native.Nat.{ℕ, zero, suc, _+_, _*_}
-use lib.Dec.{eqb, ltb}
-use lib.ListN.{getD, take, drop}
-use Rattle.base.specs.Search.{orElse, given}
+use lib.Dec.{eqb, ltb, leb}
+use lib.ListN.{getD, take}
+use Rattle.base.specs.Search.{implies, orElse, given, every}
 use Rattle.tables.specs.Refusals.{badBlock}
 use Rattle.tables.specs.declared.Refusal.{Refusal}
 use Rattle.blocks.specs.Fnv.{fnv1a}
@@ -46,18 +46,14 @@ rowOf kind block j =
     (cond (eqb kind 2) (number16 block at ∷ number16 block (at + 2) ∷ [])
     (number16 block at ∷ number16 block (at + 2) ∷ getD block (at + 4) 0 ∷ getD block (at + 5) 0 ∷ []))
 
--- how many records of a kind a block has
-unfoldable pub countOf : (kind : ℕ) (head : Head) → ℕ
-countOf kind head = cond (eqb (head .kind) kind) (head .count) 0
-
 -- f 0, f 1, .., n lists one after the other
 unfoldable pub joined : (f : ℕ → List ℕ) (n : ℕ) → List ℕ
 joined f zero = []
 joined f (suc n) = joined f n ++ f n
 
--- what a block says of the table of a kind: the rows of its records, in order
+-- what a block says of the table of a kind: the rows of its records, in order, if it is of that kind, else nothing
 unfoldable pub said : (kind : ℕ) (block : List ℕ) → List ℕ
-said kind block = joined (rowOf kind block) (countOf kind (headOf block))
+said kind block = cond (eqb (headOf block .kind) kind) (joined (rowOf kind block) (headOf block .count)) []
 
 -- 15: the check in bytes 508 to 511 isn't that of bytes 0 to 507
 unfoldable pub wrongCheck : (block : List ℕ) → Bool
@@ -72,12 +68,8 @@ wrongHead before place head =
     || not (eqb (head .number) place) || ltb (capacity (head .kind)) (head .count)
 
 -- 17: a byte of the filler, from behind the records to byte 507, is not zero
-unfoldable pub allZero : (bytes : List ℕ) → Bool
-allZero [] = true
-allZero (x ∷ xs) = eqb x 0 && allZero xs
-
 unfoldable pub wrongFiller : (head : Head) (block : List ℕ) → Bool
-wrongFiller head block = not (allZero (drop (8 + recordSize (head .kind) * head .count) (take 508 block)))
+wrongFiller head block = not (every (λ k. implies (leb (8 + recordSize (head .kind) * head .count) k) (eqb (getD block k 0) 0)) 508)
 
 -- 15, 16, 17 of the block at a place, by the kind of the block before
 unfoldable pub blockFault : (before place : ℕ) (block : List ℕ) → Option Refusal

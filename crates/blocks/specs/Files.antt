@@ -23,17 +23,14 @@ unfoldable pub kindBefore : (blocks : ℕ → List ℕ) (k : ℕ) → ℕ
 kindBefore blocks zero = 0
 kindBefore blocks (suc k) = headOf (blocks k) .kind
 
--- for each of n blocks in turn 15, 16, 17
-unfoldable pub blocksFault : (blocks : ℕ → List ℕ) (n : ℕ) → Option Refusal
-blocksFault blocks n = first (λ k. blockFault (kindBefore blocks k) k (blocks k)) n
-
 -- 14: file length 0, not a multiple of 512, or above 32,768
 unfoldable pub lengthFault : (len : ℕ) → Option Refusal
 lengthFault len = given (eqb len 0 || not (eqb (len % 512) 0) || ltb 32768 len) (badLength len)
 
 -- 14, then for each block in turn 15, 16, 17
 unfoldable pub fileFault : (file : List ℕ) → Option Refusal
-fileFault file = orElse (lengthFault (length file)) (blocksFault (blockAt file) (blockCount file))
+fileFault file =
+    orElse (lengthFault (length file)) (first (λ k. blockFault (kindBefore (blockAt file) k) k (blockAt file k)) (blockCount file))
 
 -- the table of a kind: what the blocks say of it, in order
 abbrev pub tableOf : (kind : ℕ) (file : List ℕ) → List ℕ

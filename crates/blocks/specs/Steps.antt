@@ -1,16 +1,25 @@
 -- What the inner functions of reading promise each other; what reading a file promises does not speak of it. Assumes nothing.
-use mathlib.Core.List.{List}
+use mathlib.Core.Path.{_≡_}
+use mathlib.Core.Bool.{Bool, true, cond, _&&_}
+use mathlib.Core.List.{List, [], _∷_}
+use mathlib.Core.Option.{Option}
 use Prim.Native.Nat.{ℕ, _+_, _*_}
-use lib.ListN.{getD}
+use lib.Dec.{eqb}
+use lib.ListN.{length, getD}
+use Rattle.base.specs.Search.{first, orElse}
 use Rattle.tables.specs.Rows.{picture}
-use Rattle.blocks.specs.Blocks.{number16, recordSize, rowOf, countOf, joined, said}
-use Rattle.blocks.specs.Files.{pictureOf}
-use Rattle.blocks.specs.Reads.{rowCounts}
+use Rattle.tables.specs.Refusals.{unlessRefused}
+use Rattle.tables.specs.Faults.{countFault, roomFault}
+use Rattle.tables.specs.declared.Refusal.{Refusal}
+use Rattle.blocks.specs.Blocks.{number16, recordSize, rowOf, joined, said, blockFault}
+use Rattle.blocks.specs.Files.{kindBefore, pictureOf}
+use Rattle.blocks.specs.Reads.{rowCounts, readFault, answerOf}
 use Rattle.blocks.specs.declared.Head.{Head}
 use Rattle.blocks.specs.declared.BoxRecord.{BoxRecord}
 use Rattle.blocks.specs.declared.ContainmentRecord.{ContainmentRecord}
 use Rattle.blocks.specs.declared.ArrowRecord.{ArrowRecord}
 use Rattle.blocks.specs.declared.Counts.{Counts}
+use Rattle.blocks.specs.declared.Reading.{Reading}
 
 -- the number of 32 bits that begins at a byte, little-endian
 unfoldable pub number32 : (block : List ℕ) (at : ℕ) → ℕ
@@ -19,6 +28,15 @@ number32 block at = number16 block at + 65536 * number16 block (at + 2)
 -- the byte after the records
 unfoldable pub recordsEnd : (head : Head) → ℕ
 recordsEnd head = 8 + recordSize (head .kind) * head .count
+
+-- how many records of a kind the block has
+unfoldable pub countOf : (kind : ℕ) (head : Head) → ℕ
+countOf kind head = cond (eqb (head .kind) kind) (head .count) 0
+
+-- every byte is zero
+unfoldable pub allZero : (bytes : List ℕ) → Bool
+allZero [] = true
+allZero (x ∷ xs) = eqb x 0 && allZero xs
 
 -- record j of each kind, by the numbers of its row
 unfoldable pub boxRecord : (block : List ℕ) (j : ℕ) → BoxRecord
@@ -34,6 +52,10 @@ arrowRecord block j = record {
   mode = getD (rowOf 3 block j) 2 0;
   sign = getD (rowOf 3 block j) 3 0;
 }
+
+-- for each of n blocks in turn 15, 16, 17: `fileFault` has that of a file's blocks
+unfoldable pub blocksFault : (blocks : ℕ → List ℕ) (n : ℕ) → Option Refusal
+blocksFault blocks n = first (λ k. blockFault (kindBefore blocks k) k (blocks k)) n
 
 -- what n blocks say of the table of a kind: `tableOf` is that of a file's blocks
 abbrev pub tableIn : (kind : ℕ) (blocks : ℕ → List ℕ) (n : ℕ) → List ℕ
@@ -61,3 +83,20 @@ countsWith counts head = record {
   containments = counts .containments + countOf 2 head;
   arrows = counts .arrows + countOf 3 head;
 }
+
+-- 2, then 9, by the row counts: what `readFault` finds in a good file
+unfoldable pub tablesFault : (counts : Counts) (boxes rows arrows : ℕ) → Option Refusal
+tablesFault counts boxes rows arrows =
+    orElse (countFault (counts .boxes) (counts .containments) (counts .arrows))
+    (orElse (roomFault 5 boxes (counts .boxes))
+    (orElse (roomFault 6 rows (2 * counts .containments))
+    (roomFault 7 arrows (4 * counts .arrows))))
+
+-- what reading promises of its answer and of the three tables at the end, in the words of its contract
+abbrev pub ReadDone : (file boxes rows arrows boxesEnd rowsEnd arrowsEnd : List ℕ) (r : Reading) → Type 0
+ReadDone file boxes rows arrows boxesEnd rowsEnd arrowsEnd r =
+    let fault = readFault file (length boxes) (length rows) (length arrows) in
+    (r ≡ answerOf fault (rowCounts (pictureOf file)))
+    × ((boxesEnd ≡ unlessRefused fault (pictureOf file .boxes) boxes)
+    × ((rowsEnd ≡ unlessRefused fault (pictureOf file .rows) rows)
+    × (arrowsEnd ≡ unlessRefused fault (pictureOf file .arrows) arrows)))

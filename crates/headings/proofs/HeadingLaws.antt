@@ -1,5 +1,5 @@
 -- The stages of the call: a refusal by checks 1 to 7, one by check 9, and none. Assumes nothing.
-use mathlib.Core.Path.{_≡_, _∙_}
+use mathlib.Core.Path.{_≡_, refl, _∙_}
 use mathlib.Core.List.{List, []}
 use mathlib.Core.Option.{Option, none, some}
 use Prim.Native.Nat.{ℕ, _≤_}
@@ -20,6 +20,16 @@ use Rattle.base.proofs.Options.{past, stop}
 use Rattle.headings.specs.Calls.{headingsOf, headingFault, usersAfter, filesAfter}
 use Rattle.headings.specs.declared.Headings.{Headings}
 use Rattle.headings.specs.declared.Headings.the-variants.{Written, Refused}
+
+-- the answer by the fault
+pub headings-written : (boxes rows : List ℕ)
+    → headingsOf boxes rows none ≡ Written (length (atoms boxes rows user)) (length (atoms boxes rows file))
+unfolding headingsOf
+headings-written boxes rows = refl
+
+pub headings-refused : (boxes rows : List ℕ) (r : Refusal) → headingsOf boxes rows (some r) ≡ Refused r
+unfolding headingsOf
+headings-refused boxes rows r = refl
 
 module _ (boxes rows users files : List ℕ) where
   -- 9 for both buffers

@@ -1,2 +1,2 @@
--- Laws for the proofs of this crate.
+-- Laws for the proofs of this crate and of the crate above it.
 pub mod HeadingLaws

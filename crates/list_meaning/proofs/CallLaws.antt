@@ -45,6 +45,15 @@ module _ (pic : Picture) (m : ℕ) where
   unfolding listAnswer listedOf listAfter placesOf
   answered-none x e out = (rw (past none _ refl, e), rw e)
 
+  -- the answer by the fault of the whole call
+  pub list-written : (fault : Option Refusal) → orElse fault (orderFault pic m) ≡ none → listAnswer pic m fault ≡ Written (length (greedy pic m))
+  unfolding listAnswer listedOf
+  list-written fault e = rw e
+
+  pub list-refused : (fault : Option Refusal) (x : Refusal) → orElse fault (orderFault pic m) ≡ some x → listAnswer pic m fault ≡ Refused x
+  unfolding listAnswer listedOf
+  list-refused fault x e = rw e
+
   -- ---- checks 1 to 9
 
   module _ (s out work : List ℕ) where

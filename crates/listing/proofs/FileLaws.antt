@@ -19,7 +19,8 @@ use Rattle.scratch.specs.Scratch.{pictureFault}
 use Rattle.scratch.proofs.PictureLaws.{picture-room}
 use Rattle.meaning.specs.Cases.{picture-B}
 use Rattle.blocks.specs.Files.{pictureOf}
-use Rattle.blocks.specs.Reads.{readFault, ReadDone}
+use Rattle.blocks.specs.Reads.{readFault}
+use Rattle.blocks.specs.Steps.{ReadDone}
 use Rattle.blocks.specs.declared.Counts.{Counts as Three}
 use Rattle.blocks.specs.declared.Reading.the-variants.{Tables, Refused as Stops}
 use Rattle.blocks.proofs.Made.{joined-same}
@@ -147,10 +148,10 @@ module _ (file boxes rows arrows boxesEnd rowsEnd arrowsEnd : List ℕ)
 
   pub read-refused : {r : Refusal} → ReadDone file boxes rows arrows boxesEnd rowsEnd arrowsEnd (Stops r) → fileRefusal file ≡ some r
   unfolding fileRefusal
-  read-refused d = stop _ _ (sym fault-is ∙ read-stopped d)
+  read-refused d = stop _ _ (sym fault-is ∙ read-stopped file boxes rows arrows boxesEnd rowsEnd arrowsEnd d)
 
   pub read-good : {c : Three} → ReadDone file boxes rows arrows boxesEnd rowsEnd arrowsEnd (Tables c)
       → Read file (picture (take (c .boxes) boxesEnd) (take (2 * c .containments) rowsEnd) (take (4 * c .arrows) arrowsEnd))
   read-good d =
-      let read = read-tables d in
+      let read = read-tables file boxes rows arrows boxesEnd rowsEnd arrowsEnd d in
       record { picture-is = rw (read .boxes-read, read .rows-read, read .arrows-read); read = sym fault-is ∙ read .no-fault }

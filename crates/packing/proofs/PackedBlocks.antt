@@ -8,8 +8,8 @@ use native.Mathlib.Nat.{zero-add, add-assoc}
 use lib.ListN.{length, getD}
 use Rattle.tables.specs.Rows.{Picture, rowCount, rowAt, arrowCount, arrowAt}
 use Rattle.blocks.specs.Blocks.{capacity, joined, said}
-use Rattle.blocks.specs.Files.{kindBefore, blocksFault}
-use Rattle.blocks.specs.Steps.{tableIn}
+use Rattle.blocks.specs.Files.{kindBefore}
+use Rattle.blocks.specs.Steps.{blocksFault, tableIn}
 use Rattle.blocks.proofs.Made.{joined-same}
 use Rattle.blocks.proofs.MadeBlocks.{no-rows, none-before, run-more}
 use Rattle.packing.specs.Packed.{rowsOf, blocksOf, firstOf, countIn, kindBlock, kindBytes, packed}

@@ -8,13 +8,13 @@ use native.Mathlib.Omega.{arith}
 use lib.ListN.{length}
 use Rattle.base.specs.Buffers.{written}
 use Rattle.tables.specs.Rows.{Picture, rowCount, arrowCount}
+use Rattle.tables.specs.Refusals.{unlessRefused}
 use Rattle.tables.specs.Faults.{tableFault}
 use Rattle.tables.proofs.TableLaws.{room-enough, counts-few, sound-rows, sound-arrows}
 use Rattle.blocks.specs.Files.{fileFault, tableOf, pictureOf}
-use Rattle.blocks.specs.Reads.{readFault, ReadDone}
+use Rattle.blocks.specs.Reads.{rowCounts, readFault, answerOf}
 use Rattle.blocks.specs.Steps.{tableIn, countsOf}
 use Rattle.blocks.specs.declared.Counts.{Counts}
-use Rattle.blocks.specs.declared.Reading.{Reading}
 use Rattle.blocks.specs.declared.Reading.the-variants.{Tables}
 use Rattle.blocks.proofs.Made.{made-table, made-counts, made-good, made-read}
 use Rattle.blocks.proofs.MadeBlocks.{counts-in, tables-passed}
@@ -61,7 +61,7 @@ module _ (pic : Picture) (sound : tableFault pic ≡ none) where
       (made-counts _ _ (blocks-whole pic)
       ∙ counts-in _ _ (pic .boxes) (pic .rows) (pic .arrows) (boxes-packed pic) rows-said arrows-said)
 
-  -- P1: reading a packed file into buffers that suffice returns the same three tables
+  -- P1: reading a packed file into buffers that suffice answers the row counts and leaves the same three tables there
   module _ (b r a : List ℕ) (box-room : length (pic .boxes) ≤ length b) (row-room : length (pic .rows) ≤ length r)
       (arrow-room : length (pic .arrows) ≤ length a) where
     no-fault : readFault (packed pic) (length b) (length r) (length a) ≡ none
@@ -75,17 +75,19 @@ module _ (pic : Picture) (sound : tableFault pic ≡ none) where
         (counts-few _ _ _ (s .few-boxes) (s .few-rows) (t .few-arrows))
         (room-enough 5 _ _ box-room) (room-enough 6 _ _ (omega arith)) (room-enough 7 _ _ (omega arith))))
 
-  pub read-back : (b r a b' r' a' : List ℕ) (x : Reading)
-      → length (pic .boxes) ≤ length b → length (pic .rows) ≤ length r → length (pic .arrows) ≤ length a
-      → ReadDone (packed pic) b r a b' r' a' x
-      → (x ≡ Tables (record { boxes = length (pic .boxes); containments = rowCount (pic .rows); arrows = arrowCount (pic .arrows) }))
-      × (b' ≡ written (pic .boxes) b) × (r' ≡ written (pic .rows) r) × (a' ≡ written (pic .arrows) a)
-  read-back b r a b' r' a' x p q s d =
+  pub read-back : (b r a : List ℕ) → length (pic .boxes) ≤ length b → length (pic .rows) ≤ length r → length (pic .arrows) ≤ length a
+      → let fault = readFault (packed pic) (length b) (length r) (length a) in
+      (answerOf fault (rowCounts (pictureOf (packed pic)))
+      ≡ Tables (record { boxes = length (pic .boxes); containments = rowCount (pic .rows); arrows = arrowCount (pic .arrows) }))
+      × (unlessRefused fault (pictureOf (packed pic) .boxes) b ≡ written (pic .boxes) b)
+      × (unlessRefused fault (pictureOf (packed pic) .rows) r ≡ written (pic .rows) r)
+      × (unlessRefused fault (pictureOf (packed pic) .arrows) a ≡ written (pic .arrows) a)
+  read-back b r a p q s =
       let e = no-fault b r a p q s in (
-        (rw e at (d .answer)) ∙ ap (λ (c : Counts). Tables c) packed-counts,
-        (rw e at (d .boxes-end)) ∙ ap (λ (l : List ℕ). written l b) packed-boxes,
-        (rw e at (d .rows-end)) ∙ ap (λ (l : List ℕ). written l r) packed-containments,
-        (rw e at (d .arrows-end)) ∙ ap (λ (l : List ℕ). written l a) packed-arrows,
+        rw e (ap (λ (c : Counts). Tables c) packed-counts),
+        rw e (ap (λ (l : List ℕ). written l b) packed-boxes),
+        rw e (ap (λ (l : List ℕ). written l r) packed-containments),
+        rw e (ap (λ (l : List ℕ). written l a) packed-arrows),
       )
 
 -- P1: two pictures have the same packed bytes only if their tables are equal

@@ -1,18 +1,23 @@
 // The calls across the C boundary (`include/rights.h`): numbers and slices in, one reply out. A slice passes as a pointer and then
 // a length in elements.
 ghost use mathlib.Core.Path.{_≡_};
-ghost use Rattle.tables.specs.Rows.{picture};
-ghost use Rattle.tables.specs.Refusals.{verdictOf};
+ghost use lib.ListN.{length};
+ghost use Rattle.base.specs.Search.{orElse};
+ghost use Rattle.tables.specs.Rows.{picture, user as userSide, file as fileSide};
+ghost use Rattle.tables.specs.Refusals.{unlessRefused};
+ghost use Rattle.tables.specs.Atoms.{atoms};
 ghost use Rattle.scratch.specs.Scratch.{scratchAfter, earlyFault, modeEarly};
 ghost use Rattle.meaning.specs.Meaning.{answer};
-ghost use Rattle.answers.specs.Calls.{replyOf, entryFault, judgeFault, matrixEarly, matrixFault, bytesAfter, numbersAfter};
-ghost use Rattle.list_meaning.specs.Calls.{listEarly, listBefore, listAnswer, listAfter, workAfter};
-ghost use Rattle.headings.specs.Calls.{headingsOf, headingFault, usersAfter, filesAfter};
-ghost use Rattle.blocks.specs.Reads.{ReadDone};
-ghost use Rattle.packing.specs.Packs.{packAnswer, fileAfter};
-ghost use Rattle.rights_c.specs.Replies.{reply, doneReply, refusedReply, verdictReply, entryReply, askedReply};
-ghost use Rattle.rights_c.specs.Replies.{listReply, headingReply, readReply, packReply, version};
-ghost use Rattle.blocks.specs.declared.Reading.{Reading};
+ghost use Rattle.answers.specs.Calls.{entryFault, judgeFault, matrixEarly, matrixFault, bytesAfter, numbersAfter};
+ghost use Rattle.list_meaning.specs.Greedy.{greedy, orderFault};
+ghost use Rattle.list_meaning.specs.Calls.{listEarly, listBefore, listAfter, workAfter};
+ghost use Rattle.headings.specs.Calls.{headingFault, usersAfter, filesAfter};
+ghost use Rattle.blocks.specs.Files.{pictureOf};
+ghost use Rattle.blocks.specs.Reads.{rowCounts, readFault};
+ghost use Rattle.packing.specs.Packed.{packed};
+ghost use Rattle.packing.specs.Packs.{packFault, fileAfter};
+ghost use Rattle.rights_c.specs.Replies.{reply, doneReply, replyBy, entryReply, version};
+ghost use Rattle.rights_c.specs.Steps.{refusedReply, verdictReply, askedReply, listReply, headingReply, readReply, packReply};
 use blocks::Reading;
 use headings::Headings;
 use list_meaning::Listed;
@@ -140,7 +145,7 @@ pub extern "C" fn rights_judge(
     scratch: &mut [u8],
 ) -> Reply
     ensures { λ r. ⌜ (let pic = picture (now (boxes .entry)) (now (rows .entry)) (now (arrows .entry)) in
-        r ≡ verdictReply (verdictOf (judgeFault pic (now (scratch .entry))))) ⌝ }
+        r ≡ replyBy (judgeFault pic (now (scratch .entry))) (doneReply 0 0 0)) ⌝ }
     ensures { λ _. ⌜ (let pic = picture (now (boxes .entry)) (now (rows .entry)) (now (arrows .entry)) in
         now (scratch .exit) ≡ scratchAfter (earlyFault pic (now (scratch .entry))) (now (boxes .entry)) (now (rows .entry))
         (now (scratch .entry))) ⌝ }
@@ -159,7 +164,7 @@ pub extern "C" fn rights_entry(
     scratch: &mut [u8],
 ) -> Reply
     ensures { λ r. ⌜ (let pic = picture (now (boxes .entry)) (now (rows .entry)) (now (arrows .entry)) in
-        r ≡ askedReply (replyOf (entryFault pic (now (scratch .entry)) mode user file) (answer pic mode user file))) ⌝ }
+        r ≡ replyBy (entryFault pic (now (scratch .entry)) mode user file) (entryReply (answer pic mode user file))) ⌝ }
     ensures { λ _. ⌜ (let pic = picture (now (boxes .entry)) (now (rows .entry)) (now (arrows .entry)) in
         now (scratch .exit) ≡ scratchAfter (modeEarly pic (now (scratch .entry)) mode) (now (boxes .entry)) (now (rows .entry))
         (now (scratch .entry))) ⌝ }
@@ -178,7 +183,7 @@ pub extern "C" fn rights_matrix(
     numbers: &mut [u16],
 ) -> Reply
     ensures { λ r. ⌜ (let pic = picture (now (boxes .entry)) (now (rows .entry)) (now (arrows .entry)) in
-        r ≡ verdictReply (verdictOf (matrixFault pic (now (scratch .entry)) mode (now (bytes .entry)) (now (numbers .entry))))) ⌝ }
+        r ≡ replyBy (matrixFault pic (now (scratch .entry)) mode (now (bytes .entry)) (now (numbers .entry))) (doneReply 0 0 0)) ⌝ }
     ensures { λ _. ⌜ (let pic = picture (now (boxes .entry)) (now (rows .entry)) (now (arrows .entry)) in
         now (scratch .exit) ≡ scratchAfter (matrixEarly pic (now (scratch .entry)) mode (now (bytes .entry)) (now (numbers .entry)))
         (now (boxes .entry)) (now (rows .entry)) (now (scratch .entry))) ⌝ }
@@ -201,7 +206,8 @@ pub extern "C" fn rights_list(
     work: &mut [u8],
 ) -> Reply
     ensures { λ r. ⌜ (let pic = picture (now (boxes .entry)) (now (rows .entry)) (now (arrows .entry)) in
-        r ≡ listReply (listAnswer pic mode (listBefore pic mode (now (scratch .entry)) (now (list .entry)) (now (work .entry))))) ⌝ }
+        let before = listBefore pic mode (now (scratch .entry)) (now (list .entry)) (now (work .entry)) in
+        r ≡ replyBy (orElse before (orderFault pic mode)) (doneReply (length (greedy pic mode)) 0 0)) ⌝ }
     ensures { λ _. ⌜ (let pic = picture (now (boxes .entry)) (now (rows .entry)) (now (arrows .entry)) in
         now (scratch .exit) ≡ scratchAfter (listEarly pic mode (now (scratch .entry)) (now (list .entry)) (now (work .entry)))
         (now (boxes .entry)) (now (rows .entry)) (now (scratch .entry))) ⌝ }
@@ -222,8 +228,9 @@ pub extern "C" fn rights_atoms(
     users: &mut [u16],
     files: &mut [u16],
 ) -> Reply
-    ensures { λ r. ⌜ r ≡ headingReply (headingsOf (now (boxes .entry)) (now (rows .entry))
-        (headingFault (now (boxes .entry)) (now (rows .entry)) (now (users .entry)) (now (files .entry)))) ⌝ }
+    ensures { λ r. ⌜ r ≡ replyBy (headingFault (now (boxes .entry)) (now (rows .entry)) (now (users .entry)) (now (files .entry)))
+        (doneReply (length (atoms (now (boxes .entry)) (now (rows .entry)) userSide))
+        (length (atoms (now (boxes .entry)) (now (rows .entry)) fileSide)) 0) ⌝ }
     ensures { λ _. ⌜ now (users .exit)
         ≡ usersAfter (now (boxes .entry)) (now (rows .entry)) (now (users .entry)) (now (files .entry)) ⌝ }
     ensures { λ _. ⌜ now (files .exit)
@@ -239,9 +246,19 @@ pub extern "C" fn rights_read(
     rows: &mut [u16],
     arrows: &mut [u16],
 ) -> Reply
-    ensures { λ r. ⌜ ((x : Reading) × (r ≡ readReply x)
-        × ReadDone (now (file .entry)) (now (boxes .entry)) (now (rows .entry)) (now (arrows .entry)) (now (boxes .exit))
-        (now (rows .exit)) (now (arrows .exit)) x) ⌝ }
+    ensures { λ r. ⌜ (let fault = readFault (now (file .entry)) (length (now (boxes .entry))) (length (now (rows .entry)))
+        (length (now (arrows .entry))) in
+        let counts = rowCounts (pictureOf (now (file .entry))) in
+        r ≡ replyBy fault (doneReply (counts .boxes) (counts .containments) (counts .arrows))) ⌝ }
+    ensures { λ _. ⌜ (let fault = readFault (now (file .entry)) (length (now (boxes .entry))) (length (now (rows .entry)))
+        (length (now (arrows .entry))) in
+        now (boxes .exit) ≡ unlessRefused fault (pictureOf (now (file .entry)) .boxes) (now (boxes .entry))) ⌝ }
+    ensures { λ _. ⌜ (let fault = readFault (now (file .entry)) (length (now (boxes .entry))) (length (now (rows .entry)))
+        (length (now (arrows .entry))) in
+        now (rows .exit) ≡ unlessRefused fault (pictureOf (now (file .entry)) .rows) (now (rows .entry))) ⌝ }
+    ensures { λ _. ⌜ (let fault = readFault (now (file .entry)) (length (now (boxes .entry))) (length (now (rows .entry)))
+        (length (now (arrows .entry))) in
+        now (arrows .exit) ≡ unlessRefused fault (pictureOf (now (file .entry)) .arrows) (now (arrows .entry))) ⌝ }
 {
     of_reading(block_files::read(file, boxes, rows, arrows))
 }
@@ -249,14 +266,14 @@ pub extern "C" fn rights_read(
 #[no_mangle]
 pub extern "C" fn rights_pack(boxes: &[u8], rows: &[u16], arrows: &[u16], file: &mut [u8]) -> Reply
     ensures { λ r. ⌜ (let pic = picture (now (boxes .entry)) (now (rows .entry)) (now (arrows .entry)) in
-        r ≡ packReply (packAnswer pic (now (file .entry)))) ⌝ }
+        r ≡ replyBy (packFault pic (now (file .entry))) (doneReply (length (packed pic)) 0 0)) ⌝ }
     ensures { λ _. ⌜ (let pic = picture (now (boxes .entry)) (now (rows .entry)) (now (arrows .entry)) in
         now (file .exit) ≡ fileAfter pic (now (file .entry))) ⌝ }
 {
     of_packing(packer::pack(boxes, rows, arrows, file))
 }
 
-// The version of these calls: major 3, minor 1, patch 0, one byte each.
+// The version of these calls: major 4, minor 0, patch 0, one byte each.
 #[no_mangle]
 pub extern "C" fn rights_version() -> u32
     ensures { λ r. ⌜ r ≡ version ⌝ }

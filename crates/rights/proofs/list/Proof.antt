@@ -24,7 +24,8 @@ list-counted-requires c κs =
     let boxes = rows .before in
     let start = boxes .before .before in
     let done = rw (c .before .before .before .before .reading2 .given .1) at (read .read .ensures) in
-    let fits = read-fits done in
+    let fits =
+    read-fits (start .args .file .now) (boxes .box-bytes .result) (rows .table-numbers .result) (arrows .table-numbers2 .result) _ _ _ done in
     let good =
     read-good (start .args .file .now) (boxes .box-bytes .result) (rows .table-numbers .result) (arrows .table-numbers2 .result) _ _ _
     (boxes .box-bytes .ensures) (rows .table-numbers .ensures) (arrows .table-numbers2 .ensures) done in

@@ -1,11 +1,14 @@
 use mathlib.Core.Path.{ap, _∙_}
 use borrow.Author.Needs.{needs}
-use Rattle.rights_c.specs.Replies.{askedReply}
+use Rattle.rights_c.specs.Steps.{askedReply}
+use Rattle.rights_c.proofs.ReplyLaws.{asked-reply}
 use Rattle.rights_c.proofs.rights_entry.Statement.{statement}
 use Rattle.rights_c.proofs.rights_entry.Tie as tie
 
 returns : tie.Need-returns
-returns c = (c .of-asked .ensures ∙ ap askedReply (c .before .before .before .one-entry .ensures .0), c .before .before .before .one-entry .ensures .1)
+returns c =
+    let done = c .before .before .before .one-entry .ensures in
+    (c .of-asked .ensures ∙ ap askedReply (done .0) ∙ asked-reply _ _, done .1)
 
 pub rights-entry-spec : {M : Type 1} → statement M
 rights-entry-spec =

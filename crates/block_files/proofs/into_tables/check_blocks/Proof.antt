@@ -5,8 +5,8 @@ use Prim.Native.Nat.{_≤_, _-_}
 use native.Mathlib.Omega.{arith}
 use borrow.Author.Needs.{needs}
 use Rattle.tables.proofs.Verdicts.{passed, refused}
-use Rattle.blocks.specs.Files.{blockAt, blockCount, blocksFault}
-use Rattle.blocks.specs.Steps.{countsIn}
+use Rattle.blocks.specs.Files.{blockAt, blockCount}
+use Rattle.blocks.specs.Steps.{blocksFault, countsIn}
 use Rattle.blocks.proofs.MadeBlocks.{none-before}
 use Rattle.blocks.proofs.Counting.{counts-none, counts-more, few-counts, blocks-more, blocks-found}
 use Rattle.block_files.proofs.into_tables.check_blocks.Statement.{statement}

@@ -4,8 +4,8 @@ use mathlib.Core.Path.{_≡_, sym, _∙_}
 use lib.ListN.{length}
 use borrow.Author.Needs.{needs}
 use Rattle.tables.proofs.Verdicts.{passed, refused}
-use Rattle.blocks.specs.Files.{blockAt, blockCount, lengthFault, blocksFault}
-use Rattle.blocks.specs.Steps.{countsOf}
+use Rattle.blocks.specs.Files.{blockAt, blockCount, lengthFault}
+use Rattle.blocks.specs.Steps.{blocksFault, countsOf}
 use Rattle.blocks.proofs.Order.{answer-tables, answer-refused, length-whole, by-length, by-blocks, by-tables, read-refused, read-done}
 use Rattle.block_files.proofs.Fits.{fitting}
 use Rattle.block_files.proofs.into_tables.read.Statement.{statement}

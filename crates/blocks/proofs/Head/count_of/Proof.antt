@@ -1,7 +1,7 @@
 -- The count is that of a block of the kind, else 0. Assumes nothing.
 use borrow.Author.Tests.{eq-eqb, ne-eqb}
 use borrow.Author.Needs.{needs}
-use Rattle.blocks.specs.Blocks.{countOf}
+use Rattle.blocks.specs.Steps.{countOf}
 use Rattle.blocks.proofs.Head.count_of.Statement.{statement}
 use Rattle.blocks.proofs.Head.count_of.Tie as tie
 

@@ -7,7 +7,7 @@ use lib.Dec.{eqb}
 use lib.Seq.{drop-length}
 use lib.ListN.{length, drop}
 use borrow.Author.Needs.{needs}
-use Rattle.blocks.specs.Blocks.{allZero}
+use Rattle.blocks.specs.Steps.{allZero}
 use Rattle.blocks.proofs.Heads.{zero-more}
 use Rattle.blocks.proofs.verify.all_zero.Statement.{statement}
 use Rattle.blocks.proofs.verify.all_zero.Tie as tie
