@@ -15,8 +15,7 @@ orElse none o = o
 
 -- x where the test holds
 unfoldable pub given : {A : Type 0} (test : Bool) (x : A) → Option A
-given true x = some x
-given false x = none
+given test x = cond test (some x) none
 
 -- what g gives at the lowest number at which it gives something
 unfoldable pub first : {A : Type 0} (g : ℕ → Option A) (n : ℕ) → Option A

@@ -19,7 +19,7 @@ use Rattle.containment.specs.Contains.{contains, around, loopFault}
 use Rattle.scratch.specs.Scratch.{scratchFault, earlyFault, modeEarly, pictureFault}
 use Rattle.meaning.specs.Meaning.{hasMode, modeArrows, reaches, nests, level, overrides, settle, hits, certifies, answer}
 use Rattle.meaning.specs.Meaning.{byteOf, numberOf, isGranted, isUnclear}
-use Rattle.meaning.specs.Pairs.{userAt, fileAt, firstPair, answerAt, matrixBytes, matrixNumbers, unclearFault, anyUnclear}
+use Rattle.meaning.specs.Pairs.{userAt, fileAt, answerAt, matrixBytes, matrixNumbers, unclearFault, anyUnclear}
 use Rattle.answers.specs.Calls.{askedFault, entryFault, judgeFault, replyOf}
 use Rattle.meaning.specs.Cases.{picture-A, picture-B, picture-C, picture-D, picture-E, picture-F}
 use Rattle.meaning.specs.Cases.{picture-G, picture-H, picture-I, picture-J}
@@ -246,7 +246,7 @@ unfolding compute table groups picture-A picture-B picture-C picture-D picture-E
     raggedFault countFault byteFault namesNoBox acrossSides wrongEnds wrongMode rowFault tableFault modeFault roomFault
     contains around loopFault scratchFault earlyFault modeEarly pictureFault
     hasMode modeArrows reaches nests level overrides settle hits certifies answer byteOf numberOf isGranted isUnclear
-    userAt fileAt firstPair answerAt matrixBytes matrixNumbers unclearFault anyUnclear
+    userAt fileAt answerAt matrixBytes matrixNumbers unclearFault anyUnclear
     askedFault entryFault judgeFault replyOf
     anyOf allOf firstOf passes distinct gives ofMode meets reached granted right honest coversAll qualifies
     new fits addable followed next listTo greedy leftBy orderFault listEarly listBefore listedOf placesOf listAnswer listAfter written

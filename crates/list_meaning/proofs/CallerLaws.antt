@@ -12,7 +12,8 @@ use Rattle.base.proofs.Tests.{T-and}
 use Rattle.tables.specs.Rows.{Picture, arrowCount, arrowAt}
 use Rattle.tables.specs.Refusals.{noOrder}
 use Rattle.meaning.specs.Meaning.{positive, negative, hasMode, reaches, answer, isGranted, isUnclear}
-use Rattle.meaning.specs.Pairs.{userAt, fileAt, answerAt, firstPair}
+use Rattle.meaning.specs.Pairs.{userAt, fileAt, answerAt}
+use Rattle.meaning.specs.Steps.{firstPair}
 use Rattle.meaning.specs.declared.Entry.{Entry}
 use Rattle.meaning.proofs.ModeLaws.{answer-at}
 use Rattle.meaning.proofs.MatrixLaws.{firstPair-places}

@@ -16,7 +16,7 @@ use Rattle.scratch.specs.Scratch.{scratchFault, earlyFault, pictureFault}
 use Rattle.meaning.specs.Cases.{picture-A, picture-B, picture-C, picture-D, picture-E, picture-F, picture-G}
 use Rattle.meaning.specs.Cases.{picture-H, picture-I, picture-J, emptied-group, emptied-both, groups-left}
 use Rattle.meaning.specs.Meaning.{hasMode, modeArrows, reaches, nests, level, overrides, settle, hits, certifies, answer, byteOf, isUnclear}
-use Rattle.meaning.specs.Pairs.{userAt, fileAt, firstPair, answerAt, unclearFault, anyUnclear}
+use Rattle.meaning.specs.Pairs.{userAt, fileAt, answerAt, unclearFault, anyUnclear}
 use Rattle.blocks.specs.Blocks.{joined}
 use Rattle.lines.specs.Text.{text, digit, decimalTo, decimal, line}
 use Rattle.lines.specs.Lines.{answerFields, threeFields, lineText}
@@ -57,7 +57,7 @@ unfolding listingOf table picture-A picture-B picture-C picture-D picture-E pict
     pictureListing refusedOr joined zeros orElse given first lowest every select sideOf isGroup onSide outer atom atoms pairCount
     raggedFault countFault byteFault namesNoBox acrossSides wrongEnds wrongMode rowFault tableFault roomFault contains around
     loopFault scratchFault earlyFault pictureFault hasMode modeArrows reaches nests level overrides settle hits certifies
-    answer byteOf isUnclear userAt fileAt firstPair answerAt unclearFault anyUnclear
+    answer byteOf isUnclear userAt fileAt answerAt unclearFault anyUnclear
 listings-right = refl
 
 -- the document's text for the picture of case B
@@ -65,7 +65,7 @@ pub case-B : pictureListing picture-B
     ≡ text "boxes 4 containments 2 arrows 2\n0 0 3 pos 0\n0 1 3 neg 1\naccepted\n"
 unfolding picture-B text digit decimalTo decimal line answerFields threeFields lineText used countsLine pairLine modeText pictureListing
     joined orElse given first lowest every select sideOf isGroup onSide outer atom atoms pairCount contains around hasMode modeArrows reaches
-    nests level overrides settle hits certifies answer byteOf isUnclear userAt fileAt firstPair answerAt unclearFault anyUnclear
+    nests level overrides settle hits certifies answer byteOf isUnclear userAt fileAt answerAt unclearFault anyUnclear
 case-B = refl
 
 -- one digit, more, and zeros inside

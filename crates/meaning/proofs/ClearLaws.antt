@@ -17,6 +17,7 @@ use Rattle.meaning.specs.Pairs.{pairs, userAt, fileAt, unclearFault, any
 use Rattle.meaning.proofs.AnswerLaws.{unreached-default}
 use Rattle.meaning.proofs.PairLaws.{unclearAt, unclear-is, unclear-none}
 use Rattle.meaning.proofs.ModeLaws.{mode-select, answer-at}
+use Rattle.meaning.proofs.MatrixLaws.{unclear-first}
 use Rattle.meaning.proofs.RowPairs.{firstPair-nothing}
 
 module _ (pic : Picture) where
@@ -29,8 +30,7 @@ module _ (pic : Picture) where
     -- a mode in which no pair is unclear
     pub all-clear : ((u f : ℕ) → T (atom (pic .boxes) (pic .rows) user u) → T (atom (pic .boxes) (pic .rows) file f)
         → T (isUnclear (answer pic m u f)) → ⊥) → unclearFault pic m ≡ none
-    unfolding unclearFault
-    all-clear clear = firstPair-nothing pic (λ u f. isUnclear (answer pic m u f)) (unclearPair m) clear
+    all-clear clear = unclear-first pic m ∙ firstPair-nothing pic (λ u f. isUnclear (answer pic m u f)) (unclearPair m) clear
 
     no-arrow : length (modeArrows (pic .arrows) m) ≤ 0 → (k : ℕ) → k < arrowCount (pic .arrows) → arrowAt (pic .arrows) k .mode ≡ m → ⊥
     unfolding hasMode

@@ -15,8 +15,8 @@ use Rattle.tables.specs.Refusals.{unclearPair}
 use Rattle.tables.specs.declared.Refusal.{Refusal}
 use Rattle.tables.proofs.AtomPlaces.{pairCount-is}
 use Rattle.meaning.specs.Meaning.{answer, byteOf, numberOf, isGranted, isUnclear}
-use Rattle.meaning.specs.Pairs.{users, files, pairs, userAt, fileAt, firstPair, matrixBytes, matrixNumbers, unclearFault}
-use Rattle.meaning.specs.Steps.{byteAt, numberAt}
+use Rattle.meaning.specs.Pairs.{users, files, pairs, userAt, fileAt, answerAt, matrixBytes, matrixNumbers, unclearFault}
+use Rattle.meaning.specs.Steps.{firstPair, byteAt, numberAt}
 use Rattle.meaning.specs.declared.Entry.{Entry}
 use Rattle.meaning.specs.declared.Entry.the-variants.{Granted, Denied, Default, Unclear}
 use Rattle.meaning.proofs.PairLaws.{firstPair-none}
@@ -64,7 +64,7 @@ firstPair-places pic t r = refl
 
 module _ (pic : Picture) (m : ℕ) where
   pub unclear-first : unclearFault pic m ≡ firstPair pic (λ u f. isUnclear (answer pic m u f)) (unclearPair m)
-  unfolding unclearFault
+  unfolding unclearFault firstPair answerAt
   unclear-first = refl
 
   -- where there is none, no pair is unclear

@@ -17,7 +17,8 @@ use Rattle.tables.specs.declared.Refusal.{Refusal}
 use Rattle.base.proofs.SearchLaws.{first-none, first-some, given-some, given-none, given-false}
 use Rattle.tables.proofs.AtomPlaces.{pairCount-is, atoms-found, atoms-has, atoms-before, atoms-same}
 use Rattle.base.proofs.Index.{in-table, at-div, at-mod, place, row-step}
-use Rattle.meaning.specs.Pairs.{Before, users, files, pairs, userAt, fileAt, firstPair, answerAt, unclearFault}
+use Rattle.meaning.specs.Pairs.{Before, users, files, pairs, userAt, fileAt, answerAt, unclearFault}
+use Rattle.meaning.specs.Steps.{firstPair}
 use Rattle.meaning.specs.Meaning.{isUnclear}
 
 -- a place of a table of m rows of n: its row and its column
@@ -135,5 +136,5 @@ module _ (pic : Picture) (m : ℕ) where
   unclear-none p e = given-false _ _ e
 
   pub unclear-is : unclearFault pic m ≡ first unclearAt (pairs pic)
-  unfolding unclearFault firstPair answerAt
+  unfolding unclearFault
   unclear-is = refl

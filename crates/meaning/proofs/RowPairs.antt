@@ -14,7 +14,8 @@ use Rattle.tables.specs.Atoms.{atom}
 use Rattle.tables.specs.declared.Refusal.{Refusal}
 use Rattle.tables.proofs.AtomPlaces.{atoms-found, atoms-has, atoms-before}
 use Rattle.meaning.specs.Meaning.{answer}
-use Rattle.meaning.specs.Pairs.{Before, users, files, userAt, fileAt, firstPair, answerAt}
+use Rattle.meaning.specs.Pairs.{Before, users, files, userAt, fileAt, answerAt}
+use Rattle.meaning.specs.Steps.{firstPair}
 use Rattle.meaning.proofs.PairLaws.{IsFirst, firstPair-none, firstPair-some}
 
 -- where a file of a row stands

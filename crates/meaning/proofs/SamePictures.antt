@@ -15,7 +15,7 @@ use Rattle.tables.proofs.GroupLaws.{SameBoxes, atoms-by-bytes}
 use Rattle.containment.specs.Contains.{Row, contains}
 use Rattle.containment.proofs.ContainsLaws.{around-test, same-contains, same-outer}
 use Rattle.meaning.specs.Meaning.{positive, negative, reaches, nests, level, overrides, hits, certifies, answer, byteOf, numberOf}
-use Rattle.meaning.specs.Pairs.{pairs, userAt, fileAt, firstPair, answerAt, matrixBytes, matrixNumbers, unclearFault, anyUnclear}
+use Rattle.meaning.specs.Pairs.{pairs, userAt, fileAt, answerAt, matrixBytes, matrixNumbers, unclearFault, anyUnclear}
 use Rattle.meaning.specs.Steps.{byteAt, numberAt}
 
 -- two pictures with the same arrows have the same pairs, with the same answers
@@ -86,7 +86,7 @@ module _ (boxes rows others new arrows : List ℕ)
   same-numbers m = rw same-pairs (build-same _ _ (pairCount others new) (λ p _. ap numberOf (same-at m p)))
 
   same-unclear : anyUnclear one ≡ anyUnclear other
-  unfolding anyUnclear unclearFault firstPair
+  unfolding anyUnclear unclearFault answerAt
   same-unclear = first-same _ _ 8 (λ m _. simp (same-pairs, same-users, same-files, same-answer))
 
   same-answers : SameAnswers one other

@@ -1,7 +1,6 @@
 -- The pairs of an atomic user and an atomic file: rows are the users, columns the files, both by rising number. Assumes nothing.
 use mathlib.Core.Path.{_≡_}
 use mathlib.Core.Logic.{_⊎_}
-use mathlib.Core.Bool.{Bool}
 use mathlib.Core.List.{List}
 use mathlib.Core.Option.{Option}
 use Prim.Native.Nat.{ℕ, _/_, _%_, _<_}
@@ -37,10 +36,6 @@ module _ (pic : Picture) where
   unfoldable pub fileAt : (place : ℕ) → ℕ
   fileAt place = getD files (place % length files) 0
 
-  -- what r makes of the first pair, by user, then file, at which the test holds
-  unfoldable pub firstPair : (test : ℕ → ℕ → Bool) (r : ℕ → ℕ → Refusal) → Option Refusal
-  firstPair test r = first (λ p. given (test (userAt p) (fileAt p)) (r (userAt p) (fileAt p))) pairs
-
   -- the answer for the pair at a place
   unfoldable pub answerAt : (mode place : ℕ) → Entry
   answerAt mode place = answer pic mode (userAt place) (fileAt place)
@@ -54,7 +49,7 @@ module _ (pic : Picture) where
 
   -- 12: the mode has an unclear pair; the first, by user, then file
   unfoldable pub unclearFault : (mode : ℕ) → Option Refusal
-  unclearFault mode = firstPair (λ u f. isUnclear (answer pic mode u f)) (unclearPair mode)
+  unclearFault mode = first (λ p. given (isUnclear (answerAt mode p)) (unclearPair mode (userAt p) (fileAt p))) pairs
 
   -- the first unclear pair by mode, then user, then file
   unfoldable pub anyUnclear : Option Refusal

@@ -25,7 +25,3 @@ entryReply (Denied k) = reply 0 0 k 0 0
 entryReply (Granted k) = reply 1 0 k 0 0
 entryReply (Unclear p n) = reply 2 0 p n 0
 entryReply Default = reply 3 0 0 0 0
-
--- the version: major 4, minor 0, patch 0, as major × 65,536 + minor × 256 + patch
-abbrev pub version : ℕ
-version = 262144

@@ -1,6 +1,7 @@
 // The calls across the C boundary (`include/rights.h`): numbers and slices in, one reply out. A slice passes as a pointer and then
 // a length in elements.
 ghost use mathlib.Core.Path.{_≡_};
+ghost use Prim.Native.Nat.{_*_};
 ghost use lib.ListN.{length};
 ghost use Rattle.base.specs.Search.{orElse};
 ghost use Rattle.tables.specs.Rows.{picture, user as userSide, file as fileSide};
@@ -16,7 +17,7 @@ ghost use Rattle.blocks.specs.Files.{pictureOf};
 ghost use Rattle.blocks.specs.Reads.{rowCounts, readFault};
 ghost use Rattle.packing.specs.Packed.{packed};
 ghost use Rattle.packing.specs.Packs.{packFault, fileAfter};
-ghost use Rattle.rights_c.specs.Replies.{reply, doneReply, replyBy, entryReply, version};
+ghost use Rattle.rights_c.specs.Replies.{reply, doneReply, replyBy, entryReply};
 ghost use Rattle.rights_c.specs.Steps.{refusedReply, verdictReply, askedReply, listReply, headingReply, readReply, packReply};
 use blocks::Reading;
 use headings::Headings;
@@ -273,10 +274,10 @@ pub extern "C" fn rights_pack(boxes: &[u8], rows: &[u16], arrows: &[u16], file: 
     of_packing(packer::pack(boxes, rows, arrows, file))
 }
 
-// The version of these calls: major 4, minor 0, patch 0, one byte each.
+// The version of these calls: major × 65,536 + minor × 256 + patch, of which major is 4 and the others 0.
 #[no_mangle]
 pub extern "C" fn rights_version() -> u32
-    ensures { λ r. ⌜ r ≡ version ⌝ }
+    ensures { λ r. ⌜ r ≡ 4 * 65536 ⌝ }
 {
     0x040000
 }
