@@ -30,7 +30,8 @@ replyOf (some r) e = Refused r
 module _ (pic : Picture) (s : List ℕ) where
   -- one entry: checks 1 to 11
   unfoldable pub entryFault : (mode u f : ℕ) → Option Refusal
-  entryFault mode u f = orElse (modeEarly pic s mode) (orElse (loopFault (pic .boxes) (pic .rows)) (askedFault (pic .boxes) (pic .rows) u f))
+  entryFault mode u f =
+      orElse (modeEarly pic s mode) (orElse (loopFault (pic .boxes) (pic .rows)) (askedFault (pic .boxes) (pic .rows) u f))
 
   -- the judge: checks 1 to 7, 9, 10, 12
   unfoldable pub judgeFault : Option Refusal

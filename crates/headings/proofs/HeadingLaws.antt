@@ -4,6 +4,7 @@ use mathlib.Core.List.{List, []}
 use mathlib.Core.Option.{Option, none, some}
 use Prim.Native.Nat.{ℕ, _≤_}
 use lib.ListN.{length}
+use Rattle.base.specs.Search.{orElse}
 use Rattle.base.specs.Buffers.{written}
 use Rattle.tables.specs.Rows.{picture, user, file}
 use Rattle.tables.specs.Atoms.{atoms}
@@ -16,7 +17,7 @@ use Rattle.tables.specs.declared.Verdict.the-variants.{Passed, Refused as Stopp
 use Rattle.tables.proofs.TableLaws.{both-none, room-passed}
 use Rattle.tables.proofs.Verdicts.{passed, refused, either-verdict}
 use Rattle.base.proofs.Options.{past, stop}
-use Rattle.headings.specs.Calls.{headingsOf, headingRooms, headingFault, usersAfter, filesAfter}
+use Rattle.headings.specs.Calls.{headingsOf, headingFault, usersAfter, filesAfter}
 use Rattle.headings.specs.declared.Headings.{Headings}
 use Rattle.headings.specs.declared.Headings.the-variants.{Written, Refused}
 
@@ -31,21 +32,24 @@ unfolding headingsOf
 headings-refused boxes rows r = refl
 
 module _ (boxes rows users files : List ℕ) where
+  -- 9 for both buffers
+  abbrev pub headingRooms : Option Refusal
+  headingRooms =
+      orElse (roomFault 11 (length users) (length (atoms boxes rows user))) (roomFault 12 (length files) (length (atoms boxes rows file)))
+
   -- the verdict on both buffers, by those on each and the counts of atomic boxes
   pub rooms-is : {m n : ℕ} {u f r : Verdict} → m ≡ length (atoms boxes rows user) → n ≡ length (atoms boxes rows file)
       → u ≡ verdictOf (roomFault 11 (length users) m) → f ≡ verdictOf (roomFault 12 (length files) n) → r ≡ either u f
-      → r ≡ verdictOf (headingRooms boxes rows users files)
-  unfolding headingRooms
+      → r ≡ verdictOf headingRooms
   rooms-is em en eu ef er = er ∙ rw (eu, ef, em, en) (either-verdict _ _)
 
   -- where check 9 passes, the buffers suffice
-  pub rooms-passed : verdictOf (headingRooms boxes rows users files) ≡ Passed
+  pub rooms-passed : verdictOf headingRooms ≡ Passed
       → (length (atoms boxes rows user) ≤ length users) × (length (atoms boxes rows file) ≤ length files)
-  unfolding headingRooms
   rooms-passed e =
       let first = roomFault 11 (length users) (length (atoms boxes rows user)) in
       let last = roomFault 12 (length files) (length (atoms boxes rows file)) in
-      let both = both-none first last (passed (headingRooms boxes rows users files) e) in
+      let both = both-none first last (passed headingRooms e) in
       (room-passed 11 (length users) _ (both .0), room-passed 12 (length files) _ (both .1))
 
   -- what the call answers, and the two buffers at the end
@@ -63,19 +67,19 @@ module _ (boxes rows users files : List ℕ) where
 
   pub by-tables : (r : Refusal) → verdictOf (tableFault (picture boxes rows [])) ≡ Stopped r → Ends (Refused r) users files
   unfolding headingsOf headingFault
-  by-tables r t = ends (some r) (stop _ (headingRooms boxes rows users files) (refused (tableFault (picture boxes rows [])) r t))
+  by-tables r t = ends (some r) (stop _ headingRooms (refused (tableFault (picture boxes rows [])) r t))
 
   module _ (t : verdictOf (tableFault (picture boxes rows [])) ≡ Passed) where
-    rooms-left : headingFault boxes rows users files ≡ headingRooms boxes rows users files
+    rooms-left : headingFault boxes rows users files ≡ headingRooms
     unfolding headingFault
-    rooms-left = past _ (headingRooms boxes rows users files) (passed (tableFault (picture boxes rows [])) t)
+    rooms-left = past _ headingRooms (passed (tableFault (picture boxes rows [])) t)
 
-    pub by-rooms : (r : Refusal) → verdictOf (headingRooms boxes rows users files) ≡ Stopped r → Ends (Refused r) users files
+    pub by-rooms : (r : Refusal) → verdictOf headingRooms ≡ Stopped r → Ends (Refused r) users files
     unfolding headingsOf
-    by-rooms r v = ends (some r) (rooms-left ∙ refused (headingRooms boxes rows users files) r v)
+    by-rooms r v = ends (some r) (rooms-left ∙ refused headingRooms r v)
 
-    pub by-none : {m n : ℕ} {u f : List ℕ} → verdictOf (headingRooms boxes rows users files) ≡ Passed
+    pub by-none : {m n : ℕ} {u f : List ℕ} → verdictOf headingRooms ≡ Passed
         → m ≡ length (atoms boxes rows user) → n ≡ length (atoms boxes rows file)
         → u ≡ written (atoms boxes rows user) users → f ≡ written (atoms boxes rows file) files → Ends (Written m n) u f
     unfolding headingsOf
-    by-none v em en eu ef = rw (em, en, eu, ef) (ends none (rooms-left ∙ passed (headingRooms boxes rows users files) v))
+    by-none v em en eu ef = rw (em, en, eu, ef) (ends none (rooms-left ∙ passed headingRooms v))

@@ -20,14 +20,13 @@ module _ (boxes rows : List ℕ) where
 
   -- the two buffers as they were lent
   module _ (users files : List ℕ) where
-    -- 9: buffer 11 needs a place for each atomic user, buffer 12 one for each atomic file
-    unfoldable pub headingRooms : Option Refusal
-    headingRooms =
-        orElse (roomFault 11 (length users) (length (atoms boxes rows user))) (roomFault 12 (length files) (length (atoms boxes rows file)))
-
-    -- checks 1 to 7 as on a picture without arrows, then 9
+    -- checks 1 to 7 as on a picture without arrows, then 9: buffer 11 needs a place for each atomic user, buffer 12 one for each
+    -- atomic file
     unfoldable pub headingFault : Option Refusal
-    headingFault = orElse (tableFault (picture boxes rows [])) headingRooms
+    headingFault =
+        orElse (tableFault (picture boxes rows []))
+        (orElse (roomFault 11 (length users) (length (atoms boxes rows user)))
+        (roomFault 12 (length files) (length (atoms boxes rows file))))
 
     -- the buffers at the end: the atomic users, and the atomic files, by rising number
     unfoldable pub usersAfter : List ℕ

@@ -15,8 +15,7 @@ use Rattle.tables.proofs.AtomPlaces.{atoms-most}
 use Rattle.base.proofs.PartLaws.{part-is, part-length, part-within}
 use Rattle.tables.proofs.TableLaws.{sound-rows}
 use Rattle.tables.proofs.Verdicts.{passed}
-use Rattle.headings.specs.Calls.{headingRooms}
-use Rattle.headings.proofs.HeadingLaws.{rooms-is, rooms-passed, by-tables, by-rooms, by-none}
+use Rattle.headings.proofs.HeadingLaws.{headingRooms, rooms-is, rooms-passed, by-tables, by-rooms, by-none}
 use Rattle.headings.proofs.atomic_boxes.Statement.{statement}
 use Rattle.headings.proofs.atomic_boxes.Tie as tie
 
