@@ -1,6 +1,7 @@
 // How the lines of a file's listing go to standard output, a buffer at a time.
 ghost use mathlib.Core.Path.{_≡_};
 ghost use mathlib.Core.Option.{some};
+ghost use Prim.Native.Nat.{_-_};
 ghost use Rattle.tables.specs.Rows.{arrowCount};
 ghost use Rattle.blocks.specs.Files.{pictureOf};
 ghost use Rattle.listing.specs.Files.{fileRefusal};
@@ -13,22 +14,29 @@ use libc::STDOUT_FILENO;
 use listing::Place;
 use tables::Refusal;
 
-// The only place where bytes go to standard output. They must be so many lines of the file's listing, from line `from` on: the file
-// is there for that. Answers whether they went out; if not, says why.
-fn send(file: &[u8], from: usize, lines: usize, bytes: &[u8]) -> bool
-    requires { ⌜ now bytes ≡ linesFrom (fileLine (now file)) from lines ⌝ }
-{
-    let is_out = io::write_all(STDOUT_FILENO, bytes);
-    if !is_out {
-        os::fail(b"rights: cannot write the listing");
-    }
-    is_out
-}
-
 // How many lines of the file's listing went out: all, unless a write failed.
 pub struct Sent {
     pub lines: usize,
     pub failed: bool,
+}
+
+// The only place where bytes go to standard output. They must be the lines of the file's listing from line `from` to before line `to`: the
+// file is there for that. Answers how many lines are out then; if the write failed, says why.
+fn send(file: &[u8], from: usize, to: usize, bytes: &[u8]) -> Sent
+    requires { ⌜ now bytes ≡ linesFrom (fileLine (now file)) from (to - from) ⌝ }
+    ensures { λ s. ⌜ SentAll to s ⌝ }
+{
+    if !io::write_all(STDOUT_FILENO, bytes) {
+        os::fail(b"rights: cannot write the listing");
+        return Sent {
+            lines: from,
+            failed: true,
+        };
+    }
+    Sent {
+        lines: to,
+        failed: false,
+    }
 }
 
 // The line of a refused file or picture.
@@ -38,11 +46,7 @@ pub fn send_stopped(file: &[u8], r: Refusal) -> Sent
 {
     let mut out = io::buffer();
     let n = listing::stopped(r, &mut out);
-    let is_out = send(file, 0, 1, &out[..n]);
-    Sent {
-        lines: 1,
-        failed: !is_out,
-    }
+    send(file, 0, 1, &out[..n])
 }
 
 // The place up to which the rows went out, and whether a write failed there.
@@ -64,7 +68,8 @@ fn send_rows(file: &[u8], closure: &[u64], arrows: &[u16], users: &[u16], files:
         let chunk = listing::fill(closure, arrows, users, files, place, &mut out);
         let n = chunk.bytes;
         let next = chunk.next;
-        if !send(file, place.line, next.line - place.line, &out[..n]) {
+        let sent = send(file, place.line, next.line, &out[..n]);
+        if sent.failed {
             return Reached {
                 place,
                 failed: true,
@@ -95,11 +100,9 @@ pub fn send_lines(
 {
     let mut out = io::buffer();
     let first = listing::counts_line(boxes, rows, arrows.len() / 4, &mut out);
-    if !send(file, 0, 1, &out[..first]) {
-        return Sent {
-            lines: 0,
-            failed: true,
-        };
+    let sent = send(file, 0, 1, &out[..first]);
+    if sent.failed {
+        return sent;
     }
     let reached = send_rows(file, closure, arrows, users, files);
     let place = reached.place;
@@ -111,9 +114,5 @@ pub fn send_lines(
     }
     let seen = place.seen;
     let last = listing::last_line(seen, &mut out);
-    let is_out = send(file, place.line, 1, &out[..last]);
-    Sent {
-        lines: place.line + 1,
-        failed: !is_out,
-    }
+    send(file, place.line, place.line + 1, &out[..last])
 }

@@ -1,6 +1,6 @@
 -- `sending::send_lines` meets its contract: the first line, the rows and the last line are all lines. Assumes nothing.
-use mathlib.Core.Path.{_≡_}
-use Prim.Native.Nat.{ℕ}
+use mathlib.Core.Path.{_≡_, _∙_}
+use Prim.Native.Nat.{ℕ, _+_, _-_}
 use native.Mathlib.Omega.{arith}
 use Rattle.blocks.specs.Files.{pictureOf}
 use Rattle.listing.specs.Numbered.{lineRows}
@@ -36,13 +36,16 @@ module _ (c : tie.Else2) where
 
 send-requires-2 : tie.Need-send-requires-2
 send-requires-2 c κs =
-    let made = c .before .before in
+    let made = c .before .before .before in
     let sent = made .before .before in
-    good-last (start (rows sent .before .before .before .before .before) .pre .0) (rows sent .send-rows .ensures .stands) (all sent) (made .last-line .ensures)
+    let line = rows sent .send-rows .result .place .line in
+    let one : line + 1 - line ≡ 1 = omega arith in
+    rw one
+    (good-last (start (rows sent .before .before .before .before .before) .pre .0) (rows sent .send-rows .ensures .stands) (all sent) (made .last-line .ensures))
 
-add-t16 : tie.Need-add-t16
-add-t16 c =
-    let sent = c .before .before .before .before .before .before in
+add-send : tie.Need-add-send
+add-send c =
+    let sent = c .before .before .before .before in
     let d = start (rows sent .before .before .before .before .before) .pre .1 .0 in
     let sized = prepared-in-range d in
     omega (arith, fits-small (stands-fit d (rows sent .send-rows .ensures .stands)) (sized .few-users) (sized .few-files))
@@ -50,10 +53,10 @@ add-t16 c =
 returns-3 : tie.Need-returns-3
 returns-3 c =
     let sent = c .before .before .before .before .before .before in
-    λ e. good-end (start (rows sent .before .before .before .before .before) .pre .0) (rows sent .send-rows .ensures .stands) (all sent)
+    λ e. c .send2 .ensures e ∙ good-end (start (rows sent .before .before .before .before .before) .pre .0) (rows sent .send-rows .ensures .stands) (all sent)
 
 pub send-lines-spec : {M : Type 1} → statement M
 send-lines-spec =
     tie.close (tie.spec (λ c κs. search needs) (λ c. search needs) (λ c κs. search needs) (λ c. search needs) (λ c. search needs)
-    send-requires returns (λ c κs. search needs) returns-2 (λ c. search needs) (λ c κs. search needs) (λ c. search needs)
-    (λ c. search needs) send-requires-2 add-t16 returns-3)
+    send-requires returns (λ c κs. search needs) returns-2 (λ c. search needs) (λ c κs. search needs) add-send
+    (λ c. search needs) (λ c. search needs) send-requires-2 returns-3)

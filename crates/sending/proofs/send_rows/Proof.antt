@@ -52,35 +52,32 @@ chunk c =
     let at-loop = c .before .before .before .before in
     c .fill .ensures (pictureOf (start at-loop .args .file .now)) (start at-loop .pre .1) (at-loop .loop .inv .0)
 
-sub-send : tie.Need-sub-send Inv-loop μ-loop
-sub-send c = omega (arith, chunk (c .before .before .before .before) .onward)
-
 array-share-prefix-out : tie.Need-array-share-prefix-out Inv-loop μ-loop
-array-share-prefix-out c = chunk (c .before .before .before .before) .holds .counted .0
+array-share-prefix-out c = chunk (c .before .before) .holds .counted .0
 
 slice-aggregate-send : tie.Need-slice-aggregate-send Inv-loop μ-loop
-slice-aggregate-send c = chunk (c .before .before .before .before .before) .holds .counted .1
+slice-aggregate-send c = chunk (c .before .before .before) .holds .counted .1
 
 send-requires : tie.Need-send-requires Inv-loop μ-loop
 send-requires c κs =
-    let filled = c .before .before .before .before .before in
+    let filled = c .before .before .before in
     good-chunk (start (filled .before .before .before .before) .pre .0) (chunk filled)
 
 returns : tie.Need-returns Inv-loop μ-loop
 returns c =
-    let at-loop = c .before .before .before .before .before .before .before .before .before .before .before in
+    let at-loop = c .before .before .before .before .before .before .before .before .before in
     record { stands = at-loop .loop .inv .0; all = λ e. let z : _≡_ {A = ℕ} 0 1 = cc in absurd (omega arith) }
 
 loop-less : tie.Need-loop-less Inv-loop μ-loop
 loop-less c =
-    let filled = c .before .before .before .before .before .before .before in
+    let filled = c .before .before .before .before .before in
     let below = filled .before .before .if1 .taken in
     let inv = filled .before .before .before .before .loop .inv in
     omega (arith, below, inv .1, chunk filled .some-row (omega (arith, below, inv .1)))
 
 loop-again : tie.Need-loop-again Inv-loop μ-loop
 loop-again c =
-    let filled = c .before .before .before .before .before .before .before in
+    let filled = c .before .before .before .before .before in
     (chunk filled .stands, filled .before .before .before .before .loop .inv .1, search needs)
 
 returns-2 : tie.Need-returns-2 Inv-loop μ-loop
@@ -91,4 +88,4 @@ returns-2 c =
 pub send-rows-spec : {M : Type 1} → statement M
 send-rows-spec =
     tie.close (tie.spec Inv-loop μ-loop (λ c κs. search needs) (λ c κs. search needs) row-count-requires loop-holds (λ c. search needs)
-    fill-requires sub-send array-share-prefix-out slice-aggregate-send send-requires returns loop-less loop-again returns-2)
+    fill-requires array-share-prefix-out slice-aggregate-send send-requires returns loop-less loop-again returns-2)

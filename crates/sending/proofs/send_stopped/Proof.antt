@@ -1,4 +1,5 @@
 -- `sending::send_stopped` meets its contract: a refused file or picture has one line. Assumes nothing.
+use mathlib.Core.Path.{_∙_}
 use Rattle.listing.proofs.FileLaws.{stopped-count, stopped-line}
 use borrow.Author.Needs.{needs}
 use Rattle.sending.proofs.send_stopped.Statement.{statement}
@@ -13,7 +14,7 @@ send-requires c κs =
 returns : tie.Need-returns
 returns c =
     let start = c .before .before .before .before .before .before .before in
-    λ e. stopped-count (start .args .file .now) (start .args .r) (start .pre)
+    λ e. c .send .ensures e ∙ stopped-count (start .args .file .now) (start .args .r) (start .pre)
 
 pub send-stopped-spec : {M : Type 1} → statement M
 send-stopped-spec =
