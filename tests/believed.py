@@ -1,11 +1,12 @@
 #!/usr/bin/env python3
 """How many lines of definitions a reader must believe: those of docs/PROMISES.md, "Meaning", without comments, imports and empty
-lines, and without what is proved equal to something plainer. Fails if document 01 takes more than 420, so that it does not grow unseen."""
+lines, and without what is proved equal to something plainer. Fails if document 01 and the C boundary take more than 400, so that they do
+not grow unseen."""
 import pathlib
 import re
 import sys
 
-MOST = 420
+MOST = 400
 
 # a file, and the definitions in it that are proved equal to something plainer
 PAPERS = {
@@ -58,5 +59,5 @@ for paper, files in PAPERS.items():
         crate, module = name.split("/")
         total[paper] += lines(crates / crate / "specs" / f"{module}.antt", proved)
     print(f"{paper}: {total[paper]} lines to believe")
-if total["document 01"] > MOST:
-    sys.exit(f"document 01 takes more than {MOST}")
+if total["document 01"] + total["the C boundary"] > MOST:
+    sys.exit(f"document 01 and the C boundary take more than {MOST}")

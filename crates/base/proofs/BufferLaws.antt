@@ -67,12 +67,6 @@ written-over a b old h l =
     go p (no k) =
         written-rest a (written b old) p (omega arith) ∙ written-rest b old p (omega arith) ∙ sym (written-rest a old p (omega arith))
 
--- what is written over all places
-pub written-all : (new old : List ℕ) → length new ≡ length old → written new old ≡ new
-written-all new old e =
-    ext-getD 0 (written new old) new (written-length new old (omega arith) ∙ sym e)
-    (λ p l. written-at new old p (omega (arith, written-length new old (omega arith))))
-
 -- place n of a buffer that a loop fills with one value
 pub written-same : (v n : ℕ) (old : List ℕ) → n < length old → set (written (replicate n v) old) n v ≡ written (replicate (n + 1) v) old
 written-same v n old h =

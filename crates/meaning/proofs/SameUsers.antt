@@ -1,17 +1,13 @@
--- Two users around whom the same arrows of the mode are get the same answers; one around whom there is none has nothing granted or
--- unclear. Assumes nothing.
+-- Two users around whom the same arrows of the mode are get the same answers. Assumes nothing.
 use mathlib.Core.Path.{_≡_, refl, ap}
 use mathlib.Core.Bool.{Bool, true, false, _&&_}
 use Prim.Native.Nat.{ℕ, _<_}
 use lib.Dec.{T, eqb}
 use Rattle.base.specs.Search.{implies}
-use Rattle.base.proofs.Tests.{and-T, T-eqb, false-not}
 use Rattle.base.proofs.SearchLaws.{lowest-same, every-same}
 use Rattle.tables.specs.Rows.{Picture, arrowCount, arrowAt}
 use Rattle.containment.specs.Contains.{around}
-use Rattle.meaning.specs.Meaning.{positive, negative, hasMode, reaches, overrides, hits, certifies, answer, numberOf, isGranted, isUnclear, byteOf}
-use Rattle.meaning.specs.declared.Entry.the-variants.{Default}
-use Rattle.meaning.proofs.AnswerLaws.{unreached-default}
+use Rattle.meaning.specs.Meaning.{positive, negative, hasMode, reaches, overrides, hits, certifies, answer}
 
 module _ (pic : Picture) (m : ℕ) where
   -- an arrow of the mode is around one of the users exactly if it is around the other
@@ -49,26 +45,3 @@ module _ (pic : Picture) (m : ℕ) where
           lowest-same _ _ (arrowCount (pic .arrows)) (same-hits positive f),
           lowest-same _ _ (arrowCount (pic .arrows)) (same-hits negative f),
         )
-
-  -- a user around whom there is no arrow of the mode
-  module _ (u : ℕ) (none-around : (k : ℕ) → k < arrowCount (pic .arrows) → T (hasMode (pic .arrows) m k)
-      → around (pic .rows) (arrowAt (pic .arrows) k .tail) u ≡ false) (f : ℕ) where
-    none-reaches : answer pic m u f ≡ Default
-    unfolding hasMode reaches
-    none-reaches =
-        unreached-default pic m u f
-        (λ k l e t.
-        false-not (around (pic .rows) (arrowAt (pic .arrows) k .tail) u) (none-around k l (T-eqb e))
-        (and-T (around (pic .rows) (arrowAt (pic .arrows) k .tail) u) (around (pic .rows) (arrowAt (pic .arrows) k .head) f) t .0))
-
-    pub not-granted : isGranted (answer pic m u f) ≡ false
-    unfolding isGranted byteOf
-    not-granted = ap isGranted none-reaches
-
-    pub not-unclear : isUnclear (answer pic m u f) ≡ false
-    unfolding isUnclear byteOf
-    not-unclear = ap isUnclear none-reaches
-
-    pub no-number : numberOf (answer pic m u f) ≡ 65535
-    unfolding numberOf
-    no-number = ap numberOf none-reaches

@@ -1,16 +1,12 @@
 -- The numbers of a row before it is answered. Assumes nothing.
-use mathlib.Core.Path.{_≡_, refl}
+use mathlib.Core.Path.{_≡_}
 use Prim.Native.Nat.{ℕ, _<_}
-use lib.ListN.{length, getD, replicate, length-replicate, getD-replicate}
+use lib.ListN.{length, getD, length-replicate, getD-replicate}
 use Rattle.user_rows.specs.Steps.{blankRow}
 
 pub blank-length : length blankRow ≡ 256
 unfolding blankRow
 blank-length = length-replicate {A = ℕ} 256 65535
-
-pub blank-is : replicate 256 65535 ≡ blankRow
-unfolding blankRow
-blank-is = refl
 
 pub blank-at : (f : ℕ) → f < 256 → getD blankRow f 0 ≡ 65535
 unfolding blankRow
