@@ -1,7 +1,7 @@
 //! One entry, the judge, the matrix of a mode.
 
 use super::containment::{check_scratch, contain, Closure};
-use super::rows::{Mode, Rows, Seen};
+use super::rows::{Mode, Notes, Rows};
 use super::sets::Set;
 use super::tables::{atoms_of, check, check_mode, check_room, is_atom};
 use super::{refuse, Entry, Refusal, Tables, BOXES, NO_ARROW};
@@ -29,9 +29,9 @@ fn judge_mode(
         closure,
         mode: &mode,
     };
-    let mut seen = Seen::new();
+    let mut notes = Notes::new();
     for (i, &u) in users.iter().enumerate() {
-        if rows.alike(users, i, &mut seen) < i {
+        if rows.alike(users, i, &mut notes) < i {
             continue;
         }
         if let Some(f) = rows.sort(u, files).unclear.lowest() {
@@ -103,9 +103,9 @@ fn fill_matrix(rows: Rows, users: &[u8], files: &[u8], bytes: &mut [u8], numbers
     }
     let asked = files.iter().copied().collect();
     let n = files.len();
-    let mut seen = Seen::new();
+    let mut notes = Notes::new();
     for (i, &u) in users.iter().enumerate() {
-        let j = rows.alike(users, i, &mut seen);
+        let j = rows.alike(users, i, &mut notes);
         if j < i {
             bytes.copy_within(j * n..(j + 1) * n, i * n);
             numbers.copy_within(j * n..(j + 1) * n, i * n);

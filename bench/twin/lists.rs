@@ -1,7 +1,7 @@
 //! The first-match list of a mode.
 
 use super::containment::{check_scratch, contain, Closure};
-use super::rows::{Arrow, Mode, Rows, Seen};
+use super::rows::{Arrow, Mode, Notes, Rows};
 use super::sets::Set;
 use super::tables::{atoms_of, check, check_mode, check_room};
 use super::{refuse, Refusal, Tables, ARROWS, BOXES, NO_ARROW};
@@ -112,9 +112,9 @@ pub fn list(
         mode: &mode,
     };
     let asked = files.iter().copied().collect();
-    let mut seen = Seen::new();
+    let mut notes = Notes::new();
     for (i, &u) in users.iter().enumerate() {
-        let j = rows.alike(users, i, &mut seen);
+        let j = rows.alike(users, i, &mut notes);
         order.left[u as usize] = asked;
         if j < i {
             order.granted[u as usize] = order.granted[users[j] as usize];

@@ -4,6 +4,9 @@ use super::containment::Closure;
 use super::sets::Set;
 use super::{ARROWS, BOXES, NO_ARROW};
 
+/// How many notes there are: a prime by which the powers of 2 in a word leave different remainders.
+const NOTES: usize = 107;
+
 #[derive(Clone, Copy, Default)]
 pub struct Arrow {
     pub number: u16,
@@ -84,13 +87,13 @@ pub struct Row {
     pub unclear: Set,
 }
 
-/// Of users with the same tails of the mode's arrows around them, the place behind that of the last one, by
-/// a short number of the tails; 0 where there is none yet.
-pub struct Seen([u16; 107]);
+/// Each note has the place behind that of the last user who had it, or 0. Which note is a user's goes by the
+/// tails of the mode's arrows around them.
+pub struct Notes([u16; NOTES]);
 
-impl Seen {
-    pub fn new() -> Seen {
-        Seen([0; 107])
+impl Notes {
+    pub fn new() -> Notes {
+        Notes([0; NOTES])
     }
 }
 
@@ -210,15 +213,15 @@ impl Rows<'_> {
         self.closure.above[user as usize] & (negative | positive)
     }
 
-    /// The place of a user before place i around whom the same tails are, or i.
+    /// The place of a user before place i around whom the same tails are, and who has the same row, or i.
     #[inline]
-    pub fn alike(self, users: &[u8], i: usize, seen: &mut Seen) -> usize {
+    pub fn alike(self, users: &[u8], i: usize, notes: &mut Notes) -> usize {
         let tails = self.tails_near(users[i]);
-        let slot = &mut seen.0[tails.short()];
-        let j = *slot as usize;
-        *slot = i as u16 + 1;
-        if j != 0 && tails == self.tails_near(users[j - 1]) {
-            return j - 1;
+        let note = &mut notes.0[tails.remainder(NOTES as u64) as usize];
+        let behind = *note as usize;
+        *note = i as u16 + 1;
+        if behind != 0 && tails == self.tails_near(users[behind - 1]) {
+            return behind - 1;
         }
         i
     }

@@ -17,12 +17,11 @@ impl Set {
         a | b | c | d == 0
     }
 
-    /// A number below 107, of which the powers of 2 leave other remainders, so that sets of few or of nested
-    /// boxes seldom share it.
+    /// The remainder of the four words, joined by exclusive or.
     #[inline]
-    pub fn short(self) -> usize {
+    pub fn remainder(self, by: u64) -> u64 {
         let [a, b, c, d] = self.0;
-        ((a ^ b ^ c ^ d) % 107) as usize
+        (a ^ b ^ c ^ d) % by
     }
 
     #[inline]

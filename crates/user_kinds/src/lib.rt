@@ -20,8 +20,8 @@ use boxsets::same;
 use boxsets::shared;
 use set_tables::set_at;
 
-// How many notes there are: a prime by which all powers of 2 up to 2 to the 63 leave other remainders, so that neither single groups nor
-// groups nested in each other share a note while their numbers are within one word.
+// How many notes there are: a prime by which the powers of 2 up to 2 to the 63 leave different remainders, so that neither single groups nor
+// groups nested in each other share a note while their numbers lie in one word.
 const NOTES: usize = 107;
 
 // Notes of no user.
@@ -41,11 +41,11 @@ fn tails_near(closure: &[u64], heads: &[u64], user: usize) -> Set
     shared(set_at(closure, 256 + user), tails)
 }
 
-// Which note is that of users with these tails.
+// Which note is that of users with these tails. Users with other tails may share it.
 fn note_of(tails: Set) -> usize
     ensures { λ r. ⌜ r < noteCount ⌝ }
 {
-    ((tails.a ^ tails.b ^ tails.c ^ tails.d) % 107) as usize
+    ((tails.a ^ tails.b ^ tails.c ^ tails.d) % (NOTES as u64)) as usize
 }
 
 // The place of a user before place i who is answered as the user at i, or i. A note has the place behind that of the last user who was
