@@ -158,17 +158,13 @@ fn write_blocks(file: &[u8], boxes: &mut [u8], rows: &mut [u16], arrows: &mut [u
 
 // Reads a block file into three lent tables. One pass over the blocks checks, a second one writes.
 pub fn read(file: &[u8], boxes: &mut [u8], rows: &mut [u16], arrows: &mut [u16]) -> Reading
-    ensures { λ r. ⌜ (let fault = readFault (now (file .entry)) (length (now (boxes .entry))) (length (now (rows .entry)))
-        (length (now (arrows .entry))) in
+    ensures { λ r. ⌜ (let fault = readFault (now (file .entry)) (now (boxes .entry)) (now (rows .entry)) (now (arrows .entry)) in
         r ≡ answerOf fault (rowCounts (pictureOf (now (file .entry))))) ⌝ }
-    ensures { λ _. ⌜ (let fault = readFault (now (file .entry)) (length (now (boxes .entry))) (length (now (rows .entry)))
-        (length (now (arrows .entry))) in
+    ensures { λ _. ⌜ (let fault = readFault (now (file .entry)) (now (boxes .entry)) (now (rows .entry)) (now (arrows .entry)) in
         now (boxes .exit) ≡ unlessRefused fault (pictureOf (now (file .entry)) .boxes) (now (boxes .entry))) ⌝ }
-    ensures { λ _. ⌜ (let fault = readFault (now (file .entry)) (length (now (boxes .entry))) (length (now (rows .entry)))
-        (length (now (arrows .entry))) in
+    ensures { λ _. ⌜ (let fault = readFault (now (file .entry)) (now (boxes .entry)) (now (rows .entry)) (now (arrows .entry)) in
         now (rows .exit) ≡ unlessRefused fault (pictureOf (now (file .entry)) .rows) (now (rows .entry))) ⌝ }
-    ensures { λ _. ⌜ (let fault = readFault (now (file .entry)) (length (now (boxes .entry))) (length (now (rows .entry)))
-        (length (now (arrows .entry))) in
+    ensures { λ _. ⌜ (let fault = readFault (now (file .entry)) (now (boxes .entry)) (now (rows .entry)) (now (arrows .entry)) in
         now (arrows .exit) ≡ unlessRefused fault (pictureOf (now (file .entry)) .arrows) (now (arrows .entry))) ⌝ }
 {
     let length = check_length(file.len());

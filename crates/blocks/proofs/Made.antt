@@ -107,7 +107,7 @@ module _ (blocks : ℕ → List ℕ) (n : ℕ) (whole : (k : ℕ) → k < n → 
       past _ _ l ∙ f
 
   -- reading it is refused only by 2 and 9
-  pub made-read : 0 < n → n ≤ 64 → blocksFault blocks n ≡ none → (boxes rows arrows : ℕ)
-      → readFault (joined blocks n) boxes rows arrows ≡ tablesFault (countsIn blocks n) boxes rows arrows
+  pub made-read : 0 < n → n ≤ 64 → blocksFault blocks n ≡ none → (boxes rows arrows : List ℕ)
+      → readFault (joined blocks n) boxes rows arrows ≡ tablesFault (countsIn blocks n) (length boxes) (length rows) (length arrows)
   unfolding readFault tablesFault
   made-read most few good boxes rows arrows = rw made-counts (past _ _ (made-good most few good))

@@ -53,7 +53,7 @@ pub length-good : (len : ℕ) → 0 < len → len % 512 ≡ 0 → len ≤ 32768 
 unfolding lengthFault
 length-good len p e h = given-false _ _ (rw (ne-eqb len 0 (λ z. omega arith), eq-eqb (len % 512) 0 e, le-ltb 32768 len h))
 
-module _ (file : List ℕ) (boxes rows arrows : ℕ) where
+module _ (file boxes rows arrows : List ℕ) where
   -- the checks in turn
   pub by-length : {r : Refusal} → lengthFault (length file) ≡ some r → readFault file boxes rows arrows ≡ some r
   unfolding readFault fileFault blocksFault
@@ -65,7 +65,7 @@ module _ (file : List ℕ) (boxes rows arrows : ℕ) where
     by-blocks e = stop _ _ (past _ _ whole ∙ e)
 
     module _ (good : blocksFault (blockAt file) (blockCount file) ≡ none) where
-      pub by-tables : readFault file boxes rows arrows ≡ tablesFault (countsOf file) boxes rows arrows
+      pub by-tables : readFault file boxes rows arrows ≡ tablesFault (countsOf file) (length boxes) (length rows) (length arrows)
       unfolding readFault tablesFault fileFault blocksFault
       by-tables = past _ _ (past _ _ whole ∙ good)
 
@@ -92,14 +92,20 @@ module _ (counts : Counts) (boxes rows arrows : ℕ) where
       let rest = both-none _ _ (room .1) in
       (room-passed 5 boxes _ (room .0), room-passed 6 rows _ (rest .0), room-passed 7 arrows _ (rest .1))
 
+-- it goes by the lengths of the tables
+pub read-lengths : (file boxes rows arrows boxes′ rows′ arrows′ : List ℕ) → length boxes ≡ length boxes′ → length rows ≡ length rows′
+    → length arrows ≡ length arrows′ → readFault file boxes rows arrows ≡ readFault file boxes′ rows′ arrows′
+unfolding readFault
+read-lengths file boxes rows arrows boxes′ rows′ arrows′ b r a = rw (b, r, a)
+
 -- a refusal leaves the tables as they were
-pub read-refused : (file boxes rows arrows : List ℕ) {r : Refusal} → readFault file (length boxes) (length rows) (length arrows) ≡ some r
+pub read-refused : (file boxes rows arrows : List ℕ) {r : Refusal} → readFault file boxes rows arrows ≡ some r
     → ReadDone file boxes rows arrows boxes rows arrows (Refused r)
 read-refused file boxes rows arrows e = (rw e, (rw e, (rw e, rw e)))
 
 -- else the row counts are answered
 pub read-done : (file boxes rows arrows boxesEnd rowsEnd arrowsEnd : List ℕ) (counts : Counts)
-    → readFault file (length boxes) (length rows) (length arrows) ≡ none → countsOf file ≡ counts
+    → readFault file boxes rows arrows ≡ none → countsOf file ≡ counts
     → boxesEnd ≡ written (tableOf 1 file) boxes → rowsEnd ≡ written (tableOf 2 file) rows → arrowsEnd ≡ written (tableOf 3 file) arrows
     → ReadDone file boxes rows arrows boxesEnd rowsEnd arrowsEnd (Tables counts)
 read-done file boxes rows arrows boxesEnd rowsEnd arrowsEnd counts e c p q r = (rw (e, c), (rw e p, (rw e q, rw e r)))

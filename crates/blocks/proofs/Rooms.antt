@@ -21,7 +21,7 @@ pub read-fits : (file boxes rows arrows boxesEnd rowsEnd arrowsEnd : List ℕ) {
     → (counts .boxes ≤ length boxes) × (2 * counts .containments ≤ length rows) × (4 * counts .arrows ≤ length arrows)
 unfolding readFault
 read-fits file boxes rows arrows boxesEnd rowsEnd arrowsEnd d =
-    let clean = answer-tables (readFault file (length boxes) (length rows) (length arrows)) _ _ (sym (d .0)) in
+    let clean = answer-tables (readFault file boxes rows arrows) _ _ (sym (d .0)) in
     let room = both-none _ _ (both-none _ _ (both-none _ _ (clean .0) .1) .1) in
     let rest = both-none _ _ (room .1) in
     rw (← clean .1) (room-passed 5 _ _ (room .0), room-passed 6 _ _ (rest .0), room-passed 7 _ _ (rest .1))
@@ -29,13 +29,13 @@ read-fits file boxes rows arrows boxesEnd rowsEnd arrowsEnd d =
 -- a refusal is that of the file
 pub read-stopped : (file boxes rows arrows boxesEnd rowsEnd arrowsEnd : List ℕ) {r : Refusal}
     → ReadDone file boxes rows arrows boxesEnd rowsEnd arrowsEnd (Refused r)
-    → readFault file (length boxes) (length rows) (length arrows) ≡ some r
+    → readFault file boxes rows arrows ≡ some r
 read-stopped file boxes rows arrows boxesEnd rowsEnd arrowsEnd d =
-    answer-refused (readFault file (length boxes) (length rows) (length arrows)) _ _ (sym (d .0))
+    answer-refused (readFault file boxes rows arrows) _ _ (sym (d .0))
 
 -- the counted rows are what the file says
 pub record ReadAs (file boxes rows arrows boxesEnd rowsEnd arrowsEnd : List ℕ) (counts : Counts) : Type 0 where
-  pub no-fault : readFault file (length boxes) (length rows) (length arrows) ≡ none
+  pub no-fault : readFault file boxes rows arrows ≡ none
   pub boxes-read : take (counts .boxes) boxesEnd ≡ tableOf 1 file
   pub rows-read : take (2 * counts .containments) rowsEnd ≡ tableOf 2 file
   pub arrows-read : take (4 * counts .arrows) arrowsEnd ≡ tableOf 3 file
@@ -45,7 +45,7 @@ pub read-tables : (file boxes rows arrows boxesEnd rowsEnd arrowsEnd : List ℕ)
     → ReadAs file boxes rows arrows boxesEnd rowsEnd arrowsEnd counts
 unfolding rowCounts
 read-tables file boxes rows arrows boxesEnd rowsEnd arrowsEnd {counts} d =
-    let clean = answer-tables (readFault file (length boxes) (length rows) (length arrows)) _ _ (sym (d .0)) in
+    let clean = answer-tables (readFault file boxes rows arrows) _ _ (sym (d .0)) in
     let good = clean .0 in
     record {
       no-fault = good;

@@ -17,15 +17,15 @@ unfoldable pub rowCounts : (pic : Picture) → Counts
 rowCounts pic = record { boxes = length (pic .boxes); containments = rowCount (pic .rows); arrows = arrowCount (pic .arrows) }
 
 -- 14, then for each block in turn 15, 16, 17, then 2, then 9, each for the lowest table or buffer: 5 boxes, 6 containments, 7 arrows
--- (numbers to be read), by the lengths of the lent tables
-unfoldable pub readFault : (file : List ℕ) (boxes rows arrows : ℕ) → Option Refusal
+-- (numbers to be read)
+unfoldable pub readFault : (file boxes rows arrows : List ℕ) → Option Refusal
 readFault file boxes rows arrows =
     let counts = rowCounts (pictureOf file) in
     orElse (fileFault file)
     (orElse (countFault (counts .boxes) (counts .containments) (counts .arrows))
-    (orElse (roomFault 5 boxes (counts .boxes))
-    (orElse (roomFault 6 rows (2 * counts .containments))
-    (roomFault 7 arrows (4 * counts .arrows)))))
+    (orElse (roomFault 5 (length boxes) (counts .boxes))
+    (orElse (roomFault 6 (length rows) (2 * counts .containments))
+    (roomFault 7 (length arrows) (4 * counts .arrows)))))
 
 -- the three row counts, or the refusal
 abbrev pub answerOf : (fault : Option Refusal) (counts : Counts) → Reading

@@ -95,7 +95,7 @@ tablesFault counts boxes rows arrows =
 -- what reading promises of its answer and of the three tables at the end, in the words of its contract
 abbrev pub ReadDone : (file boxes rows arrows boxesEnd rowsEnd arrowsEnd : List ℕ) (r : Reading) → Type 0
 ReadDone file boxes rows arrows boxesEnd rowsEnd arrowsEnd r =
-    let fault = readFault file (length boxes) (length rows) (length arrows) in
+    let fault = readFault file boxes rows arrows in
     (r ≡ answerOf fault (rowCounts (pictureOf file)))
     × ((boxesEnd ≡ unlessRefused fault (pictureOf file .boxes) boxes)
     × ((rowsEnd ≡ unlessRefused fault (pictureOf file .rows) rows)

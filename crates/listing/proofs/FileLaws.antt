@@ -24,6 +24,7 @@ use Rattle.blocks.specs.Steps.{ReadDone}
 use Rattle.blocks.specs.declared.Counts.{Counts as Three}
 use Rattle.blocks.specs.declared.Reading.the-variants.{Tables, Refused as Stops}
 use Rattle.blocks.proofs.Made.{joined-same}
+use Rattle.blocks.proofs.Order.{read-lengths}
 use Rattle.blocks.proofs.Rooms.{read-stopped, read-tables}
 use Rattle.lines.specs.Text.{text}
 use Rattle.lines.specs.Lines.{lineText}
@@ -143,8 +144,10 @@ module _ {file boxes rows arrows : List ℕ} (s : List ℕ) (d : Read file (pict
 -- ---- from reading
 module _ (file boxes rows arrows boxesEnd rowsEnd arrowsEnd : List ℕ)
     (nb : 256 ≡ length boxes) (nr : 2048 ≡ length rows) (na : 2048 ≡ length arrows) where
-  fault-is : readFault file (length boxes) (length rows) (length arrows) ≡ readFault file 256 2048 2048
-  fault-is = rw (← nb, ← nr, ← na)
+  fault-is : readFault file boxes rows arrows ≡ readFault file (zeros 256) (zeros 2048) (zeros 2048)
+  fault-is =
+      read-lengths file boxes rows arrows (zeros 256) (zeros 2048) (zeros 2048) (sym nb ∙ sym (zeros-length 256)) (sym nr ∙ sym (zeros-length 2048))
+      (sym na ∙ sym (zeros-length 2048))
 
   pub read-refused : {r : Refusal} → ReadDone file boxes rows arrows boxesEnd rowsEnd arrowsEnd (Stops r) → fileRefusal file ≡ some r
   unfolding fileRefusal

@@ -15,7 +15,7 @@ use Rattle.lines.specs.declared.Line.the-variants.{Stopped}
 -- the refusal of the file, which is read into tables of 256, 2,048 and 2,048 places, or else of its picture, with 65,536 bytes of
 -- scratch: by any number but 12
 unfoldable pub fileRefusal : (file : List ℕ) → Option Refusal
-fileRefusal file = orElse (readFault file 256 2048 2048) (pictureFault (pictureOf file) (zeros 65536))
+fileRefusal file = orElse (readFault file (zeros 256) (zeros 2048) (zeros 2048)) (pictureFault (pictureOf file) (zeros 65536))
 
 -- a refused file or picture gives one line only
 unfoldable pub refusedOr : (fault : Option Refusal) (whole : List ℕ) → List ℕ

@@ -5,6 +5,7 @@ use mathlib.Core.Option.{Option, none}
 use Prim.Native.Nat.{ℕ, _+_, _*_, _-_, _<_, _≤_}
 use lib.ListN.{length, getD, take}
 use Rattle.base.specs.Search.{first, given}
+use Rattle.base.specs.Buffers.{zeros}
 use Rattle.tables.specs.Rows.{Picture}
 use Rattle.tables.specs.Refusals.{unclearPair, verdictOf}
 use Rattle.tables.specs.declared.Refusal.{Refusal}
@@ -91,7 +92,7 @@ module _ (pic : Picture) where
 -- the picture is what the file says, and reading found nothing wrong
 pub record Read (file : List ℕ) (pic : Picture) : Type 0 where
   pub picture-is : pic ≡ pictureOf file
-  pub read : readFault file 256 closureWords closureWords ≡ none
+  pub read : readFault file (zeros 256) (zeros 2048) (zeros 2048) ≡ none
 
 -- and the checks of the picture found nothing either
 pub record Good (file : List ℕ) (pic : Picture) : Type 0 where

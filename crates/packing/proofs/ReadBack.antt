@@ -64,19 +64,19 @@ module _ (pic : Picture) (sound : tableFault pic ≡ none) where
   -- P1: reading a packed file into buffers that suffice answers the row counts and leaves the same three tables there
   module _ (b r a : List ℕ) (box-room : length (pic .boxes) ≤ length b) (row-room : length (pic .rows) ≤ length r)
       (arrow-room : length (pic .arrows) ≤ length a) where
-    no-fault : readFault (packed pic) (length b) (length r) (length a) ≡ none
+    no-fault : readFault (packed pic) b r a ≡ none
     no-fault =
         let s = sound-rows _ _ _ sound in
         let t = sound-arrows _ _ _ sound in
         let c = counts-in _ _ (pic .boxes) (pic .rows) (pic .arrows) (boxes-packed pic) rows-said arrows-said in
         rw packed-is
-        (made-read _ _ (blocks-whole pic) (few .0) (omega (arith, few .1)) (blocks-good pic) (length b) (length r) (length a)
+        (made-read _ _ (blocks-whole pic) (few .0) (omega (arith, few .1)) (blocks-good pic) b r a
         ∙ rw c (tables-passed _ (length b) (length r) (length a)
         (counts-few _ _ _ (s .few-boxes) (s .few-rows) (t .few-arrows))
         (room-enough 5 _ _ box-room) (room-enough 6 _ _ (omega arith)) (room-enough 7 _ _ (omega arith))))
 
   pub read-back : (b r a : List ℕ) → length (pic .boxes) ≤ length b → length (pic .rows) ≤ length r → length (pic .arrows) ≤ length a
-      → let fault = readFault (packed pic) (length b) (length r) (length a) in
+      → let fault = readFault (packed pic) b r a in
       (answerOf fault (rowCounts (pictureOf (packed pic)))
       ≡ Tables (record { boxes = length (pic .boxes); containments = rowCount (pic .rows); arrows = arrowCount (pic .arrows) }))
       × (unlessRefused fault (pictureOf (packed pic) .boxes) b ≡ written (pic .boxes) b)

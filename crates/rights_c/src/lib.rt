@@ -247,18 +247,14 @@ pub extern "C" fn rights_read(
     rows: &mut [u16],
     arrows: &mut [u16],
 ) -> Reply
-    ensures { λ r. ⌜ (let fault = readFault (now (file .entry)) (length (now (boxes .entry))) (length (now (rows .entry)))
-        (length (now (arrows .entry))) in
+    ensures { λ r. ⌜ (let fault = readFault (now (file .entry)) (now (boxes .entry)) (now (rows .entry)) (now (arrows .entry)) in
         let counts = rowCounts (pictureOf (now (file .entry))) in
         r ≡ replyBy fault (doneReply (counts .boxes) (counts .containments) (counts .arrows))) ⌝ }
-    ensures { λ _. ⌜ (let fault = readFault (now (file .entry)) (length (now (boxes .entry))) (length (now (rows .entry)))
-        (length (now (arrows .entry))) in
+    ensures { λ _. ⌜ (let fault = readFault (now (file .entry)) (now (boxes .entry)) (now (rows .entry)) (now (arrows .entry)) in
         now (boxes .exit) ≡ unlessRefused fault (pictureOf (now (file .entry)) .boxes) (now (boxes .entry))) ⌝ }
-    ensures { λ _. ⌜ (let fault = readFault (now (file .entry)) (length (now (boxes .entry))) (length (now (rows .entry)))
-        (length (now (arrows .entry))) in
+    ensures { λ _. ⌜ (let fault = readFault (now (file .entry)) (now (boxes .entry)) (now (rows .entry)) (now (arrows .entry)) in
         now (rows .exit) ≡ unlessRefused fault (pictureOf (now (file .entry)) .rows) (now (rows .entry))) ⌝ }
-    ensures { λ _. ⌜ (let fault = readFault (now (file .entry)) (length (now (boxes .entry))) (length (now (rows .entry)))
-        (length (now (arrows .entry))) in
+    ensures { λ _. ⌜ (let fault = readFault (now (file .entry)) (now (boxes .entry)) (now (rows .entry)) (now (arrows .entry)) in
         now (arrows .exit) ≡ unlessRefused fault (pictureOf (now (file .entry)) .arrows) (now (arrows .entry))) ⌝ }
 {
     of_reading(block_files::read(file, boxes, rows, arrows))

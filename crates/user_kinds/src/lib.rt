@@ -49,7 +49,7 @@ fn note_of(tails: Set) -> usize
 }
 
 // The place of a user before place i who is answered as the user at i, or i. A note has the place behind that of the last user who was
-// looked at and had that note, or 0.
+// looked at and had that note, or 0; of a place that 16 bits do not hold, which no call has, it would have the remainder.
 pub fn alike(closure: &[u64], heads: &[u64], users: &[u16], i: usize, notes: &mut [u16]) -> usize
     requires { ⌜ (length (now closure) ≡ closureWords) × (length (now heads) ≡ headsWords) × Boxes (now users)
         × (i < length (now users)) × Noted i (now notes) ⌝ }

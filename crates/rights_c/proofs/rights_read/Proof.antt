@@ -1,7 +1,6 @@
 -- `rights_c::rights_read` meets its contract: the reply of the call beneath. Assumes nothing.
 use mathlib.Core.Path.{ap, _∙_}
 use borrow.Author.Needs.{needs}
-use lib.ListN.{length}
 use Rattle.blocks.specs.Files.{pictureOf}
 use Rattle.blocks.specs.Reads.{rowCounts, readFault}
 use Rattle.rights_c.specs.Steps.{readReply}
@@ -13,7 +12,7 @@ returns : tie.Need-returns
 returns c =
     let did = c .before .before .before .before .before .before .before in
     let a = did .before .before .before .before .before .before .before .before .args in
-    let fault = readFault (a .file .now) (length (a .boxes .now)) (length (a .rows .now)) (length (a .arrows .now)) in
+    let fault = readFault (a .file .now) (a .boxes .now) (a .rows .now) (a .arrows .now) in
     let done = did .read .ensures in (
       c .of-reading .ensures ∙ ap readReply (done .0) ∙ read-reply fault (rowCounts (pictureOf (a .file .now))),
       done .1,
