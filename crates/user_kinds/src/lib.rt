@@ -20,8 +20,8 @@ use boxsets::same;
 use boxsets::shared;
 use set_tables::set_at;
 
-// How many notes there are: a prime by which the powers of 2 up to 2 to the 63 leave different remainders, so that neither single groups nor
-// groups nested in each other share a note while their numbers lie in one word.
+// How many notes there are: a prime by which the powers of 2 up to 2 to the 63 leave different remainders, so that neither single groups
+// nor groups nested in each other share a note while their numbers lie in one word.
 const NOTES: usize = 107;
 
 // Notes of no user.
