@@ -2,12 +2,13 @@
 -- makes. Assumes nothing.
 use mathlib.Core.Path.{_≡_, refl, ap, _∙_}
 use mathlib.Core.Bool.{true, false, not}
-use mathlib.Core.List.{List, [], _∷_}
+use mathlib.Core.List.{List, [], _∷_, _++_}
 use mathlib.Core.Option.{none}
-use Prim.Native.Nat.{ℕ, zero, suc, _+_, _*_, _<_, _≤_}
+use Prim.Native.Nat.{ℕ, zero, suc, _+_, _*_, _%_, _^_, _<_, _≤_}
 use native.Mathlib.Omega.{arith}
 use native.Mathlib.Nat.{add-zero}
 use borrow.Author.Tests.{le-ltb, eq-eqb, ne-eqb}
+use lib.Bits.{bitXor}
 use lib.ListN.{length, getD, take, drop, replicate}
 use Rattle.base.specs.Buffers.{zeros}
 use Rattle.tables.specs.Rows.{rowCount, arrowCount}
@@ -56,6 +57,16 @@ record-sizes = (refl, refl, refl)
 pub check-is : (bytes : List ℕ) → fnv1a bytes ≡ fnvFold (fnv1a []) bytes
 unfolding fnvFold fnv1a
 check-is bytes = refl
+
+-- of more bytes
+fold-more : (state : ℕ) (a b : List ℕ) → fnvFold (fnvFold state a) b ≡ fnvFold state (a ++ b)
+unfolding fnvFold
+fold-more state [] b = refl
+fold-more state (byte ∷ a) b = fold-more (bitXor state byte * 16777619 % 2 ^ 32) a b
+
+pub check-more : (a b : List ℕ) → fnvFold (fnv1a a) b ≡ fnv1a (a ++ b)
+unfolding fnv1a
+check-more a b = fold-more 2166136261 a b
 
 -- it has 32 bits
 fold-small : (state : ℕ) (bytes : List ℕ) → state < 4294967296 → fnvFold state bytes < 4294967296

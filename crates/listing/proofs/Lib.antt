@@ -2,7 +2,6 @@
 mod ModeLaws
 mod RowLaws
 mod AskLaws
-pub mod LineLaws
 pub mod StandLaws
 pub mod WholeLaws
 pub mod ChunkLaws

@@ -11,7 +11,7 @@ use Rattle.tables.specs.Rows.{arrowCount, arrowAt}
 use Rattle.meaning.specs.Meaning.{modeArrows}
 use Rattle.meaning.proofs.ModeLaws.{mode-some, mode-none}
 use Rattle.listing.specs.Listing.{used}
-use Rattle.listing.specs.Numbered.{usedModes}
+use Rattle.listing.specs.PairRows.{usedModes}
 
 pub few-modes : (arrows : List ℕ) → length (usedModes arrows) ≤ 8
 unfolding usedModes

@@ -33,7 +33,7 @@ use Rattle.blocks.specs.Blocks.{joined}
 use Rattle.blocks.proofs.JoinedLaws.{joined-none, joined-more}
 use Rattle.lines.specs.Lines.{lineText}
 use Rattle.lines.specs.Steps.{Put}
-use Rattle.listing.specs.Steps.{userLine, userUnclear, rowText}
+use Rattle.listing.specs.PairRows.{userLine, userUnclear, rowText, rowUnclear}
 use Rattle.lines.specs.declared.Line.the-variants.{Pair}
 use Rattle.lines.proofs.PutLaws.{chain}
 
@@ -108,7 +108,7 @@ module _ (t : ℕ → Bool) (r : ℕ → Refusal) (pic : Picture) (x : Set) (is 
 -- it is the row's first unclear pair
 pub row-unclear : (pic : Picture) (m u : ℕ) (fs : List ℕ) (row : Row) (r : Verdict) (w v f : ℕ)
     → r ≡ verdictOf (given (ltb f 256) (unclearPair w v f)) → w ≡ m → v ≡ u → f ≡ low (row .unclear) → fs ≡ files pic
-    → Sorts pic m v (among fs) row → r ≡ verdictOf (first (λ c. userUnclear pic m u (getD fs c 0)) (length fs))
+    → Sorts pic m v (among fs) row → r ≡ verdictOf (rowUnclear pic m u fs)
 unfolding userUnclear
 row-unclear pic m u fs row r w v f er ew ev ef efs s =
     let sorts : Sorts pic m u (among (files pic)) row = rw (ev, efs) at s in

@@ -1,57 +1,57 @@
 -- A place among the rows: the first, and what it says of a row. Assumes nothing.
-use mathlib.Core.Path.{_≡_, sym, _∙_}
+use mathlib.Core.Path.{_≡_, sym, ap, _∙_}
 use mathlib.Core.List.{List}
+use mathlib.Core.Option.{Option, none}
 use Prim.Native.Nat.{ℕ, _+_, _*_, _/_, _%_, _<_, _≤_}
 use native.Mathlib.Omega.{arith}
-use native.Mathlib.Nat.{zero-mul, mul-le-mul}
+use native.Mathlib.Nat.{mul-le-mul}
+use native.Mathlib.Numerals.{add-one}
 use lib.ListN.{length, getD, take}
 use lib.Seq.{getD-take}
-use Rattle.base.specs.Search.{first}
-use Rattle.base.proofs.Index.{next-row}
+use Rattle.base.specs.Search.{orElse, first}
+use Rattle.base.proofs.FoldLaws.{fold-more, first-fold}
+use Rattle.base.proofs.SearchLaws.{first-zero}
 use Rattle.tables.specs.Rows.{Picture, user, file}
 use Rattle.tables.specs.Refusals.{verdictOf}
 use Rattle.tables.specs.Steps.{either}
+use Rattle.tables.specs.declared.Refusal.{Refusal}
 use Rattle.tables.specs.declared.Verdict.{Verdict}
 use Rattle.tables.specs.declared.Verdict.the-variants.{Passed}
 use Rattle.tables.specs.Atoms.{atoms}
 use Rattle.tables.proofs.AtomPlaces.{atoms-found, atom-there, atoms-most}
+use Rattle.tables.proofs.Verdicts.{either-verdict}
 use Rattle.meaning.specs.Pairs.{users, files}
 use Rattle.meaning.proofs.PairLaws.{place-in}
 use Rattle.mode_sets.proofs.CallerLaws.{small-arrows}
-use Rattle.listing.specs.Numbered.{usedModes, lineRows, rowStart}
-use Rattle.listing.specs.Steps.{InRange, Fits, Prepared, Stands, userUnclear}
+use Rattle.listing.specs.PairRows.{usedModes, rowUnclear, lineRows, rowMode, rowUser, seenBefore}
+use Rattle.listing.specs.Steps.{InRange, Fits, Prepared, Stands}
 use Rattle.listing.specs.declared.Place.{Place}
-use Rattle.listing.proofs.LineLaws.{row-next, row-seen, seen-none}
 use Rattle.listing.proofs.ModeLaws.{few-modes}
 
 pub stands-first : (pic : Picture) (modes : List ℕ) (used : ℕ) → take used modes ≡ usedModes (pic .arrows)
     → used ≡ length (usedModes (pic .arrows))
-    → Stands pic (record { modes = modes; used = used; row = 0; line = 1; seen = Passed })
-unfolding rowStart
+    → Stands pic (record { modes = modes; used = used; row = 0; seen = Passed })
+unfolding seenBefore
 stands-first pic modes used e n = record {
   modes-are = e;
   used-are = n;
   within = omega arith;
-  line-is = rw zero-mul;
-  seen-are = sym (seen-none pic);
+  seen-are = rw first-zero;
 }
 
-module _ {us fs : List ℕ} {p : Place} (w : Fits us fs p) (l : p .row < p .used * length us) where
+module _ {us : List ℕ} {p : Place} (w : Fits us p) (l : p .row < p .used * length us) where
   -- there is a mode and a user for the next row
   pub row-there : (p .row / length us < p .used) × (p .row % length us < length us)
   row-there = place-in (p .used) (length us) (p .row) l
 
-  pub fits-next : (v : Verdict)
-      → Fits us fs (record { modes = p .modes; used = p .used; row = p .row + 1; line = p .line + length fs; seen = v })
-  fits-next v = record { few-used = w .few-used; within = omega arith; line-is = omega (arith, w .line-is, next-row (length fs) (p .row)) }
+  pub fits-next : (v : Verdict) → Fits us (record { modes = p .modes; used = p .used; row = p .row + 1; seen = v })
+  fits-next v = record { few-used = w .few-used; within = omega arith }
 
 -- a place is not far
-pub fits-small : {us fs : List ℕ} {p : Place} → Fits us fs p → length us ≤ 256 → length fs ≤ 256 → (p .row ≤ 2048) × (p .line ≤ 524289)
-fits-small {us} {fs} {p} w hu hf =
+pub fits-small : {us : List ℕ} {p : Place} → Fits us p → length us ≤ 256 → p .row ≤ 2048
+fits-small {us} {p} w hu =
     let few : p .used * length us ≤ 8 * 256 = mul-le-mul (w .few-used) hu in
-    let row : p .row ≤ 2048 = omega (arith, w .within) in
-    let lines : p .row * length fs ≤ 2048 * 256 = mul-le-mul row hf in
-    (row, omega (arith, w .line-is))
+    omega (arith, w .within)
 
 -- ---- a picture and its tables
 
@@ -74,33 +74,31 @@ prepared-in-range {pic} {closure} {arrows} {us} {fs} d =
 
 -- ---- a place in it
 
+-- the first unclear pair with those of one row more
+first-step : (g : ℕ → Option Refusal) (n : ℕ) → verdictOf (first g (n + 1)) ≡ either (verdictOf (first g n)) (verdictOf (g n))
+first-step g n =
+    rw (add-one, first-fold, fold-more, ← first-fold) (sym (either-verdict (first g n) (g n)))
+
 module _ {pic : Picture} {closure arrows us fs : List ℕ} (d : Prepared pic closure arrows us fs) {p : Place} (s : Stands pic p) where
   pub rows-are : lineRows pic ≡ p .used * length us
   unfolding lineRows
   rows-are = rw (d .users-are, s .used-are)
 
-  pub stands-fit : Fits us fs p
-  unfolding rowStart
-  stands-fit = record {
-    few-used = rw (s .used-are) (few-modes (pic .arrows));
-    within = omega (arith, s .within, rows-are);
-    line-is = s .line-is ∙ rw (d .files-are);
-  }
+  pub stands-fit : Fits us p
+  stands-fit = record { few-used = rw (s .used-are) (few-modes (pic .arrows)); within = omega (arith, s .within, rows-are) }
 
   module _ (l : p .row < lineRows pic) where
-    -- the mode and the user of the next row
-    pub mode-is : getD (p .modes) (p .row / length us) 0 ≡ getD (usedModes (pic .arrows)) (p .row / length (users pic)) 0
+    -- the mode of the next row
+    pub mode-is : getD (p .modes) (p .row / length us) 0 ≡ rowMode pic (p .row)
     mode-is = sym (getD-take (p .used) (p .modes) (p .row / length us) 0 (row-there stands-fit (rw rows-are at l) .0)) ∙ rw (s .modes-are, d .users-are)
 
     -- the place after it
-    pub stands-next : (v : Verdict)
-        → v ≡ verdictOf (first (λ c. userUnclear pic (getD (usedModes (pic .arrows)) (p .row / length (users pic)) 0)
-        (getD (users pic) (p .row % length (users pic)) 0) (getD (files pic) c 0)) (length (files pic)))
-        → Stands pic (record { modes = p .modes; used = p .used; row = p .row + 1; line = p .line + length fs; seen = either (p .seen) v })
+    pub stands-next : (v : Verdict) → v ≡ verdictOf (rowUnclear pic (rowMode pic (p .row)) (rowUser pic (p .row)) (files pic))
+        → Stands pic (record { modes = p .modes; used = p .used; row = p .row + 1; seen = either (p .seen) v })
+    unfolding seenBefore
     stands-next v e = record {
       modes-are = s .modes-are;
       used-are = s .used-are;
       within = omega arith;
-      line-is = rw (s .line-is, d .files-are) (sym (row-next pic (p .row) l));
-      seen-are = rw (s .seen-are, e, s .line-is, d .files-are, ← row-next pic (p .row) l) (row-seen pic (p .row) l);
+      seen-are = rw (s .seen-are, e) (sym (first-step (λ k. rowUnclear pic (rowMode pic k) (rowUser pic k) (files pic)) (p .row)));
     }

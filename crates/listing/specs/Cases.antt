@@ -21,13 +21,13 @@ use Rattle.blocks.specs.Blocks.{joined}
 use Rattle.lines.specs.Text.{text, digit, decimalTo, decimal, line}
 use Rattle.lines.specs.Lines.{answerFields, threeFields, lineText}
 use Rattle.listing.specs.Listing.{used, countsLine, pairLine, modeText, pictureListing}
-use Rattle.listing.specs.Files.{refusedOr}
+use Rattle.listing.specs.Files.{refusedOr, listingOf}
 
 -- the listing of a picture, with a scratch that suffices
-unfoldable pub listingOf : Picture → List ℕ
-listingOf pic =
+unfoldable pub listed : Picture → List ℕ
+listed pic =
     let n = length (pic .boxes) in
-    refusedOr (pictureFault pic (zeros (n * n))) (pictureListing pic)
+    listingOf pic (zeros (n * n))
 
 -- users 0 and 1, file 2; an arrow from 0 to 2 in mode 7
 unfoldable pub picture-default : Picture
@@ -51,10 +51,10 @@ table =
     ∷ (groups-left, "boxes 7 containments 3 arrows 3\n0 0 4 pos 0\n0 1 4 pos 0\naccepted\n")
     ∷ []
 
-pub listings-right : map (λ c. listingOf (c .0)) table ≡ map (λ c. text (c .1)) table
-unfolding listingOf table picture-A picture-B picture-C picture-D picture-E picture-F picture-G picture-H picture-I picture-J
+pub listings-right : map (λ c. listed (c .0)) table ≡ map (λ c. text (c .1)) table
+unfolding listed table picture-A picture-B picture-C picture-D picture-E picture-F picture-G picture-H picture-I picture-J
     picture-default emptied-group emptied-both groups-left text digit decimalTo decimal line answerFields threeFields lineText used countsLine pairLine modeText
-    pictureListing refusedOr joined zeros orElse given first lowest every select sideOf isGroup onSide outer atom atoms pairCount
+    pictureListing refusedOr listingOf joined zeros orElse given first lowest every select sideOf isGroup onSide outer atom atoms pairCount
     raggedFault countFault byteFault namesNoBox acrossSides wrongEnds wrongMode rowFault tableFault roomFault contains around
     loopFault scratchFault earlyFault pictureFault hasMode modeArrows reaches nests level overrides settle hits certifies
     answer byteOf isUnclear userAt fileAt answerAt unclearFault anyUnclear

@@ -3,7 +3,7 @@ use mathlib.Core.List.{List}
 use mathlib.Core.Option.{Option, none, some}
 use Prim.Native.Nat.{ℕ}
 use Rattle.base.specs.Buffers.{zeros}
-use Rattle.base.specs.Search.{orElse}
+use Rattle.tables.specs.Rows.{Picture}
 use Rattle.tables.specs.declared.Refusal.{Refusal}
 use Rattle.scratch.specs.Scratch.{pictureFault}
 use Rattle.blocks.specs.Files.{pictureOf}
@@ -12,16 +12,15 @@ use Rattle.lines.specs.Lines.{lineText}
 use Rattle.listing.specs.Listing.{pictureListing}
 use Rattle.lines.specs.declared.Line.the-variants.{Stopped}
 
--- the refusal of the file, which is read into tables of 256, 2,048 and 2,048 places, or else of its picture, with 65,536 bytes of
--- scratch: by any number but 12
-unfoldable pub fileRefusal : (file : List ℕ) → Option Refusal
-fileRefusal file = orElse (readFault file (zeros 256) (zeros 2048) (zeros 2048)) (pictureFault (pictureOf file) (zeros 65536))
-
 -- a refused file or picture gives one line only
 unfoldable pub refusedOr : (fault : Option Refusal) (whole : List ℕ) → List ℕ
 refusedOr none listing = listing
 refusedOr (some r) listing = lineText (Stopped r)
 
--- the whole listing
+-- of a picture, which is refused by any number but 12
+unfoldable pub listingOf : (pic : Picture) (scratch : List ℕ) → List ℕ
+listingOf pic scratch = refusedOr (pictureFault pic scratch) (pictureListing pic)
+
+-- of a file, which is read into tables of 256, 2,048 and 2,048 places, and its picture, with 65,536 bytes of scratch
 unfoldable pub fileListing : (file : List ℕ) → List ℕ
-fileListing file = refusedOr (fileRefusal file) (pictureListing (pictureOf file))
+fileListing file = refusedOr (readFault file (zeros 256) (zeros 2048) (zeros 2048)) (listingOf (pictureOf file) (zeros 65536))

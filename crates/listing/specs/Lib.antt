@@ -1,5 +1,5 @@
 pub mod Listing
 pub mod Files
-pub mod Numbered
+pub mod PairRows
 pub mod Steps
 pub mod Cases

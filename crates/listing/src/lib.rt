@@ -10,7 +10,7 @@ ghost use Rattle.tables.specs.Steps.{either};
 ghost use Rattle.tables.specs.Rows.{Picture};
 ghost use Rattle.lines.specs.Lines.{lineText};
 ghost use Rattle.listing.specs.Listing.{used};
-ghost use Rattle.listing.specs.Numbered.{usedModes};
+ghost use Rattle.listing.specs.PairRows.{usedModes};
 ghost use Rattle.lines.specs.Steps.{Holds};
 ghost use Rattle.listing.specs.Steps.{InRange, Fits, Prepared, Stands, Filled};
 use lines::Line;
@@ -55,25 +55,23 @@ pub fn stopped(r: Refusal, out: &mut [u8]) -> usize
 
 // ---- The pair lines, row by row: a row is the lines of one mode and one user.
 
-// A place among the rows: the modes with an arrow, rising, and how many; the next row and the number of its first line; and the first
-// unclear pair of the rows before it, so that no pair is answered again for the last line.
+// A place among the rows: the modes with an arrow, rising, and how many; the next row; and the first unclear pair of the rows before it,
+// so that no pair is answered again for the last line.
 pub struct Place {
     pub modes: [u16; 8],
     pub used: usize,
     pub row: usize,
-    pub line: usize,
     pub seen: Verdict,
 }
 
 impl Place {
-    // The place after a row of so many lines, by the row's first unclear pair.
-    fn after(self, lines: usize, unclear: Verdict) -> Self
-        requires { ⌜ (self .row < 65536) × (self .line < 1000000) × (lines ≤ 256) ⌝ }
+    // The place after a row, by the row's first unclear pair.
+    fn after(self, unclear: Verdict) -> Self
+        requires { ⌜ self .row < 65536 ⌝ }
         ensures { λ r. ⌜ r ≡ record {
           modes = self .modes;
           used = self .used;
           row = self .row + 1;
-          line = self .line + lines;
           seen = either (self .seen) unclear;
         } ⌝ }
     {
@@ -83,7 +81,6 @@ impl Place {
             modes,
             used: self.used,
             row: self.row + 1,
-            line: self.line + lines,
             seen: seen.or_else(unclear),
         }
     }
@@ -118,8 +115,9 @@ fn used_modes(arrows: &[u16], out: &mut [u16]) -> usize
     count
 }
 
-// The first row, whose first line is behind the counts.
+// The first row.
 pub fn start(arrows: &[u16]) -> Place
+    ensures { λ r. ⌜ r .row ≡ 0 ⌝ }
     ensures { λ r. ⌜ ((pic : Picture) → now (arrows .entry) ≡ pic .arrows → Stands pic r) ⌝ }
 {
     let mut modes = [0u16; 8];
@@ -128,7 +126,6 @@ pub fn start(arrows: &[u16]) -> Place
         modes,
         used,
         row: 0,
-        line: 1,
         seen: Verdict::Passed,
     }
 }
@@ -162,7 +159,7 @@ pub fn fill(
     from: Place,
     out: &mut [u8],
 ) -> Chunk
-    requires { ⌜ InRange (now closure) (now arrows) (now users) (now files) × Fits (now users) (now files) from ⌝ }
+    requires { ⌜ InRange (now closure) (now arrows) (now users) (now files) × Fits (now users) from ⌝ }
     requires { ⌜ length (now files) * 111 ≤ length (now out) ⌝ }
     ensures { λ r. ⌜ ((pic : Picture)
         → Prepared pic (now (closure .entry)) (now (arrows .entry)) (now (users .entry)) (now (files .entry))
@@ -178,7 +175,7 @@ pub fn fill(
         let told = put_row(closure, arrows, mode, user, files, out, at);
         at = told.next;
         let unclear = told.unclear;
-        place = place.after(files.len(), unclear);
+        place = place.after(unclear);
     }
     Chunk {
         bytes: at,

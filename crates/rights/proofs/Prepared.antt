@@ -21,8 +21,7 @@ use Rattle.scratch.specs.Scratch.{earlyFault, pictureFault}
 use Rattle.containment.specs.Steps.{Closure}
 use Rattle.scratch.proofs.PictureLaws.{early-prepared, picture-prepared, picture-clear, picture-stages}
 use Rattle.certificates.specs.Steps.{Drawn}
-use Rattle.blocks.specs.Files.{pictureOf}
-use Rattle.listing.specs.Steps.{Prepared, Good}
+use Rattle.listing.specs.Steps.{Prepared}
 
 -- the atomic boxes of a side, at the start of a buffer of 256
 module _ {boxes rows old out : List ℕ} {count : ℕ} (side : ℕ) (sound : SoundRows boxes rows) (room : old ≡ zeros 256)
@@ -38,10 +37,10 @@ module _ {boxes rows old out : List ℕ} {count : ℕ} (side : ℕ) (sound : Sou
   pub atoms-part : take count out ≡ atoms boxes rows side
   atoms-part = part-is (atoms boxes rows side) old count out w
 
--- with them the picture of the file is ready to be listed
-pub ready : {file′ boxes rows arrows closure us fs : List ℕ} → Good file′ (picture boxes rows arrows) → Drawn (picture boxes rows arrows) closure
-    → us ≡ atoms boxes rows user → fs ≡ atoms boxes rows file → Prepared (pictureOf file′) closure arrows us fs
-ready g d eu ef = rw (← g .picture-is) (record { drawn = d; arrows-are = refl; users-are = eu; files-are = ef })
+-- with them the picture is ready to be listed
+pub ready : {boxes rows arrows closure us fs : List ℕ} → Drawn (picture boxes rows arrows) closure
+    → us ≡ atoms boxes rows user → fs ≡ atoms boxes rows file → Prepared (picture boxes rows arrows) closure arrows us fs
+ready d eu ef = record { drawn = d; arrows-are = refl; users-are = eu; files-are = ef }
 
 -- the stages of the checks
 module _ (boxes rows arrows s : List ℕ) {early : Verdict} (told : early ≡ verdictOf (earlyFault (picture boxes rows arrows) s)) where

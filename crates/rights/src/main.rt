@@ -4,10 +4,11 @@
 ghost use mathlib.Core.Path.{_≡_};
 ghost use Prim.Native.Nat.{_*_, _≤_};
 ghost use lib.ListN.{length, take};
+ghost use Rattle.base.specs.Buffers.{zeros};
 ghost use Rattle.tables.specs.Rows.{picture};
 ghost use Rattle.certificates.specs.Steps.{Drawn};
-ghost use Rattle.listing.specs.Numbered.{fileLineCount};
-ghost use Rattle.listing.specs.Steps.{Read, Good};
+ghost use Rattle.listing.specs.Files.{listingOf, fileListing};
+ghost use Rattle.listing.specs.Listing.{pictureListing};
 ghost use Rattle.sending.specs.Steps.{SentAll};
 ghost use Rattle.rights.specs.Steps.{GotMost};
 use blocks::Counts;
@@ -15,7 +16,7 @@ use blocks::Reading;
 use libc::STDERR_FILENO;
 use libc::STDIN_FILENO;
 use sending::Sent;
-use sending::send_lines;
+use sending::send_picture;
 use sending::send_stopped;
 use tables::BoxRow;
 use tables::Verdict;
@@ -47,56 +48,54 @@ fn read_all(fd: i32, file: &mut [u8]) -> Input
     Input::Bytes(at)
 }
 
-// ---- The listing of a file: how many of its lines went out, all unless a write failed.
+// ---- The listing goes out: unless a write failed, what went out has the check of the listing.
 
-// The listing of a picture without faults.
-fn list_picture(file: &[u8], boxes: &[u8], rows: &[u16], arrows: &[u16], closure: &[u64]) -> Sent
-    requires { ⌜ Good (now file) (picture (now boxes) (now rows) (now arrows)) ⌝ }
+// Of a picture without faults.
+fn list_picture(boxes: &[u8], rows: &[u16], arrows: &[u16], closure: &[u64]) -> Sent
     requires { ⌜ Drawn (picture (now boxes) (now rows) (now arrows)) (now closure) ⌝ }
-    ensures { λ s. ⌜ SentAll (fileLineCount (now (file .entry))) s ⌝ }
+    ensures { λ s. ⌜ SentAll (pictureListing (picture (now (boxes .entry)) (now (rows .entry)) (now (arrows .entry)))) s ⌝ }
 {
     let mut users = atoms::box_room();
     let mut files = atoms::box_room();
     let user_count = atoms::atoms_of(boxes, rows, BoxRow::USER, &mut users);
     let file_count = atoms::atoms_of(boxes, rows, BoxRow::FILE, &mut files);
-    send_lines(
-        file,
-        boxes.len(),
-        rows.len() / 2,
-        closure,
+    send_picture(
+        boxes,
+        rows,
         arrows,
+        closure,
         &users[..user_count],
         &files[..file_count],
     )
 }
 
-// The listing of a picture, or its refusal.
-fn list_tables(file: &[u8], boxes: &[u8], rows: &[u16], arrows: &[u16]) -> Sent
-    requires { ⌜ Read (now file) (picture (now boxes) (now rows) (now arrows)) ⌝ }
-    ensures { λ s. ⌜ SentAll (fileLineCount (now (file .entry))) s ⌝ }
+// Of any picture.
+fn list_tables(boxes: &[u8], rows: &[u16], arrows: &[u16]) -> Sent
+    ensures { λ s. ⌜ (let pic = picture (now (boxes .entry)) (now (rows .entry)) (now (arrows .entry)) in
+        SentAll (listingOf pic (zeros 65536)) s) ⌝ }
 {
     let mut scratch = io::large_buffer();
     let mut closure = containment::closure_room();
     let early = scratch::early_picture(boxes, rows, arrows, &scratch);
     let v = scratch::prepare(early, boxes, rows, &mut scratch, &mut closure);
     if let Verdict::Refused(r) = v {
-        return send_stopped(file, r);
+        return send_stopped(r);
     }
-    list_picture(file, boxes, rows, arrows, &closure)
+    list_picture(boxes, rows, arrows, &closure)
 }
 
-// The same for tables that were read, by their row counts.
-fn list_counted(file: &[u8], c: Counts, boxes: &[u8], rows: &[u16], arrows: &[u16]) -> Sent
+// Of tables that were read, by their row counts.
+fn list_counted(c: Counts, boxes: &[u8], rows: &[u16], arrows: &[u16]) -> Sent
     requires { ⌜ (c .boxes ≤ length (now boxes)) × (2 * c .containments ≤ length (now rows))
         × (4 * c .arrows ≤ length (now arrows)) ⌝ }
-    requires { ⌜ Read (now file) (picture (take (c .boxes) (now boxes))
-        (take (2 * c .containments) (now rows)) (take (4 * c .arrows) (now arrows))) ⌝ }
-    ensures { λ s. ⌜ SentAll (fileLineCount (now (file .entry))) s ⌝ }
+    ensures { λ s. ⌜ (let pic = picture (take (c .boxes) (now (boxes .entry)))
+        (take (2 * c .containments) (now (rows .entry))) (take (4 * c .arrows) (now (arrows .entry))) in
+        SentAll (listingOf pic (zeros 65536)) s) ⌝ }
 {
     let nb = c.boxes;
     let nr = 2 * c.containments;
     let na = 4 * c.arrows;
-    list_tables(file, &boxes[..nb], &rows[..nr], &arrows[..na])
+    list_tables(&boxes[..nb], &rows[..nr], &arrows[..na])
 }
 
 // Room for the tables, and for the file with a byte more than the longest.
@@ -118,17 +117,17 @@ fn file_bytes() -> [u8; 32769]
     [0; 32769]
 }
 
-// The listing of what was read.
+// Of a file that was read.
 fn list(file: &[u8]) -> Sent
-    ensures { λ s. ⌜ SentAll (fileLineCount (now (file .entry))) s ⌝ }
+    ensures { λ s. ⌜ SentAll (fileListing (now (file .entry))) s ⌝ }
 {
     let mut boxes = box_bytes();
     let mut rows = table_numbers();
     let mut arrows = table_numbers();
     let reading = block_files::read(file, &mut boxes, &mut rows, &mut arrows);
     match reading {
-        Reading::Refused(r) => send_stopped(file, r),
-        Reading::Tables(c) => list_counted(file, c, &boxes, &rows, &arrows),
+        Reading::Refused(r) => send_stopped(r),
+        Reading::Tables(c) => list_counted(c, &boxes, &rows, &arrows),
     }
 }
 
@@ -141,7 +140,10 @@ fn list_from(fd: i32) {
         os::fail(b"rights: cannot read the file");
         return;
     };
-    list(&file[..n]);
+    let sent = list(&file[..n]);
+    if sent.failed {
+        os::fail(b"rights: cannot write the listing");
+    }
 }
 
 fn list_named(name: &[u8]) {

@@ -18,7 +18,7 @@ use Rattle.listing.proofs.fill.Tie as tie
 
 abbrev Inv-loop : tie.InvT-loop
 Inv-loop closure arrows users files out₀ count most at₀ place₀ out at place =
-    Fits users files place × (count ≡ place .used * length users) × (length out ≡ length out₀)
+    Fits users place × (count ≡ place .used * length users) × (length out ≡ length out₀)
     × ((pic : Picture) → Prepared pic closure arrows users files → Stands pic place₀ → Filling pic place₀ out₀ out at place)
 
 abbrev μ-loop : tie.MeasureT-loop
@@ -87,8 +87,7 @@ after-requires c κs =
     let at-loop = c .before .before .before .before .before .before .before .before in
     let start = at-loop .before .before .before .before .before .before .before in
     let sized = start .pre .0 .0 in
-    let small = fits-small (at-loop .loop .inv .0) (sized .few-users) (sized .few-files) in
-    (omega (arith, small .0), omega (arith, small .1), sized .few-files)
+    omega (arith, fits-small (at-loop .loop .inv .0) (sized .few-users))
 
 loop-less : tie.Need-loop-less Inv-loop μ-loop
 loop-less c =
@@ -124,7 +123,7 @@ returns c =
     λ pic d s.
     let w = at-loop .loop .inv .3 pic d s in
     filling-done w
-    (λ h. ⊎-elim (λ e. absurd (omega (arith, w .begun e, full, start .pre .1))) (λ l. l) (eq-or-lt-of-le (w .rows-on)))
+    (λ h. ⊎-elim (λ e. absurd (omega (arith, w .begun e, full, start .pre .1))) (λ l. l) (eq-or-lt-of-le (w .onward)))
 
 same-length-2 : tie.Need-same-length-2 Inv-loop μ-loop
 same-length-2 c = c .before .loop .inv .2

@@ -5,7 +5,7 @@ use Prim.Native.Nat.{_-_, _≤_, _<_}
 use lib.ListN.{length}
 use Rattle.base.proofs.BufferLaws.{Selected, selected-none, selected-length, selected-most, selected-yes, selected-no}
 use Rattle.listing.specs.Listing.{used}
-use Rattle.listing.specs.Numbered.{usedModes}
+use Rattle.listing.specs.PairRows.{usedModes}
 use native.Mathlib.Omega.{arith}
 use borrow.Author.Needs.{needs}
 use Rattle.listing.proofs.used_modes.Statement.{statement}

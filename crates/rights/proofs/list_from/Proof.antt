@@ -16,4 +16,4 @@ pub list-from-spec : {M : Type 1} → statement M
 list-from-spec =
     tie.close (tie.spec (λ c κs. search needs) (λ c. search needs) (λ c κs. search needs) (λ c. search needs)
     (λ c. search needs) (λ c. search needs) (λ c κs. search needs) (λ c. search needs) array-share-prefix-file
-    slice-aggregate-list (λ c κs. search needs) (λ c. search needs))
+    slice-aggregate-list (λ c κs. search needs) (λ c. search needs) (λ c κs. search needs) (λ c. search needs) (λ c. search needs))

@@ -1,7 +1,8 @@
 -- `rights::list_tables` meets its contract: a picture that is not refused is without faults, and its closure is made. Assumes nothing.
-use mathlib.Core.Path.{_≡_}
+use mathlib.Core.Path.{_≡_, sym, ap, _∙_}
 use Rattle.tables.specs.Rows.{picture}
 use Rattle.tables.specs.Refusals.{verdictOf}
+use Rattle.blocks.specs.Fnv.{fnv1a}
 use Rattle.scratch.specs.Scratch.{earlyFault, pictureFault}
 use Rattle.listing.proofs.FileLaws.{picture-refused, picture-good}
 use Rattle.rights.proofs.Prepared.{early-passed, stages-are, drawn}
@@ -14,7 +15,7 @@ module _ (early : tie.After-early-picture) where
   scratch = early .before .before .before
 
   abbrev start : tie.Start
-  start = scratch .before .before .before .before .before
+  start = scratch .before .before .before .before
 
 prepare-requires : tie.Need-prepare-requires
 prepare-requires c κs =
@@ -35,24 +36,33 @@ told c =
     stages-are (a .boxes .now) (a .rows .now) (a .arrows .now) s (early .early-picture .ensures)
     (c .prepare .ensures .0 (earlyFault (picture (a .boxes .now) (a .rows .now) (a .arrows .now)) s) (early .early-picture .ensures) .0)
 
-send-stopped-requires : tie.Need-send-stopped-requires
-send-stopped-requires c κs =
-    let prepared = c .before .before .before .before .before in
-    let early = prepared .before .before .before in
-    picture-refused _ (start early .pre) (scratch early .large-buffer .ensures) _ (told prepared) (c .before .v .given .1)
-
 list-picture-requires : tie.Need-list-picture-requires
 list-picture-requires c κs =
     let prepared = c .before .before .before .before .before in
+    let a = start (prepared .before .before .before) .args in
+    let pass = c .before .enum-told .given .1 in
+    drawn (a .boxes .now) (a .rows .now) (a .arrows .now) _ (told prepared) pass (prepared .prepare .ensures .1 pass)
+
+returns : tie.Need-returns
+returns c =
+    let prepared = c .before .before .before .before .before .before in
     let early = prepared .before .before .before in
     let a = start early .args in
-    let pass = c .before .enum-told .given .1 in (
-      picture-good _ (start early .pre) (scratch early .large-buffer .ensures) (told prepared) pass,
-      drawn (a .boxes .now) (a .rows .now) (a .arrows .now) _ (told prepared) pass (prepared .prepare .ensures .1 pass),
-    )
+    λ e. c .send-stopped .ensures e
+    ∙ ap fnv1a (sym (picture-refused (a .boxes .now) (a .rows .now) (a .arrows .now) _ (scratch early .large-buffer .ensures) (told prepared) _
+    (c .before .before .v .given .1)))
+
+returns-2 : tie.Need-returns-2
+returns-2 c =
+    let prepared = c .before .before .before .before .before .before in
+    let early = prepared .before .before .before in
+    let a = start early .args in
+    λ e. c .list-picture .ensures e
+    ∙ ap fnv1a (sym (picture-good (a .boxes .now) (a .rows .now) (a .arrows .now) _ (scratch early .large-buffer .ensures) (told prepared)
+    (c .before .before .enum-told .given .1)))
 
 pub list-tables-spec : {M : Type 1} → statement M
 list-tables-spec =
     tie.close (tie.spec (λ c κs. search needs) (λ c κs. search needs) (λ c. search needs) (λ c κs. search needs) (λ c. search needs)
-    (λ c. search needs) prepare-requires (λ c. search needs) send-stopped-requires (λ c. search needs) (λ c. search needs)
-    (λ c. search needs) list-picture-requires (λ c. search needs))
+    (λ c. search needs) prepare-requires (λ c. search needs) (λ c κs. search needs) returns (λ c. search needs) (λ c. search needs)
+    list-picture-requires returns-2)

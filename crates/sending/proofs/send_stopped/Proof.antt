@@ -1,22 +1,17 @@
--- `sending::send_stopped` meets its contract: a refused file or picture has one line. Assumes nothing.
-use mathlib.Core.Path.{_∙_}
-use Rattle.listing.proofs.FileLaws.{stopped-count, stopped-line}
+-- `sending::send_stopped` meets its contract: the line is all that goes out. Assumes nothing.
+use mathlib.Core.List.{[]}
+use Rattle.sending.proofs.Going.{sent-more}
 use borrow.Author.Needs.{needs}
 use Rattle.sending.proofs.send_stopped.Statement.{statement}
 use Rattle.sending.proofs.send_stopped.Tie as tie
 
-send-requires : tie.Need-send-requires
-send-requires c κs =
-    let stopped = c .before .before .stopped in
-    let start = c .before .before .before .before .before .before in
-    stopped-line (start .args .file .now) (start .args .r) (start .pre) (stopped .ensures)
-
 returns : tie.Need-returns
 returns c =
-    let start = c .before .before .before .before .before .before .before in
-    λ e. c .send .ensures e ∙ stopped-count (start .args .file .now) (start .args .r) (start .pre)
+    let fresh = c .before .before in
+    let made = fresh .before .before in
+    λ e. sent-more [] (fresh .fresh .ensures) (made .stopped .ensures) (c .send .ensures e)
 
 pub send-stopped-spec : {M : Type 1} → statement M
 send-stopped-spec =
-    tie.close (tie.spec (λ c κs. search needs) (λ c. search needs) (λ c κs. search needs) (λ c. search needs)
-    (λ c. search needs) send-requires returns)
+    tie.close (tie.spec (λ c κs. search needs) (λ c. search needs) (λ c κs. search needs) (λ c κs. search needs) (λ c. search needs)
+    (λ c. search needs) (λ c κs. search needs) returns)

@@ -7,4 +7,4 @@ returns : tie.Need-returns
 returns c = rw (c .or-else .ensures)
 
 pub after-spec : {M : Type 1} → statement M
-after-spec = tie.close (tie.spec (λ c. search needs) (λ c. search needs) (λ c κs. search needs) returns)
+after-spec = tie.close (tie.spec (λ c. search needs) (λ c κs. search needs) returns)

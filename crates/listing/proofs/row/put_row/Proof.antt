@@ -11,7 +11,7 @@ use Rattle.boxsets.proofs.AmongLaws.{among-is}
 use Rattle.certificates.specs.Steps.{Drawn}
 use Rattle.user_rows.specs.Steps.{Sorts}
 use Rattle.lines.specs.Steps.{Put}
-use Rattle.listing.specs.Steps.{rowText}
+use Rattle.listing.specs.PairRows.{rowText}
 use Rattle.listing.proofs.StandLaws.{atom-in}
 use Rattle.listing.proofs.RowLaws.{row-none, line-more, row-unclear}
 use borrow.Author.Needs.{needs}
