@@ -30,7 +30,7 @@ use Rattle.lines.specs.Lines.{lineText}
 use Rattle.lines.specs.Steps.{Holds}
 use Rattle.listing.specs.Listing.{countsLine, modeText, pictureListing}
 use Rattle.listing.specs.Files.{refusedOr, listingOf, fileListing}
-use Rattle.listing.specs.Cases.{case-B}
+use Rattle.listing.specs.Cases.{case-B, passes-B}
 use Rattle.lines.specs.declared.Line.the-variants.{Counts, Last, Stopped}
 
 -- the part of a buffer that holds a text
@@ -86,7 +86,6 @@ module _ (file boxes rows arrows boxesEnd rowsEnd arrowsEnd : List ℕ)
 
 -- the listing of a file with the picture of case B is the document's text
 pub document-listing : (file : List ℕ) → readFault file (zeros 256) (zeros 2048) (zeros 2048) ≡ none → pictureOf file ≡ picture-B
-    → pictureFault picture-B (zeros 65536) ≡ none
     → fileListing file ≡ text "boxes 4 containments 2 arrows 2\n0 0 3 pos 0\n0 1 3 neg 1\naccepted\n"
 unfolding fileListing listingOf refusedOr
-document-listing file read is right = rw (read, is, right) case-B
+document-listing file read is = rw (read, is, passes-B) case-B

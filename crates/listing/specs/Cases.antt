@@ -2,6 +2,7 @@
 -- P6); B's is the document's text. Numbers in decimal. Assumes nothing.
 use mathlib.Core.Path.{_≡_, refl}
 use mathlib.Core.List.{List, [], _∷_, map}
+use mathlib.Core.Option.{none}
 use Prim.Native.Nat.{ℕ, _*_}
 use Prim.Native.String.{String}
 use lib.ListN.{length}
@@ -67,6 +68,13 @@ unfolding picture-B text digit decimalTo decimal line answerFields threeFields l
     joined orElse given first lowest every select sideOf isGroup onSide outer atom atoms pairCount contains around hasMode modeArrows reaches
     nests level overrides settle hits certifies answer byteOf isUnclear userAt fileAt answerAt unclearFault anyUnclear
 case-B = refl
+
+-- which is not refused
+pub passes-B : pictureFault picture-B (zeros 65536) ≡ none
+unfolding picture-B zeros orElse given first lowest every select sideOf isGroup onSide outer atom atoms pairCount
+    raggedFault countFault byteFault namesNoBox acrossSides wrongEnds wrongMode rowFault tableFault roomFault contains around
+    loopFault scratchFault earlyFault pictureFault
+passes-B = refl
 
 -- one digit, more, and zeros inside
 pub numbers-right : map decimal (0 ∷ 7 ∷ 10 ∷ 1024 ∷ 32769 ∷ []) ≡ map text ("0" ∷ "7" ∷ "10" ∷ "1024" ∷ "32769" ∷ [])
