@@ -1,14 +1,14 @@
 -- A place among the rows: the first, and what it says of a row. Assumes nothing.
-use mathlib.Core.Path.{_≡_, sym, ap, _∙_}
+use mathlib.Core.Path.{_≡_, sym, _∙_}
 use mathlib.Core.List.{List}
-use mathlib.Core.Option.{Option, none}
+use mathlib.Core.Option.{Option}
 use Prim.Native.Nat.{ℕ, _+_, _*_, _/_, _%_, _<_, _≤_}
 use native.Mathlib.Omega.{arith}
 use native.Mathlib.Nat.{mul-le-mul}
 use native.Mathlib.Numerals.{add-one}
 use lib.ListN.{length, getD, take}
 use lib.Seq.{getD-take}
-use Rattle.base.specs.Search.{orElse, first}
+use Rattle.base.specs.Search.{first}
 use Rattle.base.proofs.FoldLaws.{fold-more, first-fold}
 use Rattle.base.proofs.SearchLaws.{first-zero}
 use Rattle.tables.specs.Rows.{Picture, user, file}
@@ -20,7 +20,7 @@ use Rattle.tables.specs.declared.Verdict.the-variants.{Passed}
 use Rattle.tables.specs.Atoms.{atoms}
 use Rattle.tables.proofs.AtomPlaces.{atoms-found, atom-there, atoms-most}
 use Rattle.tables.proofs.Verdicts.{either-verdict}
-use Rattle.meaning.specs.Pairs.{users, files}
+use Rattle.meaning.specs.Pairs.{files}
 use Rattle.meaning.proofs.PairLaws.{place-in}
 use Rattle.mode_sets.proofs.CallerLaws.{small-arrows}
 use Rattle.listing.specs.PairRows.{usedModes, rowUnclear, lineRows, rowMode, rowUser, seenBefore}

@@ -2,12 +2,12 @@
 use mathlib.Core.Path.{_≡_, refl, sym, ap, ap₂, _∙_}
 use mathlib.Core.Bool.{Bool, true, false, cond}
 use mathlib.Core.List.{List, [], _++_}
-use mathlib.Core.Option.{Option, none}
-use Prim.Native.Nat.{ℕ, _+_, _*_, _/_, _%_}
+use mathlib.Core.Option.{none}
+use Prim.Native.Nat.{ℕ, _+_, _/_, _%_}
 use native.Mathlib.Nat.{zero-add, add-assoc}
 use borrow.Author.Tests.{ltb-false}
 use lib.ListN.{length, getD}
-use Rattle.base.specs.Search.{first, orElse, select}
+use Rattle.base.specs.Search.{orElse, select}
 use Rattle.base.proofs.FoldLaws.{fold, fold-same, fold-add, fold-grid, fold-select, first-fold, orElse-chains, Chains}
 use Rattle.tables.specs.Rows.{Picture}
 use Rattle.tables.specs.Refusals.{verdictOf}
