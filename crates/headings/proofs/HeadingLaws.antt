@@ -5,6 +5,7 @@ use mathlib.Core.Option.{Option, none, some}
 use Prim.Native.Nat.{ℕ, _≤_}
 use native.Mathlib.Omega.{arith}
 use lib.ListN.{length, take}
+use Rattle.base.specs.Search.{orElse}
 use Rattle.base.specs.Buffers.{written, zeros}
 use Rattle.base.proofs.BufferLaws.{zeros-length}
 use Rattle.base.proofs.PartLaws.{Wrote, part-is, part-within}
@@ -12,13 +13,13 @@ use Rattle.tables.specs.Rows.{picture, user, file}
 use Rattle.tables.specs.Atoms.{atoms}
 use Rattle.tables.specs.Faults.{tableFault, roomFault}
 use Rattle.tables.specs.Refusals.{verdictOf, unlessRefused}
-use Rattle.tables.specs.Steps.{SoundRows, either}
+use Rattle.tables.specs.Steps.{SoundRows}
 use Rattle.tables.specs.declared.Refusal.{Refusal}
 use Rattle.tables.specs.declared.Verdict.{Verdict}
 use Rattle.tables.specs.declared.Verdict.the-variants.{Passed, Refused as Stopped}
 use Rattle.tables.proofs.AtomPlaces.{atoms-most}
 use Rattle.tables.proofs.TableLaws.{both-none, room-passed, sound-rows}
-use Rattle.tables.proofs.Verdicts.{passed, refused, refuses, passes, either-verdict}
+use Rattle.tables.proofs.Verdicts.{passed, refused, refuses, passes}
 use Rattle.headings.specs.Calls.{headingsOf, headingFault, usersAfter, filesAfter}
 use Rattle.headings.specs.declared.Headings.{Headings}
 use Rattle.headings.specs.declared.Headings.the-variants.{Written, Refused}
@@ -47,46 +48,51 @@ module _ (boxes rows users files : List ℕ) where
   unfolding usersAfter filesAfter
   ends o e = (rw e, (rw e, rw e))
 
+  -- refused, by whichever check
   stops : (r : Refusal) → Stopped r ≡ verdictOf (headingFault boxes rows users files) → Ends (Refused r) users files
   unfolding headingsOf
   stops r e = ends (some r) (refused _ r (sym e))
 
-  pub by-tables : {v : Verdict} {r : Refusal} → v ≡ verdictOf (tableFault (picture boxes rows [])) → v ≡ Stopped r → Ends (Refused r) users files
+  -- refused by checks 1 to 7
+  pub by-tables : {v : Verdict} {r : Refusal} → v ≡ verdictOf (tableFault (picture boxes rows [])) → v ≡ Stopped r
+      → Ends (Refused r) users files
   unfolding headingFault
-  by-tables {v} {r} t e = stops r (refuses (tableFault (picture boxes rows [])) _ r (sym t ∙ e))
+  by-tables t e = stops _ (refuses (tableFault (picture boxes rows [])) _ _ (sym t ∙ e))
 
--- the tables passed, the atomic boxes of each side stand at the start of an array, and there is a verdict on the two rooms
+-- the tables passed, the atomic boxes of each side stand at the start of an array of 256, and check 9 gave its verdict
 pub record Found (boxes rows users files us fs : List ℕ) (m n : ℕ) (rooms : Verdict) : Type 0 where
   pub tabled : verdictOf (tableFault (picture boxes rows [])) ≡ Passed
   pub users-in : Wrote (atoms boxes rows user) (zeros 256) m us
   pub files-in : Wrote (atoms boxes rows file) (zeros 256) n fs
-  pub roomed : rooms ≡ either (verdictOf (roomFault 11 (length users) m)) (verdictOf (roomFault 12 (length files) n))
+  pub roomed : rooms ≡ verdictOf (orElse (roomFault 11 (length users) m) (roomFault 12 (length files) n))
 
--- an array has room for the atomic boxes of a side
-within : (boxes rows : List ℕ) (side : ℕ) {count : ℕ} {out : List ℕ} → SoundRows boxes rows → Wrote (atoms boxes rows side) (zeros 256) count out → count ≤ length out
-within boxes rows side s w =
-    part-within (atoms boxes rows side) (zeros 256) _ _ w (omega (arith, atoms-most boxes rows side, s .few-boxes, zeros-length 256))
+-- the array is long enough for a side's
+within : {boxes rows out : List ℕ} {count : ℕ} (side : ℕ) → SoundRows boxes rows → Wrote (atoms boxes rows side) (zeros 256) count out
+    → count ≤ length out
+within {boxes} {rows} side s w = part-within _ _ _ _ w (omega (arith, atoms-most boxes rows side, s .few-boxes, zeros-length 256))
 
 module _ {boxes rows users files us fs : List ℕ} {m n : ℕ} {rooms : Verdict} (found : Found boxes rows users files us fs m n rooms) where
   rooms-decide : rooms ≡ verdictOf (headingFault boxes rows users files)
   unfolding headingFault
-  rooms-decide =
-      found .roomed ∙ rw (found .users-in .0, found .files-in .0) (either-verdict _ _ ∙ passes (tableFault (picture boxes rows [])) _ (found .tabled))
+  rooms-decide = found .roomed ∙ rw (found .users-in .0, found .files-in .0) (passes _ _ (found .tabled))
 
+  -- refused by check 9
   pub by-rooms : {r : Refusal} → rooms ≡ Stopped r → Ends boxes rows users files (Refused r) users files
-  by-rooms {r} e = stops boxes rows users files r (sym e ∙ rooms-decide)
+  by-rooms e = stops boxes rows users files _ (sym e ∙ rooms-decide)
 
   module _ (pass : rooms ≡ Passed) where
-    -- the arrays hold so many numbers, and the buffers have room for them
+    -- so many are in the arrays, and so many fit into the buffers
     pub rooms-suffice : ((m ≤ length us) × (m ≤ length users)) × ((n ≤ length fs) × (n ≤ length files))
     rooms-suffice =
-        let s = sound-rows boxes rows [] (passed _ (found .tabled)) in
-        let both = both-none (roomFault 11 (length users) m) (roomFault 12 (length files) n) (passed _ (sym (either-verdict _ _) ∙ sym (found .roomed) ∙ pass)) in (
-          (within boxes rows user s (found .users-in), room-passed 11 (length users) m (both .0)),
-          (within boxes rows file s (found .files-in), room-passed 12 (length files) n (both .1)),
+        let sound = sound-rows boxes rows [] (passed _ (found .tabled)) in
+        let both = both-none (roomFault 11 (length users) m) _ (passed _ (sym (found .roomed) ∙ pass)) in (
+          (within user sound (found .users-in), room-passed 11 (length users) m (both .0)),
+          (within file sound (found .files-in), room-passed 12 (length files) n (both .1)),
         )
 
-    pub by-none : {u f : List ℕ} → u ≡ written (take m us) users → f ≡ written (take n fs) files → Ends boxes rows users files (Written m n) u f
+    -- not refused, and the buffers are written
+    pub by-none : {u f : List ℕ} → u ≡ written (take m us) users → f ≡ written (take n fs) files
+        → Ends boxes rows users files (Written m n) u f
     unfolding headingsOf
     by-none eu ef =
         rw (eu, ef, part-is _ _ _ _ (found .users-in), part-is _ _ _ _ (found .files-in), found .users-in .0, found .files-in .0)

@@ -1,5 +1,4 @@
--- `headings::atomic_boxes` meets its contract: each stage refuses, or leaves the next one its facts; what is copied are the atomic
--- boxes. Assumes nothing.
+-- `headings::atomic_boxes` meets its contract: each stage refuses, or leaves the next one its facts. Assumes nothing.
 use mathlib.Core.List.{[]}
 use mathlib.Core.Path.{_≡_, sym, _∙_}
 use borrow.Author.Needs.{needs}
@@ -9,7 +8,7 @@ use Rattle.tables.specs.Refusals.{verdictOf}
 use Rattle.tables.specs.Steps.{SoundRows}
 use Rattle.tables.specs.declared.Verdict.the-variants.{Passed}
 use Rattle.tables.proofs.TableLaws.{sound-rows}
-use Rattle.tables.proofs.Verdicts.{passed}
+use Rattle.tables.proofs.Verdicts.{passed, either-verdict}
 use Rattle.headings.proofs.HeadingLaws.{Found, by-tables, by-rooms, rooms-suffice, by-none}
 use Rattle.headings.proofs.atomic_boxes.Statement.{statement}
 use Rattle.headings.proofs.atomic_boxes.Tie as tie
@@ -36,18 +35,21 @@ module _ (rooms : tie.After-or-else) where
   abbrev users-at : tie.After-atoms-of
   users-at = files-at .before .before .before
 
-  abbrev arrays : tie.After-box-room2
-  arrays = users-at .before .before
+  abbrev passed-at : tie.After-enum-told
+  passed-at = users-at .before .before .before .before
 
+  -- (the arrays held zeros before)
   found :
-      let a = start (arrays .before .before) .args in
+      let a = start passed-at .args in
       Found (a .boxes .now) (a .rows .now) (a .users .now) (a .files .now) (users-at .atoms-of .last .1 .1 .1 .0)
       (files-at .atoms-of2 .last .1 .1 .1 .0) (users-at .atoms-of .result) (files-at .atoms-of2 .result) (rooms .or-else .result)
   found = record {
-    tabled = tabled (arrays .before .before);
+    tabled = tabled passed-at;
     users-in = (users-at .atoms-of .ensures .0, cc);
     files-in = (files-at .atoms-of2 .ensures .0, cc);
-    roomed = rw (rooms .before .before .check-room .ensures, rooms .before .check-room2 .ensures) at (rooms .or-else .ensures);
+    roomed =
+        (rw (rooms .before .before .check-room .ensures, rooms .before .check-room2 .ensures) at (rooms .or-else .ensures))
+        ∙ either-verdict _ _;
   }
 
 returns : tie.Need-returns

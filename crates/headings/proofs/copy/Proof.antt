@@ -13,9 +13,9 @@ use Rattle.headings.proofs.copy.Statement.{statement}
 use Rattle.headings.proofs.copy.Tie as tie
 
 -- one more number is copied
-copied-more : (numbers old : List ℕ) (i : ℕ) {out : List ℕ} → out ≡ written (take i numbers) old → i < length numbers → i < length old
+copied-more : (numbers old : List ℕ) (i : ℕ) {out : List ℕ} → i < length numbers → i < length old → out ≡ written (take i numbers) old
     → set out i (getD numbers i 0) ≡ written (take (i + 1) numbers) old
-copied-more numbers old i e h l =
+copied-more numbers old i h l e =
     let n : length (take i numbers) ≡ i = length-take-le i numbers (omega arith) in
     rw (e, add-one, take-suc numbers i 0) (rw n at (written-more (take i numbers) old (getD numbers i 0) (omega arith)))
 
@@ -33,7 +33,7 @@ loop-again c =
     let at-loop = c .before .before in
     let a = at-loop .before .args in
     let l = at-loop .loop in
-    (copied-more (a .numbers .now) (a .out .now) (l .i) (l .inv .0) (omega arith) (omega arith), search needs, simp length-set (l .inv .2))
+    (copied-more (a .numbers .now) (a .out .now) (l .i) (omega arith) (omega arith) (l .inv .0), search needs, simp length-set (l .inv .2))
 
 returns : tie.Need-returns Inv-loop μ-loop
 returns c = let e : c .before .loop .i ≡ c .before .before .args .n = omega arith in rw e at (c .before .loop .inv .0)
