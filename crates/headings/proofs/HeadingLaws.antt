@@ -49,15 +49,15 @@ module _ (boxes rows users files : List ℕ) where
   ends o e = (rw e, (rw e, rw e))
 
   -- refused, by whichever check
-  stops : (r : Refusal) → Stopped r ≡ verdictOf (headingFault boxes rows users files) → Ends (Refused r) users files
+  ends-refused : (r : Refusal) → Stopped r ≡ verdictOf (headingFault boxes rows users files) → Ends (Refused r) users files
   unfolding headingsOf
-  stops r e = ends (some r) (refused _ r (sym e))
+  ends-refused r e = ends (some r) (refused _ r (sym e))
 
   -- refused by checks 1 to 7
   pub by-tables : {v : Verdict} {r : Refusal} → v ≡ verdictOf (tableFault (picture boxes rows [])) → v ≡ Stopped r
       → Ends (Refused r) users files
   unfolding headingFault
-  by-tables t e = stops _ (refuses (tableFault (picture boxes rows [])) _ _ (sym t ∙ e))
+  by-tables t e = ends-refused _ (refuses (tableFault (picture boxes rows [])) _ _ (sym t ∙ e))
 
 -- the tables passed, the atomic boxes of each side stand at the start of an array of 256, and check 9 gave its verdict
 pub record Found (boxes rows users files us fs : List ℕ) (m n : ℕ) (rooms : Verdict) : Type 0 where
@@ -66,19 +66,20 @@ pub record Found (boxes rows users files us fs : List ℕ) (m n : ℕ) (rooms : 
   pub files-in : Wrote (atoms boxes rows file) (zeros 256) n fs
   pub roomed : rooms ≡ verdictOf (orElse (roomFault 11 (length users) m) (roomFault 12 (length files) n))
 
--- the array is long enough for a side's
-within : {boxes rows out : List ℕ} {count : ℕ} (side : ℕ) → SoundRows boxes rows → Wrote (atoms boxes rows side) (zeros 256) count out
+-- an array of 256 has a place for each atomic box of a side
+array-suffices : {boxes rows out : List ℕ} {count : ℕ} (side : ℕ) → SoundRows boxes rows → Wrote (atoms boxes rows side) (zeros 256) count out
     → count ≤ length out
-within {boxes} {rows} side s w = part-within _ _ _ _ w (omega (arith, atoms-most boxes rows side, s .few-boxes, zeros-length 256))
+array-suffices {boxes} {rows} side s w = part-within _ _ _ _ w (omega (arith, atoms-most boxes rows side, s .few-boxes, zeros-length 256))
 
 module _ {boxes rows users files us fs : List ℕ} {m n : ℕ} {rooms : Verdict} (found : Found boxes rows users files us fs m n rooms) where
+  -- the tables passed, so check 9 decides
   rooms-decide : rooms ≡ verdictOf (headingFault boxes rows users files)
   unfolding headingFault
   rooms-decide = found .roomed ∙ rw (found .users-in .0, found .files-in .0) (passes _ _ (found .tabled))
 
   -- refused by check 9
   pub by-rooms : {r : Refusal} → rooms ≡ Stopped r → Ends boxes rows users files (Refused r) users files
-  by-rooms e = stops boxes rows users files _ (sym e ∙ rooms-decide)
+  by-rooms e = ends-refused boxes rows users files _ (sym e ∙ rooms-decide)
 
   module _ (pass : rooms ≡ Passed) where
     -- so many are in the arrays, and so many fit into the buffers
@@ -86,8 +87,8 @@ module _ {boxes rows users files us fs : List ℕ} {m n : ℕ} {rooms : Verdict}
     rooms-suffice =
         let sound = sound-rows boxes rows [] (passed _ (found .tabled)) in
         let both = both-none (roomFault 11 (length users) m) _ (passed _ (sym (found .roomed) ∙ pass)) in (
-          (within user sound (found .users-in), room-passed 11 (length users) m (both .0)),
-          (within file sound (found .files-in), room-passed 12 (length files) n (both .1)),
+          (array-suffices user sound (found .users-in), room-passed 11 (length users) m (both .0)),
+          (array-suffices file sound (found .files-in), room-passed 12 (length files) n (both .1)),
         )
 
     -- not refused, and the buffers are written

@@ -38,7 +38,7 @@ module _ (rooms : tie.After-or-else) where
   abbrev passed-at : tie.After-enum-told
   passed-at = users-at .before .before .before .before
 
-  -- (the arrays held zeros before)
+  -- by what the calls ensure; `cc` puts in that the arrays held zeros
   found :
       let a = start passed-at .args in
       Found (a .boxes .now) (a .rows .now) (a .users .now) (a .files .now) (users-at .atoms-of .last .1 .1 .1 .0)
@@ -53,7 +53,7 @@ module _ (rooms : tie.After-or-else) where
   }
 
 returns : tie.Need-returns
-returns c = by-tables _ _ _ _ (c .before .before .before .check .ensures) (c .before .tables .given .1)
+returns c = let at = c .before .before .before in by-tables _ _ _ _ (at .check .ensures) (c .before .tables .given .1)
 
 atoms-of-requires : tie.Need-atoms-of-requires
 atoms-of-requires c κs = (sound (c .before .before .before), search needs)
