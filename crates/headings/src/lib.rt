@@ -1,7 +1,7 @@
 // The headings of the matrix: the atomic users, which are its rows, and the atomic files, which are its columns.
 ghost use mathlib.Core.Path.{_≡_};
 ghost use Prim.Native.Nat.{_≤_};
-ghost use lib.ListN.{length};
+ghost use lib.ListN.{length, take};
 ghost use Rattle.base.specs.Buffers.{written};
 ghost use Rattle.headings.specs.Calls.{headingsOf, headingFault, usersAfter, filesAfter};
 use atoms::atoms_of;
@@ -17,12 +17,12 @@ pub enum Headings {
     Refused(Refusal),
 }
 
-// Writes the numbers into the first places.
-fn copy(numbers: &[u16], out: &mut [u16])
-    requires { ⌜ length (now numbers) ≤ length (now out) ⌝ }
-    ensures { λ _. ⌜ now (out .exit) ≡ written (now (numbers .entry)) (now (out .entry)) ⌝ }
+// Writes the first n numbers into the first places.
+fn copy(numbers: &[u16], n: usize, out: &mut [u16])
+    requires { ⌜ (n ≤ length (now numbers)) × (n ≤ length (now out)) ⌝ }
+    ensures { λ _. ⌜ now (out .exit) ≡ written (take n (now (numbers .entry))) (now (out .entry)) ⌝ }
 {
-    for i in 0..numbers.len() {
+    for i in 0..n {
         out[i] = numbers[i];
     }
 }
@@ -49,7 +49,7 @@ pub fn atomic_boxes(boxes: &[u8], rows: &[u16], users: &mut [u16], files: &mut [
     if let Verdict::Refused(r) = rooms {
         return Headings::Refused(r);
     }
-    copy(&atomic_users[..m], users);
-    copy(&atomic_files[..n], files);
+    copy(&atomic_users, m, users);
+    copy(&atomic_files, n, files);
     Headings::Written(m, n)
 }
