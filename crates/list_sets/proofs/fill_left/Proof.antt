@@ -17,26 +17,15 @@ abbrev μ-loop : tie.MeasureT-loop
 μ-loop users files left₀ i₀ i-end left i = length users - i
 
 loop-holds : tie.Need-loop-holds Inv-loop μ-loop
-loop-holds c =
-    let start = c .before .before in
-    let a = start .args in
-    (search needs, filled-none (a .users .now) (λ u f. isIn (a .files) f) (a .left .now) (start .pre .1))
+loop-holds c = (search needs, filled-none (c .before .before .pre .1))
 
 put-set-requires : tie.Need-put-set-requires Inv-loop μ-loop
-put-set-requires c κs =
-    let at-loop = c .before .before .before .before in
-    let small = at-loop .before .before .before .pre .0 (at-loop .loop .i) (omega arith) in
-    omega (arith, small, c .wide .ensures, at-loop .loop .inv .1 .len)
+put-set-requires c κs = search needs
 
 loop-again : tie.Need-loop-again Inv-loop μ-loop
 loop-again c =
     let put = c .before .before in
-    let at-loop = put .before .before .before .before .before in
-    let a = at-loop .before .before .before .args in (
-      search needs,
-      filled-more (a .users .now) (λ u f. isIn (a .files) f) (at-loop .loop .i) (put .before .wide .result) (a .files) (at-loop .loop .left) _
-          (put .before .wide .ensures) (λ f. refl) (put .put-set .ensures) (at-loop .loop .inv .1),
-    )
+    (search needs, filled-more (put .before .user-at .ensures .0) (λ f. refl) (put .put-set .ensures) (put .before .before .before .before .loop .inv .1))
 
 same-length : tie.Need-same-length Inv-loop μ-loop
 same-length c =
@@ -44,16 +33,8 @@ same-length c =
     at-loop .loop .inv .1 .len ∙ sym (ap length (at-loop .before .before .before .pre .1) ∙ zeros-length 1024)
 
 returns : tie.Need-returns Inv-loop μ-loop
-returns c =
-    let at-loop = c .before in
-    let a = at-loop .before .before .before .args in
-    let e : at-loop .loop .i ≡ length (a .users .now) = omega arith in (
-      at-loop .loop .inv .1 .len,
-      λ pic closure arrows ready.
-          filled-files pic closure arrows (a .users .now) (a .files) (at-loop .loop .left) ready (rw e at (at-loop .loop .inv .1)),
-    )
+returns c = let inv = c .before .loop .inv in (inv .1 .len, λ pic closure arrows ready. filled-files ready (omega arith) (inv .1))
 
 pub fill-left-spec : {M : Type 1} → statement M
 fill-left-spec =
-    tie.close (tie.spec Inv-loop μ-loop loop-holds (search needs) (search needs) (λ c κs. search needs) put-set-requires (search needs)
-    (search needs) loop-again same-length returns)
+    tie.close (tie.spec Inv-loop μ-loop loop-holds (λ c κs. search needs) put-set-requires (search needs) (search needs) loop-again same-length returns)
