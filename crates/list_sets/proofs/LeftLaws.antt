@@ -1,6 +1,6 @@
 -- Tables of files by user: how they are filled user by user, and the first pair that two of them share. Assumes nothing.
 use mathlib.Core.Path.{_≡_, refl, sym, ap, subst, _∙_}
-use mathlib.Core.Bool.{Bool, true, false, _&&_, _||_}
+use mathlib.Core.Bool.{Bool, true, false, _&&_, _||_, and-assoc, and-comm, and-true, or-true, or-false}
 use mathlib.Core.List.{List, []}
 use Prim.Native.Nat.{ℕ, _+_, _<_, _≤_}
 use native.Mathlib.Decide.{ℕ-discrete}
@@ -53,18 +53,10 @@ module _ {us : List ℕ} {row : ℕ → ℕ → Bool} where
       one-more : (u : ℕ) → oneOf us (i + 1) u ≡ (oneOf us i u || eqb (getD us i 0) u)
       one-more u = any-more (λ j. eqb (getD us j 0) u) i
 
-      or-yes : (b : Bool) → (b || true) ≡ true
-      or-yes true = refl
-      or-yes false = refl
-
-      or-no : (b : Bool) → (b || false) ≡ b
-      or-no true = refl
-      or-no false = refl
-
       go : (u f : ℕ) → Dec (u ≡ v) → has t′ u f ≡ (oneOf us (i + 1) u && row u f)
-      go u f (yes d) = rw (d, one-more v, eq-eqb (getD us i 0) v (sym e), or-yes) (put-hit t v x t′ put f ∙ same f)
+      go u f (yes d) = rw (d, one-more v, eq-eqb (getD us i 0) v (sym e), or-true) (put-hit t v x t′ put f ∙ same f)
       go u f (no n) =
-          rw (one-more u, ne-eqb (getD us i 0) u (λ q. n (sym q ∙ sym e)), or-no) (put-miss t v x t′ put u f n ∙ s .each u f)
+          rw (one-more u, ne-eqb (getD us i 0) u (λ q. n (sym q ∙ sym e)), or-false) (put-miss t v x t′ put u f n ∙ s .each u f)
 
 -- all atomic users
 atoms-one : (boxes rows : List ℕ) (s u : ℕ) → oneOf (atoms boxes rows s) (length (atoms boxes rows s)) u ≡ atom boxes rows s u
@@ -86,23 +78,15 @@ filled-all pic us test t e s = record {
   each = λ u f l.
       s .each u f
       ∙ rw (e, atoms-one (pic .boxes) (pic .rows) user u)
-      (regroup (atom (pic .boxes) (pic .rows) user u) (atom (pic .boxes) (pic .rows) file f) (test u f));
+      (sym (and-assoc (atom (pic .boxes) (pic .rows) user u) (atom (pic .boxes) (pic .rows) file f) (test u f)));
 }
-  where
-    regroup : (a b c : Bool) → (a && (b && c)) ≡ ((a && b) && c)
-    regroup true b c = refl
-    regroup false b c = refl
 
 -- every file: the pairs that the empty list does not reach
 pub filled-files : {pic : Picture} {closure arrows us : List ℕ} {files : Set} {i : ℕ} {t : List ℕ} → Ready pic closure arrows us files
     → i ≡ length us → Filled us (λ u f. isIn files f) i t → Table pic (unreached pic []) t
 filled-files {pic} {us = us} {t = t} r e s =
     filled-all pic us (unreached pic []) t (r .users-are)
-    (record { len = s .len; each = λ u f. s .each u f ∙ rw (e, r .files-are f, anyOf-none) (ap (λ (b : Bool). oneOf us (length us) u && b) (flat (atom (pic .boxes) (pic .rows) file f))) })
-  where
-    flat : (b : Bool) → b ≡ (b && true)
-    flat true = refl
-    flat false = refl
+    (record { len = s .len; each = λ u f. s .each u f ∙ rw (e, r .files-are f, anyOf-none, and-true) })
 
 -- ---- the first granted pair that is left
 
@@ -126,10 +110,7 @@ module _ {pic : Picture} {closure arrows us : List ℕ} {files : Set} {left gran
       (regroup (atom (pic .boxes) (pic .rows) file f) (unreached pic (greedy pic m) u f) (grantedTo pic m u f))
     where
       regroup : (a b c : Bool) → ((a && b) && (a && c)) ≡ (a && (c && b))
-      regroup true true true = refl
-      regroup true true false = refl
-      regroup true false true = refl
-      regroup true false false = refl
+      regroup true b c = and-comm b c
       regroup false b c = refl
 
   rows-clear : i ≤ length us → RowsClear pic (missed pic m) i

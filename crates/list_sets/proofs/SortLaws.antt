@@ -1,25 +1,23 @@
 -- Check 12 and the granted files, user by user. Assumes nothing.
-use mathlib.Core.Path.{_≡_, sym, ap, subst, _∙_}
+use mathlib.Core.Path.{_≡_, sym, ap, _∙_}
 use mathlib.Core.Bool.{Bool, true, false, _&&_}
 use mathlib.Core.List.{List}
 use Prim.Native.Nat.{ℕ, _+_, _<_}
-use lib.Dec.{T, eqb}
+use lib.Dec.{eqb}
 use lib.ListN.{length, getD}
 use Rattle.base.specs.Buffers.{zeros}
 use Rattle.base.proofs.AnyLaws.{any-is}
 use Rattle.base.proofs.SearchLaws.{some-none}
-use Rattle.base.proofs.Tests.{and-T, T-eqb, T-true, not-false}
+use Rattle.base.proofs.Tests.{T-eqb, T-true}
 use Rattle.tables.specs.Rows.{Picture, user, file}
 use Rattle.tables.specs.Atoms.{atom}
 use Rattle.tables.specs.Refusals.{refusal, verdictOf}
 use Rattle.tables.specs.declared.Verdict.the-variants.{Passed, Refused}
 use Rattle.tables.proofs.Verdicts.{refused}
-use Rattle.boxsets.specs.Sets.{isIn, low, has, setAt, Put, tableWords}
+use Rattle.boxsets.specs.Sets.{isIn, low, setAt, Put, tableWords}
 use Rattle.boxsets.specs.declared.Set.{Set}
 use Rattle.boxsets.proofs.TableLaws.{has-in}
-use Rattle.meaning.specs.Meaning.{answer, isGranted, isUnclear}
 use Rattle.meaning.specs.Pairs.{users, unclearFault}
-use Rattle.meaning.specs.declared.Entry.{Entry}
 use Rattle.meaning.proofs.RowPairs.{rows-start}
 use Rattle.user_rows.specs.Steps.{Ready, Sorts}
 use Rattle.user_rows.specs.declared.Row.{Row}

@@ -25,7 +25,7 @@ Inv-loop closure heads arrows own users asked granted₀ notes₀ i₀ i-end gra
 abbrev μ-loop : tie.MeasureT-loop
 μ-loop closure heads arrows own users asked granted₀ notes₀ i₀ i-end granted notes i = length users - i
 
--- ---- points: a turn begins, its user is read, and one who is answered alike was looked for
+-- ---- points: a turn begins, its user is read, and one who is answered alike is looked for
 module _ (looked : tie.After-alike Inv-loop μ-loop) where
   abbrev read : tie.After-user-at Inv-loop μ-loop
   read = looked .before .before
@@ -36,9 +36,12 @@ module _ (looked : tie.After-alike Inv-loop μ-loop) where
   abbrev start : tie.Start Inv-loop μ-loop
   start = turn .before .before .before .before .before .before .before .before
 
--- the row of a user was found
-abbrev looked-of : tie.After-is-empty Inv-loop μ-loop → tie.After-alike Inv-loop μ-loop
-looked-of tested = tested .before .before .before .before .before
+-- ---- back to there, where one was found and is read, and where none was and the row of the user is tested
+abbrev found-one : tie.After-user-at2 Inv-loop μ-loop → tie.After-alike Inv-loop μ-loop
+found-one other = other .before .before .before .before
+
+abbrev found-none : tie.After-is-empty Inv-loop μ-loop → tie.After-alike Inv-loop μ-loop
+found-none tested = tested .before .before .before .before .before
 
 loop-holds : tie.Need-loop-holds Inv-loop μ-loop
 loop-holds c =
@@ -53,7 +56,7 @@ user-at-requires-2 c κs =
 
 add-i : tie.Need-add-i Inv-loop μ-loop
 add-i c =
-    let looked = c .before .before .before .before .before .before .before .before .before in
+    let looked = found-one (c .before .before .before .before .before) in
     omega (arith, read looked .before .loop-test .taken, start looked .good)
 
 -- a user before is answered alike
@@ -61,7 +64,7 @@ loop-again : tie.Need-loop-again Inv-loop μ-loop
 loop-again c =
     let put = c .before .before in
     let other = put .before .before .before in
-    let looked = other .before .before .before .before in
+    let looked = found-one other in
     let inv = turn looked .loop .inv in (
       omega (arith, read looked .before .loop-test .taken),
       inv .1,
@@ -75,7 +78,7 @@ loop-again c =
 returns : tie.Need-returns Inv-loop μ-loop
 returns c =
     let tested = c .before .before .before .before in
-    let looked = looked-of tested in
+    let looked = found-none tested in
     let inv = turn looked .loop .inv in (
       inv .2,
       λ pic r o.
@@ -87,14 +90,14 @@ returns c =
 
 add-i-2 : tie.Need-add-i-2 Inv-loop μ-loop
 add-i-2 c =
-    let looked = looked-of (c .before .before .before .before .before .before) in
+    let looked = found-none (c .before .before .before .before .before .before) in
     omega (arith, read looked .before .loop-test .taken, start looked .good)
 
 loop-again-2 : tie.Need-loop-again-2 Inv-loop μ-loop
 loop-again-2 c =
     let put = c .before .before in
     let tested = put .before .before .before .before in
-    let looked = looked-of tested in
+    let looked = found-none tested in
     let inv = turn looked .loop .inv in (
       omega (arith, read looked .before .loop-test .taken),
       inv .1,
