@@ -31,19 +31,20 @@ loop-holds c = (search needs, record { none = λ j l. absurd (omega arith) })
 
 returns : tie.Need-returns Inv-loop μ-loop
 returns c pic closure arrows files ready tg tl =
-    let t = c .before .before .before .before in
+    let tested = c .before .before .before .before in
     c .refused .ensures
     ∙ rw (c .before .lowest .ensures, c .before .before .wide .ensures)
-    (missed-found (read t .before .before .loop .inv .1) (read t .user-at .ensures .0) (leaving t .set-at .ensures) (granting t .set-at2 .ensures)
-    _ (t .before .shared .ensures) _ ready tg tl (read t .before .loop-test .taken)
-    (sym (t .is-empty .ensures) ∙ not-true (t .is-empty .result) (c .before .before .before .if1 .taken)))
+    (missed-found (read tested .before .before .loop .inv .1) (read tested .user-at .ensures .0) (leaving tested .set-at .ensures)
+    (granting tested .set-at2 .ensures) _ (tested .before .shared .ensures) _ ready tg tl (read tested .before .loop-test .taken)
+    (sym (tested .is-empty .ensures) ∙ not-true (tested .is-empty .result) (c .before .before .before .if1 .taken)))
 
 loop-again : tie.Need-loop-again Inv-loop μ-loop
 loop-again c =
-    let t = c .before in (
+    let tested = c .before in (
       search needs,
-      missed-more (read t .before .before .loop .inv .1) (read t .user-at .ensures .0) (leaving t .set-at .ensures) (granting t .set-at2 .ensures)
-          _ (t .before .shared .ensures) (sym (t .is-empty .ensures) ∙ not-false (t .is-empty .result) (c .if1 .left)),
+      missed-more (read tested .before .before .loop .inv .1) (read tested .user-at .ensures .0) (leaving tested .set-at .ensures)
+          (granting tested .set-at2 .ensures) _ (tested .before .shared .ensures)
+          (sym (tested .is-empty .ensures) ∙ not-false (tested .is-empty .result) (c .if1 .left)),
     )
 
 returns-2 : tie.Need-returns-2 Inv-loop μ-loop
