@@ -2,8 +2,8 @@
 // them at the end, which is check 13.
 ghost use mathlib.Core.Path.{_≡_};
 ghost use mathlib.Core.List.{List, []};
-ghost use Prim.Native.Nat.{ℕ, _≤_};
-ghost use lib.ListN.{length};
+ghost use Prim.Native.Nat.{ℕ, _<_, _≤_};
+ghost use lib.ListN.{length, getD};
 ghost use Rattle.base.specs.Buffers.{written, zeros};
 ghost use Rattle.tables.specs.Refusals.{verdictOf};
 ghost use Rattle.tables.specs.Rows.{Picture};
@@ -19,7 +19,6 @@ use base::wide;
 use boxsets::Set;
 use boxsets::is_empty;
 use boxsets::lowest;
-use boxsets::nothing;
 use boxsets::shared;
 use mode_sets::heads_room;
 use mode_sets::take_mode;
@@ -29,7 +28,6 @@ use tables::Refusal;
 use tables::Verdict;
 use user_kinds::alike;
 use user_kinds::notes_room;
-use user_rows::Row;
 use user_rows::sort_row;
 
 // What is asked: the mode, the atomic files, and how many pairs there are.
@@ -55,6 +53,14 @@ pub fn sets_room() -> [u64; TABLE_WORDS]
     [0u64; TABLE_WORDS]
 }
 
+// The user at a place.
+fn user_at(users: &[u16], i: usize) -> usize
+    requires { ⌜ Boxes (now users) × (i < length (now users)) ⌝ }
+    ensures { λ r. ⌜ (r ≡ getD (now (users .entry)) i 0) × (r < 256) ⌝ }
+{
+    wide(users[i])
+}
+
 // Check 12, and the granted files of each user. A user who is answered as one before has the same ones, and no unclear pair either.
 fn sort_rows(
     closure: &[u64],
@@ -73,15 +79,14 @@ fn sort_rows(
 {
     let mut notes = notes_room();
     for i in 0..users.len() {
-        let u = wide(users[i]);
+        let u = user_at(users, i);
         let j = alike(closure, heads, users, i, &mut notes);
-        let mut row = Row {
-            granted: set_at(granted, wide(users[j])),
-            unclear: nothing(),
-        };
-        if j == i {
-            row = sort_row(closure, heads, arrows, own, u, asked.files);
+        if j < i {
+            let known = set_at(granted, user_at(users, j));
+            put_set(granted, u, known);
+            continue;
         }
+        let row = sort_row(closure, heads, arrows, own, u, asked.files);
         let unclear = row.unclear;
         if !is_empty(unclear) {
             return Verdict::refused(Refusal::UNCLEAR_PAIR, wide(asked.mode), u, lowest(unclear));
@@ -133,7 +138,7 @@ pub fn fill_left(users: &[u16], files: Set, left: &mut [u64])
         → Table pic (unreached pic []) (now (left .exit))) ⌝ }
 {
     for i in 0..users.len() {
-        put_set(left, wide(users[i]), files);
+        put_set(left, user_at(users, i), files);
     }
 }
 
@@ -145,7 +150,7 @@ pub fn check_left(users: &[u16], left: &[u64], granted: &[u64], mode: u16) -> Ve
         → r ≡ verdictOf (orderFault pic mode)) ⌝ }
 {
     for i in 0..users.len() {
-        let u = wide(users[i]);
+        let u = user_at(users, i);
         let missed = shared(set_at(left, u), set_at(granted, u));
         if !is_empty(missed) {
             return Verdict::refused(Refusal::NO_ORDER, wide(mode), u, lowest(missed));

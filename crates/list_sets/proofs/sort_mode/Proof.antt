@@ -4,19 +4,19 @@ use Rattle.user_kinds.proofs.TakenLaws.{Taken, taken-in}
 use Rattle.list_sets.proofs.sort_mode.Statement.{statement}
 use Rattle.list_sets.proofs.sort_mode.Tie as tie
 
--- the mode's arrows
-mode : (c : tie.After-take-mode) →
-    let a = c .before .before .before .before .before .before .before .before .before .args in
-    Taken (a .arrows .now) (a .asked .mode) (c .take-mode .result) (c .take-mode .last .1 .1 .0) (c .take-mode .last .1 .1 .1 .0)
-mode c =
-    let start = c .before .before .before .before .before .before .before .before .before in
-    taken-in (start .args .arrows .now) (start .args .asked .mode) (start .pre .1) _ _ _ _ (start .pre .3) (c .take-mode .ensures)
+module _ (taken : tie.After-take-mode) where
+  abbrev start : tie.Start
+  start = taken .before .before .before .before .before .before .before .before .before
+
+  -- the mode's arrows
+  mode : Taken (start .args .arrows .now) (start .args .asked .mode) (taken .take-mode .result) (taken .take-mode .last .1 .1 .0)
+      (taken .take-mode .last .1 .1 .1 .0)
+  mode = taken-in (start .args .arrows .now) (start .args .asked .mode) (start .pre .1) _ _ _ _ (start .pre .3) (taken .take-mode .ensures)
 
 sort-rows-requires : tie.Need-sort-rows-requires
 sort-rows-requires c κs =
     let taken = c .before .before .before .before .before .before in
-    let start = taken .before .before .before .before .before .before .before .before .before in
-    (mode taken .sized (start .args .closure .now) (start .pre .0), start .pre .2, start .pre .4)
+    (mode taken .sized (start taken .args .closure .now) (start taken .pre .0), start taken .pre .2, start taken .pre .4)
 
 returns : tie.Need-returns
 returns c =
