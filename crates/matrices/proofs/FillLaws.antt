@@ -5,80 +5,59 @@ use Prim.Native.Nat.{ℕ, _+_, _*_, _<_, _≤_}
 use native.Mathlib.Nat.{zero-mul}
 use native.Mathlib.Omega.{arith}
 use lib.Dec.{T}
-use lib.ListN.{length, getD}
+use lib.ListN.{length, getD, take}
 use Rattle.base.specs.Buffers.{build, written, zeros}
 use Rattle.base.proofs.BufferLaws.{written-at, build-length, build-at}
 use Rattle.base.proofs.PartLaws.{built-none}
-use Rattle.base.proofs.Index.{next-row, row-step}
-use Rattle.tables.specs.Rows.{Picture}
+use Rattle.base.proofs.Index.{next-row, row-step, in-table}
+use Rattle.tables.specs.Rows.{Picture, user}
 use Rattle.boxsets.specs.Sets.{isIn, among}
 use Rattle.boxsets.specs.declared.Set.{Set}
 use Rattle.boxsets.proofs.AmongLaws.{among-is}
 use Rattle.meaning.specs.Meaning.{answer, byteOf, numberOf}
 use Rattle.meaning.specs.Pairs.{users, files, matrixBytes, matrixNumbers}
 use Rattle.meaning.specs.Steps.{byteAt, numberAt}
-use Rattle.meaning.proofs.MatrixLaws.{byte-place, number-place, bytes-are as bytes-all, numbers-are as numbers-all}
+use Rattle.meaning.proofs.MatrixLaws.{byte-place, number-place, bytes-are, numbers-are}
+use Rattle.mode_sets.specs.Steps.{ModeSets}
 use Rattle.certificates.specs.Steps.{Drawn}
-use Rattle.user_rows.specs.Steps.{Sorts}
+use Rattle.user_rows.specs.Steps.{Moded, Sorts}
 use Rattle.user_rows.specs.declared.Row.{Row}
 use Rattle.user_kinds.specs.Steps.{Noted, Alike, noteCount}
 use Rattle.user_kinds.proofs.AlikeLaws.{noted-none}
+use Rattle.user_kinds.proofs.AtomLaws.{listed-at}
+use Rattle.user_kinds.proofs.TakenLaws.{Taken}
 use Rattle.cells.specs.Steps.{byteIn, Emitted}
 use Rattle.cells.proofs.CellLaws.{emitted-written, byte-said}
 
--- ---- the cells of one row
+-- what is written of h 0, h 1, ..
+built-at : (h : ℕ → ℕ) (old : List ℕ) {p q : ℕ} → p < q → getD (written (build h q) old) p 0 ≡ h p
+built-at h old {p} {q} there = written-at (build h q) old p (rw build-length there) ∙ build-at h q p there
 
-module _ (pic : Picture) (m : ℕ) where
+module _ (pic : Picture) (m : ℕ) (us fs : List ℕ) where
   -- byte j and number j are those of user i and file j
-  pub record Cells (us fs : List ℕ) (i : ℕ) (byte number : ℕ → ℕ) : Type 0 where
-    pub byte-is : (j : ℕ) → j < length fs → byte j ≡ byteOf (answer pic m (getD us i 0) (getD fs j 0))
-    pub number-is : (j : ℕ) → j < length fs → number j ≡ numberOf (answer pic m (getD us i 0) (getD fs j 0))
+  abbrev CellsOf : (i : ℕ) (byte number : ℕ → ℕ) → Type 0
+  CellsOf i byte number = (j : ℕ) → j < length fs →
+      let e = answer pic m (getD us i 0) (getD fs j 0) in
+      (byte j ≡ byteOf e) × (number j ≡ numberOf e)
 
-  -- the places of the first i rows are written
-  pub record Filled (fs : List ℕ) (i : ℕ) (bytes numbers b n : List ℕ) : Type 0 where
-    pub bytes-are : b ≡ written (build (byteAt pic m) (i * length fs)) bytes
-    pub numbers-are : n ≡ written (build (numberAt pic m) (i * length fs)) numbers
+  -- those of the matrix are
+  places : us ≡ users pic → fs ≡ files pic → (i : ℕ) → CellsOf i (λ j. byteAt pic m (i * length fs + j)) (λ j. numberAt pic m (i * length fs + j))
+  places eu ef i j = rw (eu, ef) (λ l. (byte-place pic m i j l, number-place pic m i j l))
 
-module _ {pic : Picture} {m : ℕ} {us fs : List ℕ} where
-  -- what the row found for a user says of the files, each of which is asked
-  pub own-cells : {i u : ℕ} (asked : Set) {row : Row} (found : List ℕ) → u ≡ getD us i 0 → ((k : ℕ) → isIn asked k ≡ among fs k)
-      → Sorts pic m u (isIn asked) row × ((f : ℕ) → T (isIn asked f) → getD found f 0 ≡ numberOf (answer pic m u f))
-      → Cells pic m us fs i (λ j. byteIn row (getD fs j 0)) (λ j. getD found (getD fs j 0) 0)
-  own-cells {u = u} asked {row} found is all said = record {
-    byte-is = λ j l. rw (← is) (byte-said pic m u (getD fs j 0) (isIn asked) row (said .0) (there j l));
-    number-is = λ j l. rw (← is) (said .1 (getD fs j 0) (there j l));
-  }
-    where
-      there : (j : ℕ) → j < length fs → T (isIn asked (getD fs j 0))
-      there j l = rw all (among-is fs j l)
+module _ (closure arrows : List ℕ) (m : ℕ) (us fs : List ℕ) where
+  -- of every picture with these lists
+  abbrev pub Cells : (i : ℕ) (byte number : ℕ → ℕ) → Type 0
+  Cells i byte number =
+      (pic : Picture) → Drawn pic closure → arrows ≡ pic .arrows → us ≡ users pic → fs ≡ files pic → CellsOf pic m us fs i byte number
 
-  module _ (eu : us ≡ users pic) (ef : fs ≡ files pic) where
-    -- what the matrix has at the places of row i
-    places : (i : ℕ) → Cells pic m us fs i (λ j. byteAt pic m (i * length fs + j)) (λ j. numberAt pic m (i * length fs + j))
-    places i = record { byte-is = λ j. rw (eu, ef) (byte-place pic m i j); number-is = λ j. rw (eu, ef) (number-place pic m i j) }
-
-    -- what is written at those of user k before, who has the same answers
-    pub alike-cells : {i : ℕ} {bytes numbers b n : List ℕ} (k : ℕ) → k < i → Alike pic m (getD us k 0) (getD us i 0) → Filled pic m fs i bytes numbers b n
-        → Cells pic m us fs i (λ j. getD b (k * length fs + j) 0) (λ j. getD n (k * length fs + j) 0)
-    alike-cells {i} {bytes} {numbers} k before same e = record {
-      byte-is = λ j l. rw (e .bytes-are, ← same) (built (byteAt pic m) bytes j l ∙ places k .byte-is j l);
-      number-is = λ j l. rw (e .numbers-are, ← same) (built (numberAt pic m) numbers j l ∙ places k .number-is j l);
-    }
-      where
-        built : (h : ℕ → ℕ) (old : List ℕ) (j : ℕ) → j < length fs → getD (written (build h (i * length fs)) old) (k * length fs + j) 0 ≡ h (k * length fs + j)
-        built h old j l =
-            let there : k * length fs + j < i * length fs = omega (arith, row-step (length fs) k i before) in
-            written-at (build h (i * length fs)) old (k * length fs + j) (rw build-length there) ∙ build-at h (i * length fs) (k * length fs + j) there
-
--- ---- the rows one after another
-
--- before the turn of user i: the rows of the users before are written
-pub record Rows (closure arrows : List ℕ) (m : ℕ) (us fs bytes numbers : List ℕ) (i : ℕ) (notes b n : List ℕ) : Type 0 where
-  pub within : i ≤ length us
-  pub noted : Noted i notes
-  pub bytes-len : length b ≡ length bytes
-  pub numbers-len : length n ≡ length numbers
-  pub filled : (pic : Picture) → Drawn pic closure → arrows ≡ pic .arrows → us ≡ users pic → fs ≡ files pic → Filled pic m fs i bytes numbers b n
+  -- before the turn of user i: the rows of the users before are written
+  pub record Rows (bytes numbers : List ℕ) (i : ℕ) (notes b n : List ℕ) : Type 0 where
+    pub within : i ≤ length us
+    pub noted : Noted i notes
+    pub bytes-len : length b ≡ length bytes
+    pub numbers-len : length n ≡ length numbers
+    pub filled : (pic : Picture) → Drawn pic closure → arrows ≡ pic .arrows → us ≡ users pic → fs ≡ files pic
+        → (b ≡ written (build (byteAt pic m) (i * length fs)) bytes) × (n ≡ written (build (numberAt pic m) (i * length fs)) numbers)
 
 module _ {closure arrows us fs bytes numbers notes : List ℕ} {m : ℕ} where
   pub rows-none : notes ≡ zeros noteCount → Rows closure arrows m us fs bytes numbers 0 notes bytes numbers
@@ -87,44 +66,61 @@ module _ {closure arrows us fs bytes numbers notes : List ℕ} {m : ℕ} where
     noted = noted-none notes e;
     bytes-len = refl;
     numbers-len = refl;
-    filled = λ pic d a eu ef. record {
-      bytes-are = rw zero-mul (built-none (byteAt pic m) bytes);
-      numbers-are = rw zero-mul (built-none (numberAt pic m) numbers);
-    };
+    filled = λ pic d a eu ef. rw zero-mul (built-none (byteAt pic m) bytes, built-none (numberAt pic m) numbers);
   }
 
   module _ {b n : List ℕ} {i : ℕ} (rows : Rows closure arrows m us fs bytes numbers i notes b n) where
-    module _ (l : i < length us) (bytes-room : length us * length fs ≤ length bytes) (numbers-room : length us * length fs ≤ length numbers) where
-      -- row i has its places
-      pub row-room : (i * length fs + length fs ≤ length b) × (i * length fs + length fs ≤ length n)
-      row-room = let there = row-step (length fs) i (length us) l in (omega arith, omega arith)
-
-      -- its cells are written there
-      pub rows-more : {notes′ b′ n′ : List ℕ} {byte number : ℕ → ℕ} → Noted (i + 1) notes′
-          → Emitted byte (i * length fs) (length fs) b b′ × Emitted number (i * length fs) (length fs) n n′
-          → ((pic : Picture) → Drawn pic closure → arrows ≡ pic .arrows → us ≡ users pic → fs ≡ files pic → Cells pic m us fs i byte number)
-          → Rows closure arrows m us fs bytes numbers (i + 1) notes′ b′ n′
-      rows-more {byte} {number} noted w cells = record {
-        within = omega arith;
-        noted = noted;
-        bytes-len = w .0 .len ∙ rows .bytes-len;
-        numbers-len = w .1 .len ∙ rows .numbers-len;
-        filled = λ pic d a eu ef.
-            let e = rows .filled pic d a eu ef in
-            let are = cells pic d a eu ef in
-            let hold = places {pic = pic} {m = m} eu ef i in
-            record {
-              bytes-are = rw next-row (emitted-written byte (byteAt pic m) (i * length fs) (length fs) bytes b _ (omega (arith, row-room)) (e .bytes-are) (w .0)
-                  (λ j l. are .byte-is j l ∙ sym (hold .byte-is j l)));
-              numbers-are = rw next-row (emitted-written number (numberAt pic m) (i * length fs) (length fs) numbers n _ (omega (arith, row-room)) (e .numbers-are) (w .1)
-                  (λ j l. are .number-is j l ∙ sym (hold .number-is j l)));
-            };
-      }
-
     -- no user is left
     pub rows-all : length us ≤ i → (pic : Picture) → Drawn pic closure → arrows ≡ pic .arrows → us ≡ users pic → fs ≡ files pic
         → (b ≡ written (matrixBytes pic m) bytes) × (n ≡ written (matrixNumbers pic m) numbers)
     rows-all end pic d a eu ef =
         let all : i ≡ length us = omega arith in
         let e = rows .filled pic d a eu ef in
-        (e .bytes-are ∙ rw (all, eu, ef, bytes-all), e .numbers-are ∙ rw (all, eu, ef, numbers-all))
+        (e .0 ∙ rw (all, eu, ef, bytes-are), e .1 ∙ rw (all, eu, ef, numbers-are))
+
+    module _ (l : i < length us) where
+      -- the cells of user k before, who has the same answers
+      pub alike-cells : {count : ℕ} {own heads : List ℕ} {k : ℕ} → Taken arrows m count own heads → k < i
+          → ((pic : Picture) (m : ℕ) → Drawn pic closure → ModeSets (pic .arrows) m heads → us ≡ users pic → Alike pic m (getD us k 0) (getD us i 0))
+          → Cells closure arrows m us fs i (λ j. getD b (k * length fs + j) 0) (λ j. getD n (k * length fs + j) 0)
+      alike-cells {k = k} mode before alike pic d a eu ef j there =
+          let e = rows .filled pic d a eu ef in
+          let at = places pic m us fs eu ef k j there in
+          let less = in-table i (length fs) k j before there in
+          rw (e .0, e .1, ← alike pic m d (mode .moded pic a .sets) eu (getD fs j 0))
+          (built-at (byteAt pic m) bytes less ∙ at .0, built-at (numberAt pic m) numbers less ∙ at .1)
+
+      -- those of the row found for the user, in which each file is asked
+      pub own-cells : {count u : ℕ} {own heads : List ℕ} {row : Row} (asked : Set) (found : List ℕ) → Taken arrows m count own heads
+          → u ≡ getD us i 0 → ((k : ℕ) → isIn asked k ≡ among fs k)
+          → ((pic : Picture) (m : ℕ) → Drawn pic closure → Moded pic m heads arrows (take count own) → u < length (pic .boxes)
+          → Sorts pic m u (isIn asked) row × ((f : ℕ) → T (isIn asked f) → getD found f 0 ≡ numberOf (answer pic m u f)))
+          → Cells closure arrows m us fs i (λ j. byteIn row (getD fs j 0)) (λ j. getD found (getD fs j 0) 0)
+      own-cells {u = u} {row = row} asked found mode is all said pic d a eu ef j there =
+          let s = said pic m d (mode .moded pic a) (listed-at (pic .boxes) (pic .rows) user us eu i u l is .2) in
+          let t : T (isIn asked (getD fs j 0)) = rw all (among-is fs j there) in
+          rw (← is) (byte-said pic m u (getD fs j 0) (isIn asked) row (s .0) t, s .1 (getD fs j 0) t)
+
+      module _ (bytes-room : length us * length fs ≤ length bytes) (numbers-room : length us * length fs ≤ length numbers) where
+        -- row i has its places
+        pub row-room : (i * length fs + length fs ≤ length b) × (i * length fs + length fs ≤ length n)
+        row-room = let there = row-step (length fs) i (length us) l in (omega arith, omega arith)
+
+        -- its cells are written there
+        pub rows-more : {notes′ b′ n′ : List ℕ} {byte number : ℕ → ℕ} → Noted (i + 1) notes′ → Cells closure arrows m us fs i byte number
+            → Emitted byte (i * length fs) (length fs) b b′ × Emitted number (i * length fs) (length fs) n n′
+            → Rows closure arrows m us fs bytes numbers (i + 1) notes′ b′ n′
+        rows-more {b′ = b′} {n′ = n′} {byte = byte} {number = number} noted cells w = record {
+          within = omega arith;
+          noted = noted;
+          bytes-len = w .0 .len ∙ rows .bytes-len;
+          numbers-len = w .1 .len ∙ rows .numbers-len;
+          filled = λ pic d a eu ef.
+              let e = rows .filled pic d a eu ef in
+              let same = cells pic d a eu ef in
+              let at = places pic m us fs eu ef i in
+              rw next-row (
+                emitted-written byte (byteAt pic m) _ _ bytes b b′ (omega (arith, row-room)) (e .0) (w .0) (λ j l. same j l .0 ∙ sym (at j l .0)),
+                emitted-written number (numberAt pic m) _ _ numbers n n′ (omega (arith, row-room)) (e .1) (w .1) (λ j l. same j l .1 ∙ sym (at j l .1)),
+              );
+        }
