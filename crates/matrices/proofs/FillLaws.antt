@@ -33,6 +33,10 @@ use Rattle.cells.proofs.CellLaws.{emitted-written, byte-said}
 built-at : (h : ℕ → ℕ) (old : List ℕ) {p q : ℕ} → p < q → getD (written (build h q) old) p 0 ≡ h p
 built-at h old {p} {q} there = written-at (build h q) old p (rw build-length there) ∙ build-at h q p there
 
+-- row i has its places
+abbrev pub Room : (fs : List ℕ) (i : ℕ) (b n : List ℕ) → Type 0
+Room fs i b n = (i * length fs + length fs ≤ length b) × (i * length fs + length fs ≤ length n)
+
 module _ (pic : Picture) (m : ℕ) (us fs : List ℕ) where
   -- byte j and number j are those of user i and file j
   abbrev CellsOf : (i : ℕ) (byte number : ℕ → ℕ) → Type 0
@@ -78,19 +82,19 @@ module _ {closure arrows us fs bytes numbers notes : List ℕ} {m : ℕ} where
         let e = rows .filled pic d a eu ef in
         (e .0 ∙ rw (all, eu, ef, bytes-are), e .1 ∙ rw (all, eu, ef, numbers-are))
 
-    module _ (l : i < length us) where
-      -- the cells of user k before, who has the same answers
-      pub alike-cells : {count : ℕ} {own heads : List ℕ} {k : ℕ} → Taken arrows m count own heads → k < i
-          → ((pic : Picture) (m : ℕ) → Drawn pic closure → ModeSets (pic .arrows) m heads → us ≡ users pic → Alike pic m (getD us k 0) (getD us i 0))
-          → Cells closure arrows m us fs i (λ j. getD b (k * length fs + j) 0) (λ j. getD n (k * length fs + j) 0)
-      alike-cells {k = k} mode before alike pic d a eu ef j there =
-          let e = rows .filled pic d a eu ef in
-          let at = places pic m us fs eu ef k j there in
-          let less = in-table i (length fs) k j before there in
-          rw (e .0, e .1, ← alike pic m d (mode .moded pic a .sets) eu (getD fs j 0))
-          (built-at (byteAt pic m) bytes less ∙ at .0, built-at (numberAt pic m) numbers less ∙ at .1)
+    -- the cells of user k before, who has the same answers
+    pub alike-cells : {count : ℕ} {own heads : List ℕ} {k : ℕ} → Taken arrows m count own heads → k < i
+        → ((pic : Picture) (m : ℕ) → Drawn pic closure → ModeSets (pic .arrows) m heads → us ≡ users pic → Alike pic m (getD us k 0) (getD us i 0))
+        → Cells closure arrows m us fs i (λ j. getD b (k * length fs + j) 0) (λ j. getD n (k * length fs + j) 0)
+    alike-cells {k = k} mode before alike pic d a eu ef j there =
+        let e = rows .filled pic d a eu ef in
+        let at = places pic m us fs eu ef k j there in
+        let less = in-table i (length fs) k j before there in
+        rw (e .0, e .1, ← alike pic m d (mode .moded pic a .sets) eu (getD fs j 0))
+        (built-at (byteAt pic m) bytes less ∙ at .0, built-at (numberAt pic m) numbers less ∙ at .1)
 
-      -- those of the row found for the user, in which each file is asked
+    module _ (l : i < length us) where
+      -- those of the row found for user i, in which each file is asked
       pub own-cells : {count u : ℕ} {own heads : List ℕ} {row : Row} (asked : Set) (found : List ℕ) → Taken arrows m count own heads
           → u ≡ getD us i 0 → ((k : ℕ) → isIn asked k ≡ among fs k)
           → ((pic : Picture) (m : ℕ) → Drawn pic closure → Moded pic m heads arrows (take count own) → u < length (pic .boxes)
@@ -101,26 +105,24 @@ module _ {closure arrows us fs bytes numbers notes : List ℕ} {m : ℕ} where
           let t : T (isIn asked (getD fs j 0)) = rw all (among-is fs j there) in
           rw (← is) (byte-said pic m u (getD fs j 0) (isIn asked) row (s .0) t, s .1 (getD fs j 0) t)
 
-      module _ (bytes-room : length us * length fs ≤ length bytes) (numbers-room : length us * length fs ≤ length numbers) where
-        -- row i has its places
-        pub row-room : (i * length fs + length fs ≤ length b) × (i * length fs + length fs ≤ length n)
-        row-room = let there = row-step (length fs) i (length us) l in (omega arith, omega arith)
+      pub row-room : (length us * length fs ≤ length bytes) × (length us * length fs ≤ length numbers) → Room fs i b n
+      row-room all = let there = row-step (length fs) i (length us) l in (omega arith, omega arith)
 
-        -- its cells are written there
-        pub rows-more : {notes′ b′ n′ : List ℕ} {byte number : ℕ → ℕ} → Noted (i + 1) notes′ → Cells closure arrows m us fs i byte number
-            → Emitted byte (i * length fs) (length fs) b b′ × Emitted number (i * length fs) (length fs) n n′
-            → Rows closure arrows m us fs bytes numbers (i + 1) notes′ b′ n′
-        rows-more {b′ = b′} {n′ = n′} {byte = byte} {number = number} noted cells w = record {
-          within = omega arith;
-          noted = noted;
-          bytes-len = w .0 .len ∙ rows .bytes-len;
-          numbers-len = w .1 .len ∙ rows .numbers-len;
-          filled = λ pic d a eu ef.
-              let e = rows .filled pic d a eu ef in
-              let same = cells pic d a eu ef in
-              let at = places pic m us fs eu ef i in
-              rw next-row (
-                emitted-written byte (byteAt pic m) _ _ bytes b b′ (omega (arith, row-room)) (e .0) (w .0) (λ j l. same j l .0 ∙ sym (at j l .0)),
-                emitted-written number (numberAt pic m) _ _ numbers n n′ (omega (arith, row-room)) (e .1) (w .1) (λ j l. same j l .1 ∙ sym (at j l .1)),
-              );
-        }
+      -- its cells are written there
+      pub rows-more : {notes′ b′ n′ : List ℕ} {byte number : ℕ → ℕ} → Room fs i b n → Noted (i + 1) notes′ → Cells closure arrows m us fs i byte number
+          → Emitted byte (i * length fs) (length fs) b b′ × Emitted number (i * length fs) (length fs) n n′
+          → Rows closure arrows m us fs bytes numbers (i + 1) notes′ b′ n′
+      rows-more {b′ = b′} {n′ = n′} {byte = byte} {number = number} room noted cells w = record {
+        within = omega arith;
+        noted = noted;
+        bytes-len = w .0 .len ∙ rows .bytes-len;
+        numbers-len = w .1 .len ∙ rows .numbers-len;
+        filled = λ pic d a eu ef.
+            let e = rows .filled pic d a eu ef in
+            let same = cells pic d a eu ef in
+            let at = places pic m us fs eu ef i in
+            rw next-row (
+              emitted-written byte (byteAt pic m) _ _ bytes b b′ (omega arith) (e .0) (w .0) (λ j l. same j l .0 ∙ sym (at j l .0)),
+              emitted-written number (numberAt pic m) _ _ numbers n n′ (omega arith) (e .1) (w .1) (λ j l. same j l .1 ∙ sym (at j l .1)),
+            );
+      }

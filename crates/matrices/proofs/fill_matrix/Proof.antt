@@ -1,14 +1,14 @@
 -- `matrices::fill_matrix` meets its contract: the rows of the users before i are written. Assumes nothing.
 use mathlib.Core.Path.{_≡_, sym, ap, _∙_}
 use mathlib.Core.Logic.{⊎-elim}
-use Prim.Native.Nat.{ℕ, _+_, _*_, _-_, _≤_}
+use Prim.Native.Nat.{_-_}
 use native.Mathlib.Omega.{arith}
 use borrow.Author.Needs.{needs}
 use lib.ListN.{length}
 use Rattle.base.proofs.Index.{row-step}
 use Rattle.user_rows.proofs.BlankLaws.{blank-length}
 use Rattle.user_kinds.proofs.TakenLaws.{Taken, taken}
-use Rattle.matrices.proofs.FillLaws.{Rows, rows-none, rows-all, alike-cells, own-cells, row-room, rows-more}
+use Rattle.matrices.proofs.FillLaws.{Room, Rows, rows-none, rows-all, alike-cells, own-cells, row-room, rows-more}
 use Rattle.matrices.proofs.fill_matrix.Statement.{statement}
 use Rattle.matrices.proofs.fill_matrix.Tie as tie
 
@@ -31,9 +31,6 @@ module _ (turn : tie.In-loop Inv-loop μ-loop) where
   abbrev start : tie.Start Inv-loop μ-loop
   start = sorted .before .before .before .before .before .before .before .before .before .before .before
 
-  abbrev width : ℕ
-  width = length (start .args .files .now)
-
   -- the mode's arrows
   mode : Taken (start .args .arrows .now) (start .args .mode) (sorted .take-mode .result) (sorted .take-mode .last .1 .1 .0)
       (sorted .take-mode .last .1 .1 .1 .0)
@@ -42,8 +39,8 @@ module _ (turn : tie.In-loop Inv-loop μ-loop) where
       (sorted .take-mode .ensures)
 
   -- the row has its places
-  room : (at-loop .loop .i * width + width ≤ length (at-loop .loop .bytes)) × (at-loop .loop .i * width + width ≤ length (at-loop .loop .numbers))
-  room = row-room (at-loop .loop .inv) (turn .loop-test .taken) (start .pre .4) (start .pre .5)
+  room : Room (start .args .files .now) (at-loop .loop .i) (at-loop .loop .bytes) (at-loop .loop .numbers)
+  room = row-room (at-loop .loop .inv) (turn .loop-test .taken) (start .pre .4, start .pre .5)
 
 abbrev turn-of : tie.After-alike Inv-loop μ-loop → tie.In-loop Inv-loop μ-loop
 turn-of looked = looked .before .before .before
@@ -72,13 +69,13 @@ mul-copy-row : tie.Need-mul-copy-row Inv-loop μ-loop
 mul-copy-row c =
     let turn = turn-of (c .before .before) in
     let l = at-loop turn .loop in
-    omega (arith, row-step (width turn) _ (l .i) (c .if1 .taken), room turn .0, l .inv .bytes-len, start turn .good)
+    omega (arith, row-step (length (start turn .args .files .now)) _ (l .i) (c .if1 .taken), room turn .0, l .inv .bytes-len, start turn .good)
 
 copy-row-requires : tie.Need-copy-row-requires Inv-loop μ-loop
 copy-row-requires c κs =
     let then = c .before .before in
     let turn = turn-of (then .before .before) in
-    (row-step (width turn) _ _ (then .if1 .taken), room turn .0, room turn .1)
+    (row-step (length (start turn .args .files .now)) _ _ (then .if1 .taken), room turn .0, room turn .1)
 
 -- ---- a row of her own
 
@@ -118,18 +115,17 @@ loop-again c =
     let alike = c .before .before .alike in
     let turn = turn-of (c .before .before) in
     let rows = at-loop turn .loop .inv in
-    let pre = start turn .pre in
     let l = turn .loop-test .taken in
     let asked = at-loop turn .before .before .set-of in
     ⊎-elim
     (λ w.
     let copied = w .3 in
-    rw (w .8, w .9) (rows-more rows l (pre .4) (pre .5) (alike .ensures .0 .1) (alike-cells rows l (mode turn) (w .0 .taken) (alike .ensures .1)) (copied .ensures)))
+    rw (w .8, w .9) (rows-more rows l (room turn) (alike .ensures .0 .1) (alike-cells rows (mode turn) (w .0 .taken) (alike .ensures .1)) (copied .ensures)))
     (λ w.
     let found = w .7 in
     let emitted = w .12 in
     rw (w .17, w .18)
-    (rows-more rows l (pre .4) (pre .5) (alike .ensures .0 .1)
+    (rows-more rows l (room turn) (alike .ensures .0 .1)
     (own-cells rows l (asked .result) (found .last .1 .1 .1 .1 .1 .1 .0) (mode turn) (w .2 .ensures) (asked .ensures) (found .ensures)) (emitted .ensures)))
     (c .if1 .came)
 
