@@ -34,9 +34,7 @@ module _ (turn : tie.In-loop Inv-loop μ-loop) where
   -- the mode's arrows
   mode : Taken (start .args .arrows .now) (start .args .mode) (sorted .take-mode .result) (sorted .take-mode .last .1 .1 .0)
       (sorted .take-mode .last .1 .1 .1 .0)
-  mode =
-      taken (start .args .arrows .now) (start .args .mode) (start .pre .1) _ _ _ _ (sorted .before .before .before .before .arrow-room .ensures)
-      (sorted .take-mode .ensures)
+  mode = taken _ _ (start .pre .1) _ _ _ _ (sorted .before .before .before .before .arrow-room .ensures) (sorted .take-mode .ensures)
 
   -- the row has its places
   room : Room (start .args .files .now) (at-loop .loop .i) (at-loop .loop .bytes) (at-loop .loop .numbers)
@@ -110,23 +108,26 @@ emit-row-requires c κs =
 add-i : tie.Need-add-i Inv-loop μ-loop
 add-i c = let turn = turn-of (c .before .before) in omega (arith, turn .loop-test .taken, start turn .good)
 
+-- w is what a branch did, in order: its last two parts say what the tables are after it
 loop-again : tie.Need-loop-again Inv-loop μ-loop
 loop-again c =
     let alike = c .before .before .alike in
     let turn = turn-of (c .before .before) in
     let rows = at-loop turn .loop .inv in
     let l = turn .loop-test .taken in
+    let noted = alike .ensures .0 .1 in
     let asked = at-loop turn .before .before .set-of in
     ⊎-elim
     (λ w.
+    let before = w .0 .taken in
     let copied = w .3 in
-    rw (w .8, w .9) (rows-more rows l (room turn) (alike .ensures .0 .1) (alike-cells rows (mode turn) (w .0 .taken) (alike .ensures .1)) (copied .ensures)))
+    rw (w .8, w .9) (rows-more rows l (room turn) noted (alike-cells rows (mode turn) before (alike .ensures .1)) (copied .ensures)))
     (λ w.
+    let read = w .2 in
     let found = w .7 in
     let emitted = w .12 in
-    rw (w .17, w .18)
-    (rows-more rows l (room turn) (alike .ensures .0 .1)
-    (own-cells rows l (asked .result) (found .last .1 .1 .1 .1 .1 .1 .0) (mode turn) (w .2 .ensures) (asked .ensures) (found .ensures)) (emitted .ensures)))
+    let cells = own-cells rows l (asked .result) (found .last .1 .1 .1 .1 .1 .1 .0) (mode turn) (read .ensures) (asked .ensures) (found .ensures) in
+    rw (w .17, w .18) (rows-more rows l (room turn) noted cells (emitted .ensures)))
     (c .if1 .came)
 
 returns : tie.Need-returns Inv-loop μ-loop
