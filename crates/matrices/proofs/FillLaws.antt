@@ -1,74 +1,129 @@
 -- The matrix, row after row. Assumes nothing.
-use mathlib.Core.Path.{_≡_, sym, ap, _∙_}
-use mathlib.Core.Bool.{Bool}
+use mathlib.Core.Path.{_≡_, refl, sym, ap, _∙_}
 use mathlib.Core.List.{List}
 use Prim.Native.Nat.{ℕ, _+_, _*_, _<_, _≤_}
 use native.Mathlib.Nat.{zero-mul}
+use native.Mathlib.Omega.{arith}
 use lib.Dec.{T}
-use lib.ListN.{length, getD}
-use Rattle.base.specs.Buffers.{build, written}
+use lib.ListN.{length, getD, take}
+use Rattle.base.specs.Buffers.{build, written, zeros}
+use Rattle.base.proofs.BufferLaws.{written-at, build-length, build-at}
 use Rattle.base.proofs.PartLaws.{built-none}
-use Rattle.base.proofs.Index.{next-row, row-step}
-use Rattle.tables.specs.Rows.{Picture}
+use Rattle.base.proofs.Index.{next-row, row-step, in-table}
+use Rattle.tables.specs.Rows.{Picture, user}
+use Rattle.boxsets.specs.Sets.{isIn, among}
+use Rattle.boxsets.specs.declared.Set.{Set}
+use Rattle.boxsets.proofs.AmongLaws.{among-is}
 use Rattle.meaning.specs.Meaning.{answer, byteOf, numberOf}
 use Rattle.meaning.specs.Pairs.{users, files, matrixBytes, matrixNumbers}
 use Rattle.meaning.specs.Steps.{byteAt, numberAt}
 use Rattle.meaning.proofs.MatrixLaws.{byte-place, number-place, bytes-are, numbers-are}
-use Rattle.user_rows.specs.Steps.{Sorts}
+use Rattle.mode_sets.specs.Steps.{ModeSets}
+use Rattle.certificates.specs.Steps.{Drawn}
+use Rattle.user_rows.specs.Steps.{Moded, Sorts}
 use Rattle.user_rows.specs.declared.Row.{Row}
-use Rattle.user_kinds.specs.Steps.{Alike}
+use Rattle.user_kinds.specs.Steps.{Noted, Alike, noteCount}
+use Rattle.user_kinds.proofs.AlikeLaws.{noted-none}
+use Rattle.user_kinds.proofs.AtomLaws.{listed-at}
+use Rattle.user_kinds.proofs.TakenLaws.{Taken}
 use Rattle.cells.specs.Steps.{byteIn, Emitted}
-use Rattle.cells.proofs.CellLaws.{emitted-written, copied-written, byte-said}
+use Rattle.cells.proofs.CellLaws.{emitted-written, byte-said}
 
-module _ (pic : Picture) (m : ℕ) where
-  -- the bytes and numbers of the places before k are written
-  abbrev pub Filled : (k : ℕ) (bytes numbers bytes′ numbers′ : List ℕ) → Type 0
-  Filled k bytes numbers bytes′ numbers′ =
-      (bytes′ ≡ written (build (byteAt pic m) k) bytes) × (numbers′ ≡ written (build (numberAt pic m) k) numbers)
+-- what was written at place p
+built-at : (h : ℕ → ℕ) (old : List ℕ) {p q : ℕ} → p < q → getD (written (build h q) old) p 0 ≡ h p
+built-at h old {p} {q} there = written-at (build h q) old p (rw build-length there) ∙ build-at h q p there
 
-  pub filled-none : (fs bytes numbers : List ℕ) → Filled (0 * length fs) bytes numbers bytes numbers
-  filled-none fs bytes numbers = rw zero-mul (built-none (byteAt pic m) bytes, built-none (numberAt pic m) numbers)
+-- row i has its places
+abbrev pub Room : (fs : List ℕ) (i : ℕ) (b n : List ℕ) → Type 0
+Room fs i b n = (i * length fs + length fs ≤ length b) × (i * length fs + length fs ≤ length n)
 
-  -- row i is written: u is its user, fs are the files
-  module _ (i u : ℕ) (fs : List ℕ) (asked : ℕ → Bool) (row : Row) (found : List ℕ) (is : u ≡ getD (users pic) i 0) (are : fs ≡ files pic)
-      (all : (j : ℕ) → j < length fs → T (asked (getD fs j 0))) where
-    cell-byte : Sorts pic m u asked row → (j : ℕ) → j < length fs → byteIn row (getD fs j 0) ≡ byteAt pic m (i * length fs + j)
-    cell-byte sorts j l = byte-said pic m u (getD fs j 0) asked row sorts (all j l) ∙ rw (is, are) (sym (byte-place pic m i j (rw are at l)))
+module _ (pic : Picture) (m : ℕ) (us fs : List ℕ) where
+  -- byte j and number j are those of user i and file j
+  abbrev CellsOf : (i : ℕ) (byte number : ℕ → ℕ) → Type 0
+  CellsOf i byte number = (j : ℕ) → j < length fs →
+      let e = answer pic m (getD us i 0) (getD fs j 0) in
+      (byte j ≡ byteOf e) × (number j ≡ numberOf e)
 
-    cell-number : ((f : ℕ) → T (asked f) → getD found f 0 ≡ numberOf (answer pic m u f))
-        → (j : ℕ) → j < length fs → getD found (getD fs j 0) 0 ≡ numberAt pic m (i * length fs + j)
-    cell-number says j l = says (getD fs j 0) (all j l) ∙ rw (is, are) (sym (number-place pic m i j (rw are at l)))
+  -- those that the matrix has in row i are
+  places : us ≡ users pic → fs ≡ files pic → (i : ℕ) → CellsOf i (λ j. byteAt pic m (i * length fs + j)) (λ j. numberAt pic m (i * length fs + j))
+  places eu ef i j = rw (eu, ef) (λ l. (byte-place pic m i j l, number-place pic m i j l))
 
-    pub filled-row : (bytes numbers b n b′ n′ : List ℕ) → i * length fs + length fs ≤ length bytes → i * length fs + length fs ≤ length numbers
-        → Sorts pic m u asked row × ((f : ℕ) → T (asked f) → getD found f 0 ≡ numberOf (answer pic m u f))
-        → Emitted (λ j. byteIn row (getD fs j 0)) (i * length fs) (length fs) b b′
-        × Emitted (λ j. getD found (getD fs j 0) 0) (i * length fs) (length fs) n n′
-        → Filled (i * length fs) bytes numbers b n → Filled ((i + 1) * length fs) bytes numbers b′ n′
-    filled-row bytes numbers b n b′ n′ room-b room-n said w e =
-        rw next-row (
-          emitted-written (λ j. byteIn row (getD fs j 0)) (byteAt pic m) (i * length fs) (length fs) bytes b b′ room-b (e .0) (w .0)
-              (cell-byte (said .0)),
-          emitted-written (λ j. getD found (getD fs j 0) 0) (numberAt pic m) (i * length fs) (length fs) numbers n n′ room-n (e .1) (w .1)
-              (cell-number (said .1)),
-        )
+module _ (closure arrows : List ℕ) (m : ℕ) (us fs : List ℕ) where
+  -- the same in every picture with these lists
+  abbrev pub Cells : (i : ℕ) (byte number : ℕ → ℕ) → Type 0
+  Cells i byte number =
+      (pic : Picture) → Drawn pic closure → arrows ≡ pic .arrows → us ≡ users pic → fs ≡ files pic → CellsOf pic m us fs i byte number
 
-  -- row i is copied from that of the user at place j before, who has the same answers
-  pub filled-alike : (i j : ℕ) (fs bytes numbers b n b′ n′ : List ℕ) → fs ≡ files pic → j < i
-      → Alike pic m (getD (users pic) j 0) (getD (users pic) i 0)
-      → i * length fs + length fs ≤ length bytes → i * length fs + length fs ≤ length numbers
-      → Emitted (λ k. getD b (j * length fs + k) 0) (i * length fs) (length fs) b b′
-      × Emitted (λ k. getD n (j * length fs + k) 0) (i * length fs) (length fs) n n′
-      → Filled (i * length fs) bytes numbers b n → Filled ((i + 1) * length fs) bytes numbers b′ n′
-  filled-alike i j fs bytes numbers b n b′ n′ are l same room-b room-n e w =
-      rw next-row (
-        copied-written (byteAt pic m) (j * length fs) (i * length fs) (length fs) bytes b b′ (row-step (length fs) j i l) room-b (w .0) (e .0)
-            (λ k there. rw are (byte-place pic m j k (rw are at there) ∙ ap byteOf (same (getD (files pic) k 0)) ∙ sym (byte-place pic m i k (rw are at there)))),
-        copied-written (numberAt pic m) (j * length fs) (i * length fs) (length fs) numbers n n′ (row-step (length fs) j i l) room-n (w .1) (e .1)
-            (λ k there.
-            rw are (number-place pic m j k (rw are at there) ∙ ap numberOf (same (getD (files pic) k 0)) ∙ sym (number-place pic m i k (rw are at there)))),
-      )
+  -- before the turn of user i: the rows of the users before are written
+  pub record Rows (bytes numbers : List ℕ) (i : ℕ) (notes b n : List ℕ) : Type 0 where
+    pub within : i ≤ length us
+    pub noted : Noted i notes
+    pub bytes-len : length b ≡ length bytes
+    pub numbers-len : length n ≡ length numbers
+    pub filled : (pic : Picture) → Drawn pic closure → arrows ≡ pic .arrows → us ≡ users pic → fs ≡ files pic
+        → (b ≡ written (build (byteAt pic m) (i * length fs)) bytes) × (n ≡ written (build (numberAt pic m) (i * length fs)) numbers)
 
-  -- all rows are
-  pub filled-all : (us fs bytes numbers b n : List ℕ) → us ≡ users pic → fs ≡ files pic → Filled (length us * length fs) bytes numbers b n
-      → (b ≡ written (matrixBytes pic m) bytes) × (n ≡ written (matrixNumbers pic m) numbers)
-  filled-all us fs bytes numbers b n eu ef e = (e .0 ∙ rw (eu, ef, bytes-are), e .1 ∙ rw (eu, ef, numbers-are))
+module _ {closure arrows us fs bytes numbers notes : List ℕ} {m : ℕ} where
+  pub rows-none : notes ≡ zeros noteCount → Rows closure arrows m us fs bytes numbers 0 notes bytes numbers
+  rows-none e = record {
+    within = omega arith;
+    noted = noted-none notes e;
+    bytes-len = refl;
+    numbers-len = refl;
+    filled = λ pic d a eu ef. rw zero-mul (built-none (byteAt pic m) bytes, built-none (numberAt pic m) numbers);
+  }
+
+  module _ {b n : List ℕ} {i : ℕ} (rows : Rows closure arrows m us fs bytes numbers i notes b n) where
+    -- no user is left
+    pub rows-all : length us ≤ i → (pic : Picture) → Drawn pic closure → arrows ≡ pic .arrows → us ≡ users pic → fs ≡ files pic
+        → (b ≡ written (matrixBytes pic m) bytes) × (n ≡ written (matrixNumbers pic m) numbers)
+    rows-all end pic d a eu ef =
+        let all : i ≡ length us = omega arith in
+        let e = rows .filled pic d a eu ef in
+        (e .0 ∙ rw (all, eu, ef, bytes-are), e .1 ∙ rw (all, eu, ef, numbers-are))
+
+    -- what stands in the row of user k before, who has the same answers, are cells of row i
+    pub alike-cells : {count : ℕ} {own heads : List ℕ} {k : ℕ} → Taken arrows m count own heads → k < i
+        → ((pic : Picture) (m : ℕ) → Drawn pic closure → ModeSets (pic .arrows) m heads → us ≡ users pic → Alike pic m (getD us k 0) (getD us i 0))
+        → Cells closure arrows m us fs i (λ j. getD b (k * length fs + j) 0) (λ j. getD n (k * length fs + j) 0)
+    alike-cells {k} mode before alike pic d a eu ef j there =
+        let e = rows .filled pic d a eu ef in
+        let at = places pic m us fs eu ef k j there in
+        let less = in-table i (length fs) k j before there in
+        rw (e .0, e .1, ← alike pic m d (mode .moded pic a .sets) eu (getD fs j 0))
+        (built-at (byteAt pic m) bytes less ∙ at .0, built-at (numberAt pic m) numbers less ∙ at .1)
+
+    module _ (l : i < length us) where
+      -- so is what was found for user i, where each file was asked for
+      pub own-cells : {count u : ℕ} {own heads : List ℕ} {row : Row} (asked : Set) (found : List ℕ) → Taken arrows m count own heads
+          → u ≡ getD us i 0 → ((k : ℕ) → isIn asked k ≡ among fs k)
+          → ((pic : Picture) (m : ℕ) → Drawn pic closure → Moded pic m heads arrows (take count own) → u < length (pic .boxes)
+          → Sorts pic m u (isIn asked) row × ((f : ℕ) → T (isIn asked f) → getD found f 0 ≡ numberOf (answer pic m u f)))
+          → Cells closure arrows m us fs i (λ j. byteIn row (getD fs j 0)) (λ j. getD found (getD fs j 0) 0)
+      own-cells {u} {row} asked found mode is all said pic d a eu ef j there =
+          let s = said pic m d (mode .moded pic a) (listed-at (pic .boxes) (pic .rows) user us eu i u l is .2) in
+          let t : T (isIn asked (getD fs j 0)) = rw all (among-is fs j there) in
+          rw (← is) (byte-said pic m u (getD fs j 0) (isIn asked) row (s .0) t, s .1 (getD fs j 0) t)
+
+      -- where there is room for all rows
+      pub row-room : (length us * length fs ≤ length bytes) × (length us * length fs ≤ length numbers) → Room fs i b n
+      row-room all = let there = row-step (length fs) i (length us) l in (omega arith, omega arith)
+
+      -- a turn: the cells of row i are written at its places
+      pub rows-more : {notes′ b′ n′ : List ℕ} {byte number : ℕ → ℕ} → Room fs i b n → Noted (i + 1) notes′ → Cells closure arrows m us fs i byte number
+          → Emitted byte (i * length fs) (length fs) b b′ × Emitted number (i * length fs) (length fs) n n′
+          → Rows closure arrows m us fs bytes numbers (i + 1) notes′ b′ n′
+      rows-more room noted cells w = record {
+        within = omega arith;
+        noted = noted;
+        bytes-len = w .0 .len ∙ rows .bytes-len;
+        numbers-len = w .1 .len ∙ rows .numbers-len;
+        filled = λ pic d a eu ef.
+            let e = rows .filled pic d a eu ef in
+            let same = cells pic d a eu ef in
+            let at = places pic m us fs eu ef i in
+            rw next-row (
+              emitted-written _ (byteAt pic m) _ _ bytes _ _ (omega arith) (e .0) (w .0) (λ j l. same j l .0 ∙ sym (at j l .0)),
+              emitted-written _ (numberAt pic m) _ _ numbers _ _ (omega arith) (e .1) (w .1) (λ j l. same j l .1 ∙ sym (at j l .1)),
+            );
+      }

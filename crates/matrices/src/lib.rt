@@ -49,21 +49,16 @@ fn fill_matrix(
     let asked = set_of(files);
     let mut notes = notes_room();
     for i in 0..users.len() {
+        let at = i * files.len();
         let j = alike(closure, &heads, users, i, &mut notes);
         if j < i {
-            copy_row(
-                j * files.len(),
-                i * files.len(),
-                files.len(),
-                bytes,
-                numbers,
-            );
-            continue;
+            copy_row(j * files.len(), at, files.len(), bytes, numbers);
+        } else {
+            let u = wide(users[i]);
+            let mut found = row_room();
+            let row = answer_row(closure, &heads, arrows, &own[..count], u, asked, &mut found);
+            emit_row(files, row, &found, at, bytes, numbers);
         }
-        let u = wide(users[i]);
-        let mut found = row_room();
-        let row = answer_row(closure, &heads, arrows, &own[..count], u, asked, &mut found);
-        emit_row(files, row, &found, i * files.len(), bytes, numbers);
     }
 }
 
