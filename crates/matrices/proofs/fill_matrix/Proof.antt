@@ -19,7 +19,7 @@ Inv-loop closure arrows mode users files bytes₀ numbers₀ own heads count ask
 abbrev μ-loop : tie.MeasureT-loop
 μ-loop closure arrows mode users files bytes₀ numbers₀ own heads count asked notes₀ i₀ i-end bytes numbers notes i = length users - i
 
--- ---- points: a turn begins, a user who is answered alike is looked for, the user is read, her row is asked
+-- ---- points: a turn begins, a user who is answered alike is looked for, the user is read, the row is asked
 
 module _ (turn : tie.In-loop Inv-loop μ-loop) where
   abbrev at-loop : tie.At-loop Inv-loop μ-loop
@@ -75,7 +75,7 @@ copy-row-requires c κs =
     let turn = turn-of (then .before .before) in
     (row-step (length (start turn .args .files .now)) _ _ (then .if1 .taken), room turn .0, room turn .1)
 
--- ---- a row of her own
+-- ---- a row that is no copy
 
 mul-wide : tie.Need-mul-wide Inv-loop μ-loop
 mul-wide c = let turn = turn-of (c .before .before) in omega (arith, turn .loop-test .taken, start turn .good)
