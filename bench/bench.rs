@@ -23,7 +23,7 @@ mod sides;
 mod standin;
 mod twin;
 
-use cases::{in_turns, Series, CASES, GROWTH};
+use cases::{Series, CASES, GROWTH};
 use sides::{Buffers, Call, Case, Side};
 use std::hint::black_box;
 use std::time::Instant;
@@ -33,28 +33,23 @@ const SECONDS: f64 = 0.6;
 /// The best times of each side on a case; of a side that lacks the call, more than any.
 type Best = [f64; 3];
 
-/// For each call the best times on each case, all in turns, so that a busy moment of the machine
-/// strikes all of them. At its turn each runs twice: the second time it finds the cache as it left it,
-/// whatever ran before. Ends after about so many seconds for a call on a case, but where rounds are
-/// short not before the tenth.
-fn times(cases: &mut [Case], calls: &[Call], seconds: f64) -> Vec<Vec<Best>> {
+/// The best times on each case, all in turns, so that a busy moment of the machine strikes all of
+/// them. Ends after about so many seconds a case, but where rounds are short not before the tenth.
+fn times(cases: &mut [Case], call: Call, seconds: f64) -> Vec<Best> {
     let mut buffers = Buffers::new();
-    let mut best = vec![vec![[f64::MAX; 3]; cases.len()]; calls.len()];
+    let mut best = vec![[f64::MAX; 3]; cases.len()];
     let begin = Instant::now();
     for round in 1..=2000 {
-        for (&call, best) in calls.iter().zip(&mut best) {
-            for (case, best) in cases.iter_mut().zip(best) {
-                for side in Side::ALL.into_iter().filter(|side| side.has(call)) {
-                    let best = &mut best[side as usize];
-                    for _ in 0..2 {
-                        let start = Instant::now();
-                        black_box(case.run(side, call, black_box(&mut buffers))).ok();
-                        *best = best.min(start.elapsed().as_secs_f64());
-                    }
+        for (case, best) in cases.iter_mut().zip(&mut best) {
+            for (side, best) in Side::ALL.into_iter().zip(best) {
+                if side.has(call) {
+                    let start = Instant::now();
+                    black_box(case.run(side, call, black_box(&mut buffers))).ok();
+                    *best = best.min(start.elapsed().as_secs_f64());
                 }
             }
         }
-        let spent = begin.elapsed().as_secs_f64() / (cases.len() * calls.len()) as f64;
+        let spent = begin.elapsed().as_secs_f64() / cases.len() as f64;
         if spent > seconds && (round >= 10 || spent > 4.0) {
             break;
         }
@@ -94,12 +89,10 @@ fn row(cells: &[String]) -> String {
     format!("| {} |", cells.join(" | "))
 }
 
-/// The head of a table: what stands left, columns for each yardstick, and the library's calls with
-/// the small scratch against those with the large one.
+/// The head of a table: what stands left, then columns for each yardstick.
 fn print_head(left: &[&str], align: &str, of_yardstick: impl Fn(Side) -> Vec<String>) {
     let mut head: Vec<String> = left.iter().map(|cell| cell.to_string()).collect();
     head.extend(yardsticks().iter().flat_map(|&side| of_yardstick(side)));
-    head.push("small / large".to_string());
     let lines: Vec<String> = (0..head.len())
         .map(|k| if k < 2 { "---" } else { align }.to_string())
         .collect();
@@ -116,61 +109,47 @@ fn must_agree(case: &mut Case, call: Call) {
     }
 }
 
-/// Lines of the table of times: a call, and the same with the small scratch if that is measured.
-fn print_times(case: &mut Case, calls: &[Call]) {
-    let best = times(std::slice::from_mut(case), calls, SECONDS);
-    let large = best[0][0][Side::Library as usize];
-    for (&call, best) in calls.iter().zip(&best) {
-        let name = match call {
-            Call::Read => format!("{}, file of {} blocks", case.key, case.file.len() / 512),
-            _ => format!("{}: {}", case.key, case.picture.name),
-        };
-        let library = best[0][Side::Library as usize];
-        let mut cells = vec![name, call.name().to_string(), shown(library)];
-        for &side in yardsticks() {
-            let time = best[0][side as usize];
-            cells.extend(if side.has(call) {
-                [shown(time), format!("{:.2}", library / time)]
-            } else {
-                [String::new(), String::new()]
-            });
-        }
-        cells.push(match call.large() {
-            Some(_) => format!("{:.2}", library / large),
-            None => String::new(),
+/// A line of the table of times.
+fn print_times(case: &mut Case, call: Call) {
+    let best = times(std::slice::from_mut(case), call, SECONDS)[0];
+    let name = match call {
+        Call::Read => format!("{}, file of {} blocks", case.key, case.file.len() / 512),
+        _ => format!("{}: {}", case.key, case.picture.name),
+    };
+    let library = best[Side::Library as usize];
+    let mut cells = vec![name, call.name().to_string(), shown(library)];
+    for &side in yardsticks() {
+        let time = best[side as usize];
+        cells.extend(if side.has(call) {
+            [shown(time), format!("{:.2}", library / time)]
+        } else {
+            [String::new(), String::new()]
         });
-        println!("{}", row(&cells));
     }
+    println!("{}", row(&cells));
 }
 
-/// Lines of the table of growth, likewise.
-fn print_growth(series: &Series, cases: &mut [Case], calls: &[Call]) {
-    let all = times(cases, calls, SECONDS / 2.0);
+/// A line of the table of growth.
+fn print_growth(series: &Series, cases: &mut [Case], call: Call) {
+    let best = times(cases, call, SECONDS / 2.0);
     let join = |parts: Vec<String>| parts.join(", ");
     let sizes = join(series.sizes.iter().map(|n| n.to_string()).collect());
     let factor = |pair: &[Best]| format!("{:.1}", pair[1][0] / pair[0][0]);
-    for (&call, best) in calls.iter().zip(&all) {
-        let mut cells = vec![
-            format!("{} {sizes}", series.says),
-            call.name().to_string(),
-            join(best.iter().map(|t| shown(t[0])).collect()),
-            join(best.windows(2).map(factor).collect()),
-        ];
-        for &side in yardsticks() {
-            let ratio = |t: &Best| format!("{:.2}", t[0] / t[side as usize]);
-            cells.push(if side.has(call) {
-                join(best.iter().map(ratio).collect())
-            } else {
-                String::new()
-            });
-        }
-        let ratio = |(t, large): (&Best, &Best)| format!("{:.2}", t[0] / large[0]);
-        cells.push(match call.large() {
-            Some(_) => join(best.iter().zip(&all[0]).map(ratio).collect()),
-            None => String::new(),
+    let mut cells = vec![
+        format!("{} {sizes}", series.says),
+        call.name().to_string(),
+        join(best.iter().map(|t| shown(t[0])).collect()),
+        join(best.windows(2).map(factor).collect()),
+    ];
+    for &side in yardsticks() {
+        let ratio = |t: &Best| format!("{:.2}", t[0] / t[side as usize]);
+        cells.push(if side.has(call) {
+            join(best.iter().map(ratio).collect())
+        } else {
+            String::new()
         });
-        println!("{}", row(&cells));
     }
+    println!("{}", row(&cells));
 }
 
 fn measure(only: &str, agree_only: bool) {
@@ -182,13 +161,11 @@ fn measure(only: &str, agree_only: bool) {
     }
     for &(key, build, blocks, calls) in CASES.iter().filter(|line| line.0.contains(only)) {
         let mut case = Case::new(key, build(), blocks);
-        for calls in in_turns(calls) {
-            for &call in &calls {
-                must_agree(&mut case, call);
-                agreed += 1;
-            }
+        for &call in calls {
+            must_agree(&mut case, call);
+            agreed += 1;
             if !agree_only {
-                print_times(&mut case, &calls);
+                print_times(&mut case, call);
             }
         }
     }
@@ -207,15 +184,13 @@ fn measure(only: &str, agree_only: bool) {
     for series in GROWTH.iter().filter(|series| series.key.contains(only)) {
         let case = |&size: &usize| Case::new(series.key, (series.build)(size), 0);
         let mut cases: Vec<Case> = series.sizes.iter().map(case).collect();
-        for calls in in_turns(series.calls) {
+        for &call in series.calls {
             for case in &mut cases {
-                for &call in &calls {
-                    must_agree(case, call);
-                    agreed += 1;
-                }
+                must_agree(case, call);
+                agreed += 1;
             }
             if !agree_only {
-                print_growth(series, &mut cases, &calls);
+                print_growth(series, &mut cases, call);
             }
         }
     }

@@ -1,19 +1,10 @@
-//! What is measured: pictures with their calls, and series of pictures that grow. Where a fill is among
-//! the calls, each of them that takes scratch is made with the small one too.
+//! What is measured: pictures with their calls, and series of pictures that grow.
 
 use super::pictures::{self, Picture};
 use super::sides::Call::{self, *};
 
 /// Key, picture, blocks of its file (at least), calls.
 pub type Line = (&'static str, fn() -> Picture, usize, &'static [Call]);
-
-/// The calls on a picture or series, each followed by the same with the small scratch if that is
-/// measured too: these are timed in turns.
-pub fn in_turns(calls: &[Call]) -> Vec<Vec<Call>> {
-    let small = |call: Call| call.small().filter(|_| calls.contains(&Fill));
-    let both = |&call: &Call| [call].into_iter().chain(small(call)).collect();
-    calls.iter().map(both).collect()
-}
 
 pub const CASES: &[Line] = &[
     (
@@ -38,7 +29,7 @@ pub const CASES: &[Line] = &[
         "left-32",
         || pictures::candidates_left(32, 32, 512),
         0,
-        &[Fill, Entry, Judge, Matrix, List],
+        &[Entry, Judge, Matrix, List],
     ),
     (
         "left-full",
@@ -50,7 +41,7 @@ pub const CASES: &[Line] = &[
         "single",
         || pictures::single_boxes(128, 128, 512),
         0,
-        &[Fill, Entry, Judge, Matrix, List],
+        &[Fill, Judge, Matrix, List],
     ),
     (
         "staircase",
@@ -67,7 +58,6 @@ pub const CASES: &[Line] = &[
     ("ring", || pictures::ring(42), 0, &[List]),
     ("chain-down", || pictures::chain(256, true), 0, &[Fill]),
     ("chain-up", || pictures::chain(256, false), 0, &[Fill]),
-    ("last-bits", pictures::last_bits, 0, &[Fill]),
     (
         "random-rows",
         || pictures::random_rows(256, 1024),

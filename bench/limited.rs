@@ -1,5 +1,5 @@
 //! The second yardstick: a source file that `run --limit FILE.rs` compiles as the crate `limit`. It
-//! has the calls of document 01 alone: boxes of bytes 0 and 1, and a scratch of 0 and 1, a byte each.
+//! has the calls of document 01 alone: boxes of bytes 0 and 1, and a scratch of 0 and 1.
 
 use super::pictures::Picture;
 use super::sides::{Buffers, Call, Outcome};
@@ -54,7 +54,7 @@ impl Given {
             }
             Call::List => limit::list(s, pic, mode, &mut b.scratch, &mut b.list, &mut b.work)
                 .map(|count| [count as u64, 0, 0]),
-            _ => unreachable!("a call that the limit lacks"),
+            Call::Atoms | Call::Read | Call::Pack => unreachable!("a call that the limit lacks"),
         }
     }
 }

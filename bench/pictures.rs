@@ -1,6 +1,6 @@
 //! The pictures that the benchmark runs on. All are fixed: random ones are seeded.
 
-use super::twin::{self, Scratch};
+use super::twin;
 
 pub struct Picture {
     pub name: String,
@@ -117,7 +117,7 @@ pub fn typical(arrows: usize) -> Picture {
         };
         let sign = (random.below(5) < 3) as u16;
         p.arrows.extend([tail as u16, head as u16, mode, sign]);
-        if twin::judge(p.tables(), Scratch::Large(&mut scratch)).is_err() {
+        if twin::judge(p.tables(), &mut scratch).is_err() {
             p.arrows.truncate(p.arrows.len() - 4);
         }
     }
@@ -209,21 +209,6 @@ pub fn chain(boxes: usize, down: bool) -> Picture {
         } else {
             p.put(b + 1, b);
         }
-    }
-    p
-}
-
-/// All boxes hold one, which holds the last of every 64 boxes: no word of a set is empty, and few bits
-/// are there. So there is little to write into the large scratch, and every byte of the small one.
-pub fn last_bits() -> Picture {
-    let mut p = Picture::new("256 boxes, each holds the last of every 64 through one");
-    p.add(0, 256);
-    let (through, last) = (62, [63, 127, 191, 255]);
-    for b in (0..256).filter(|b| *b != through && !last.contains(b)) {
-        p.put(b, through);
-    }
-    for b in last {
-        p.put(through, b);
     }
     p
 }

@@ -19,33 +19,11 @@ pub enum Call {
     Atoms,
     Read,
     Pack,
-    // with the small scratch
-    FillSmall,
-    EntrySmall,
-    JudgeSmall,
-    MatrixSmall,
-    ListSmall,
 }
 
 use Call::*;
 
 impl Call {
-    const ALL: [Call; 13] = [
-        Fill,
-        Entry,
-        Judge,
-        Matrix,
-        List,
-        Atoms,
-        Read,
-        Pack,
-        FillSmall,
-        EntrySmall,
-        JudgeSmall,
-        MatrixSmall,
-        ListSmall,
-    ];
-
     pub fn name(self) -> &'static str {
         match self {
             Fill => "fill",
@@ -56,33 +34,13 @@ impl Call {
             Atoms => "atoms",
             Read => "read",
             Pack => "pack",
-            FillSmall => "fill-small",
-            EntrySmall => "entry-small",
-            JudgeSmall => "judge-small",
-            MatrixSmall => "matrix-small",
-            ListSmall => "list-small",
         }
     }
 
     pub fn of(name: &str) -> Option<Call> {
-        Call::ALL.into_iter().find(|c| c.name() == name)
-    }
-
-    /// The call with the large scratch that one with the small scratch is held against.
-    pub fn large(self) -> Option<Call> {
-        match self {
-            FillSmall => Some(Fill),
-            EntrySmall => Some(Entry),
-            JudgeSmall => Some(Judge),
-            MatrixSmall => Some(Matrix),
-            ListSmall => Some(List),
-            _ => None,
-        }
-    }
-
-    /// The same call with the small scratch.
-    pub fn small(self) -> Option<Call> {
-        Call::ALL.into_iter().find(|c| c.large() == Some(self))
+        [Fill, Entry, Judge, Matrix, List, Atoms, Read, Pack]
+            .into_iter()
+            .find(|c| c.name() == name)
     }
 }
 
@@ -181,7 +139,7 @@ impl Case {
 
     /// The user that a call asks for: for a fill, one that isn't there.
     fn user(&self, call: Call) -> u16 {
-        if matches!(call, Fill | FillSmall) {
+        if call == Fill {
             65535
         } else {
             self.user
@@ -216,22 +174,12 @@ impl Case {
             Fill | Entry => p
                 .entry(self.user(call), self.head, mode, &mut b.scratch)
                 .map(entry),
-            FillSmall | EntrySmall => p
-                .entry_small(self.user(call), self.head, mode, &mut b.scratch)
-                .map(entry),
             Judge => p.judge(&mut b.scratch).map(|()| [0; 3]),
-            JudgeSmall => p.judge_small(&mut b.scratch).map(|()| [0; 3]),
             Matrix => p
                 .matrix(mode, &mut b.scratch, &mut b.bytes, &mut b.numbers)
                 .map(|()| [0; 3]),
-            MatrixSmall => p
-                .matrix_small(mode, &mut b.scratch, &mut b.bytes, &mut b.numbers)
-                .map(|()| [0; 3]),
             List => p
                 .list(mode, &mut b.scratch, &mut b.list, &mut b.work)
-                .map(|count| [count as u64, 0, 0]),
-            ListSmall => p
-                .list_small(mode, &mut b.scratch, &mut b.list, &mut b.work)
                 .map(|count| [count as u64, 0, 0]),
             Atoms => p
                 .atoms(&mut b.list, &mut b.rows)
@@ -246,10 +194,6 @@ impl Case {
     fn twin(&self, call: Call, b: &mut Buffers) -> Outcome {
         let t = self.picture.tables();
         let mode = self.picture.mode;
-        let scratch = match call.large() {
-            None => twin::Scratch::Large(&mut b.scratch),
-            Some(_) => twin::Scratch::Small(&mut b.scratch),
-        };
         let entry = |answer| match answer {
             twin::Entry::Denied(k) => [0, k as u64, 0],
             twin::Entry::Granted(k) => [1, k as u64, 0],
@@ -257,14 +201,14 @@ impl Case {
             twin::Entry::Default => [3, 0, 0],
         };
         let outcome = match call {
-            Fill | Entry | FillSmall | EntrySmall => {
-                twin::entry(t, self.user(call), self.head, mode, scratch).map(entry)
+            Fill | Entry => {
+                twin::entry(t, self.user(call), self.head, mode, &mut b.scratch).map(entry)
             }
-            Judge | JudgeSmall => twin::judge(t, scratch).map(|()| [0; 3]),
-            Matrix | MatrixSmall => {
-                twin::matrix(t, mode, scratch, &mut b.bytes, &mut b.numbers).map(|()| [0; 3])
+            Judge => twin::judge(t, &mut b.scratch).map(|()| [0; 3]),
+            Matrix => {
+                twin::matrix(t, mode, &mut b.scratch, &mut b.bytes, &mut b.numbers).map(|()| [0; 3])
             }
-            List | ListSmall => twin::list(t, mode, scratch, &mut b.list, &mut b.work)
+            List => twin::list(t, mode, &mut b.scratch, &mut b.list, &mut b.work)
                 .map(|count| [count as u64, 0, 0]),
             Atoms => twin::atoms(t, &mut b.list, &mut b.rows).map(|[u, f]| [u as u64, f as u64, 0]),
             Read => twin::read(&self.file, &mut b.boxes, &mut b.rows, &mut b.arrows)
@@ -274,25 +218,21 @@ impl Case {
         outcome.map_err(|r| (r.number, r.places.map(|x| x as u64)))
     }
 
-    /// Runs the call on every side, one with the small scratch also with the large one, and compares
-    /// answers and all buffers. Not the scratch of the limit, which does not say what is drawn
-    /// directly, nor the large scratch with the small one.
+    /// Runs the call on every side and compares answers and all buffers. The limit's scratch is left
+    /// out: it does not say what is drawn directly.
     pub fn agree(&mut self, call: Call) -> Result<(), String> {
         let mut left = Buffers::new();
         let answer = self.run(Side::Library, call, &mut left);
-        let sides = [Side::Twin, Side::Limit].map(|side| (side, call));
-        let large = call.large().map(|large| (Side::Library, large));
-        for (side, other_call) in sides.into_iter().chain(large) {
-            if !side.has(other_call) {
+        for side in [Side::Twin, Side::Limit] {
+            if !side.has(call) {
                 continue;
             }
-            let mut other_left = Buffers::new();
-            let other = self.run(side, other_call, &mut other_left);
-            let name = format!("{} with {}", side.name(), other_call.name());
+            let (mut other_left, name) = (Buffers::new(), side.name());
+            let other = self.run(side, call, &mut other_left);
             if answer != other {
                 return Err(format!("library {answer:?}, {name} {other:?}"));
             }
-            if side != Side::Twin {
+            if side == Side::Limit {
                 other_left.scratch.clone_from(&left.scratch);
             }
             if left != other_left {

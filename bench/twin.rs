@@ -14,7 +14,6 @@ mod tables;
 
 pub use blocks::{block_check, pack, read};
 pub use calls::{entry, judge, matrix};
-pub use containment::Scratch;
 pub use lists::list;
 pub use tables::atoms;
 

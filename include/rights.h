@@ -1,10 +1,9 @@
 /*
  * The rights checker of the run store: C boundary.
  *
- * Twelve calls: judge a picture, answer one entry, fill the matrix of a mode, write the
- * first-match list of a mode, the same four with a smaller scratch, name the atomic users and
- * files, read a block file, pack a picture into one, and tell the version. C99 and later, C++11
- * and later.
+ * Eight calls: judge a picture, answer one entry, fill the matrix of a mode, write the
+ * first-match list of a mode, name the atomic users and files, read a block file, pack a picture
+ * into one, and tell the version. C99 and later, C++11 and later.
  *
  * Pointers and lengths
  *   Every array comes as a pointer and its length in elements: not in bytes, and not in rows of
@@ -35,20 +34,12 @@
  *   rights_rows_len and rights_arrows_len below.
  *
  * Scratch
- *   Large, n * n bytes for n boxes. Once refusals 1 to 9 are out of the question, byte a * n + b
- *   ends as 2 if a row has box a as outer and box b as inner, else as 1 if a contains b, through
+ *   n * n bytes for n boxes. Once refusals 1 to 9 are out of the question, byte a * n + b ends
+ *   as 2 if a row has box a as outer and box b as inner, else as 1 if a contains b, through
  *   others only, else as 0; so too when the call is then refused with 10 or a later number.
  *   RIGHTS_CONTAINED_DIRECTLY, RIGHTS_CONTAINED_THROUGH_OTHERS and RIGHTS_NOT_CONTAINED are
  *   the names of the three. To know whether a contains b, ask whether the byte isn't 0. The
  *   contents of scratch before the call don't matter.
- *
- * Small scratch
- *   For the four calls whose names end in _small: one bit for each pair of boxes, rows rounded up
- *   to bytes. That is w = (n + 7) / 8 bytes a row and n * w bytes in all, at most 8,192; see
- *   rights_small_scratch_len. It is filled exactly when large scratch is: bit b % 8, 0 being the
- *   lowest, of byte a * w + b / 8 ends as 1 if a contains b, directly or through others, else as
- *   0, and the spare bits of each row end as 0. To know whether a contains b, ask
- *   rights_small_contains. Which of it is drawn can't be seen there.
  *
  * In every array lent for writing, places beyond the needed length stay as they were.
  *
@@ -74,7 +65,7 @@ extern "C" {
 #endif
 
 /* The version that this header belongs to: major, minor and patch, one byte each. */
-#define RIGHTS_VERSION 0x040100u
+#define RIGHTS_VERSION 0x040000u
 
 /* Limits of a picture and of a block file. */
 #define RIGHTS_MAX_BOXES 256
@@ -88,7 +79,6 @@ extern "C" {
 #define RIGHTS_ROWS_ROOM 2048
 #define RIGHTS_ARROWS_ROOM 2048
 #define RIGHTS_SCRATCH_ROOM 65536
-#define RIGHTS_SMALL_SCRATCH_ROOM 8192
 #define RIGHTS_PAIRS_ROOM 16384 /* matrix bytes, matrix numbers, work */
 #define RIGHTS_LIST_ROOM 512
 #define RIGHTS_ATOMS_ROOM 256 /* atomic users, atomic files */
@@ -100,7 +90,6 @@ extern "C" {
 /*
  * Stack that suffices for a call, in bytes, with what memcpy and memset take: measured on
  * pictures and files of full size. tests/stack.c measures it again and fails if a call takes more.
- * The numbers hold with small scratch too.
  */
 #define RIGHTS_STACK_JUDGE 40960
 #define RIGHTS_STACK_ENTRY 40960
@@ -110,16 +99,6 @@ extern "C" {
 #define RIGHTS_STACK_READ 16384
 #define RIGHTS_STACK_PACK 16384
 #define RIGHTS_STACK_VERSION 4096
-
-/*
- * Memory that suffices for a call on every picture, scratch and stack together, in bytes. The
- * picture's tables, at most 8,448 bytes, and the buffers named last come on top.
- *
- *                  large scratch               small scratch
- *   judge, entry   65,536 + 40,960 = 106,496   8,192 + 40,960 = 49,152
- *   matrix         65,536 + 40,960 = 106,496   8,192 + 40,960 = 49,152   bytes, numbers: 49,152
- *   list           65,536 + 49,152 = 114,688   8,192 + 49,152 = 57,344   list, work: 17,408
- */
 
 /* What a call answers, 32 bytes without gaps. Fields that a kind doesn't mention are 0. */
 typedef struct rights_reply {
@@ -209,7 +188,7 @@ enum {
 };
 
 /*
- * The bytes of large scratch: byte a * n + b is about boxes a and b. A row drawn twice is one row;
+ * The bytes of the scratch: byte a * n + b is about boxes a and b. A row drawn twice is one row;
  * boxes joined directly and through others are joined directly.
  */
 enum {
@@ -299,46 +278,6 @@ rights_reply rights_list(
     uint8_t *work, size_t work_len);
 
 /*
- * The four calls above with small scratch. Each does what the call of its name without _small
- * does, and differs by the scratch alone.
- *   Asks     small scratch of n * ((n + 7) / 8) bytes in place of n * n bytes.
- *   Answers  what the other call answers where its scratch suffices, refusals and their order
- *            included. Where this scratch is too short, 9 names RIGHTS_SCRATCH and this length.
- *   Leaves   small scratch filled after the replies after which the other call leaves its scratch
- *            filled, else untouched; everything else as the other call leaves it.
- */
-rights_reply rights_judge_small(
-    const uint8_t *boxes, size_t boxes_len,
-    const uint16_t *rows, size_t rows_len,
-    const uint16_t *arrows, size_t arrows_len,
-    uint8_t *scratch, size_t scratch_len);
-
-rights_reply rights_entry_small(
-    const uint8_t *boxes, size_t boxes_len,
-    const uint16_t *rows, size_t rows_len,
-    const uint16_t *arrows, size_t arrows_len,
-    uint16_t user, uint16_t file, uint16_t mode,
-    uint8_t *scratch, size_t scratch_len);
-
-rights_reply rights_matrix_small(
-    const uint8_t *boxes, size_t boxes_len,
-    const uint16_t *rows, size_t rows_len,
-    const uint16_t *arrows, size_t arrows_len,
-    uint16_t mode,
-    uint8_t *scratch, size_t scratch_len,
-    uint8_t *bytes, size_t bytes_len,
-    uint16_t *numbers, size_t numbers_len);
-
-rights_reply rights_list_small(
-    const uint8_t *boxes, size_t boxes_len,
-    const uint16_t *rows, size_t rows_len,
-    const uint16_t *arrows, size_t arrows_len,
-    uint16_t mode,
-    uint8_t *scratch, size_t scratch_len,
-    uint16_t *list, size_t list_len,
-    uint8_t *work, size_t work_len);
-
-/*
  * Names the atomic users and files: what the rows and columns of the matrix stand for.
  *   Asks     users of a place for each atomic user, files of a place for each atomic file.
  *   Answers  DONE with a, how many atomic users, and b, how many atomic files; or REFUSED by the
@@ -413,21 +352,6 @@ static inline size_t rights_rows_len(rights_reply read) {
 
 static inline size_t rights_arrows_len(rights_reply read) {
     return read.kind == RIGHTS_DONE ? 4 * (size_t)read.c : 0;
-}
-
-/* The bytes of small scratch that so many boxes need. */
-static inline size_t rights_small_scratch_len(size_t boxes) {
-    return boxes * ((boxes + 7) / 8);
-}
-
-/*
- * Whether box a contains box b, 1 or 0, by small scratch that a call on boxes_len boxes filled. 0
- * where there is no such box.
- */
-static inline int rights_small_contains(const uint8_t *scratch, size_t boxes_len, size_t a,
-                                        size_t b) {
-    return a < boxes_len && b < boxes_len
-        && ((scratch[a * ((boxes_len + 7) / 8) + b / 8] >> (b % 8)) & 1) != 0;
 }
 
 /* A short name for each refusal. */

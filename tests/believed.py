@@ -34,7 +34,6 @@ PAPERS = {
     "P1, packing": {"packing/Regular": [], "packing/Packs": []},
     "P3, the order of the list": {"list_meaning/Fixed": []},
     "P5, the walk": {"block_parts/Walks": []},
-    "P10, a smaller scratch": {"bit_rows/Bits": [], "scratch/Kinds": [], "rights_c/Calls": []},
     "the headings": {"headings/Calls": []},
     "the C boundary": {"rights_c/Replies": []},
 }

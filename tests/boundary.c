@@ -1,8 +1,7 @@
 /*
  * Case B through the C header, call by call: that the header and the library fit together, with
- * the kinds, lengths and names of the header. Then packed files, a group and a folder that have
- * emptied, and the calls with small scratch. Last a picture that shows which pair 13 names, and
- * whose scratch holds all three values.
+ * the kinds, lengths and names of the header. Then packed files, and a group and a folder that have
+ * emptied. Last a picture that shows which pair 13 names, and whose scratch holds all three values.
  */
 
 #include "rights.h"
@@ -208,118 +207,6 @@ static void packing(void) {
     hold("its arrows", memcmp(arrows, read_arrows, sizeof arrows) == 0);
 }
 
-/* B with small scratch, call by call. */
-static void small_b(void) {
-    const uint8_t boxes[4] = {0, 0, 0, 1}, contained[4] = {0, 0, 3, 0};
-    const uint16_t rows[4] = {2, 0, 2, 1}, arrows[8] = {0, 3, 0, 1, 2, 3, 0, 0};
-    uint8_t scratch[5] = {9, 9, 9, 9, 9}, bytes[3] = {9, 9, 9}, work[3] = {9, 9, 9};
-    uint16_t numbers[3] = {9, 9, 9}, list[3] = {9, 9, 9};
-    rights_reply short_by_one[4] = {
-        rights_judge_small(boxes, 4, rows, 4, arrows, 8, scratch, 3),
-        rights_entry_small(boxes, 4, rows, 4, arrows, 8, 0, 3, 0, scratch, 3),
-        rights_matrix_small(boxes, 4, rows, 4, arrows, 8, 0, scratch, 3, bytes, 2, numbers, 2),
-        rights_list_small(boxes, 4, rows, 4, arrows, 8, 0, scratch, 3, list, 2, work, 2),
-    };
-    for (int k = 0; k < 4; k++) {
-        expect("short small scratch", short_by_one[k], RIGHTS_REFUSED, RIGHTS_BUFFER_SHORT,
-               RIGHTS_SCRATCH, 4, 0);
-    }
-    expect("small: one byte",
-           rights_matrix_small(boxes, 4, rows, 4, arrows, 8, 0, scratch, 5, bytes, 1, numbers, 2),
-           RIGHTS_REFUSED, RIGHTS_BUFFER_SHORT, RIGHTS_MATRIX_BYTES, 2, 0);
-    hold("small scratch untouched", scratch[0] == 9 && scratch[3] == 9);
-    hold("small: matrix and list untouched",
-         bytes[0] == 9 && numbers[0] == 9 && list[0] == 9 && work[0] == 9);
-    expect("small: judge", rights_judge_small(boxes, 4, rows, 4, arrows, 8, scratch, 5),
-           RIGHTS_DONE, 0, 0, 0, 0);
-    hold("small scratch", memcmp(scratch, contained, 4) == 0 && scratch[4] == 9);
-    expect("small: entry", rights_entry_small(boxes, 4, rows, 4, arrows, 8, 1, 3, 0, scratch, 4),
-           RIGHTS_DENIED, 0, 1, 0, 0);
-    memset(scratch, 9, sizeof scratch);
-    expect("small: a group", rights_entry_small(boxes, 4, rows, 4, arrows, 8, 2, 3, 0, scratch, 4),
-           RIGHTS_REFUSED, RIGHTS_NOT_ATOMIC, 2, 3, 0);
-    hold("small scratch after 11", memcmp(scratch, contained, 4) == 0);
-    expect("small: matrix",
-           rights_matrix_small(boxes, 4, rows, 4, arrows, 8, 0, scratch, 4, bytes, 3, numbers, 3),
-           RIGHTS_DONE, 0, 0, 0, 0);
-    hold("small: matrix bytes",
-         bytes[0] == RIGHTS_GRANTED && bytes[1] == RIGHTS_DENIED && bytes[2] == 9);
-    hold("small: matrix numbers", numbers[0] == 0 && numbers[1] == 1 && numbers[2] == 9);
-    expect("small: list",
-           rights_list_small(boxes, 4, rows, 4, arrows, 8, 0, scratch, 4, list, 3, work, 3),
-           RIGHTS_DONE, 0, 2, 0, 0);
-    hold("small: list places", list[0] == 0 && list[1] == 1 && list[2] == 9);
-    hold("small: work", work[0] == 0 && work[1] == 0 && work[2] == 9);
-}
-
-/* J with both scratches: the small one's bytes, and that both tell the same. */
-static void small_j(void) {
-    const uint8_t boxes[12] = {0, 0, 0, 0, 0, 0, 1, 1, 1, 1, 1, 1};
-    const uint16_t rows[24] = {2, 0, 2, 5, 3, 0, 4, 3, 4, 1, 5, 1,
-                               8, 7, 9, 8, 9, 6, 10, 6, 11, 10, 11, 7};
-    const uint16_t arrows[16] = {2, 8, 0, 1, 3, 9, 0, 0, 4, 10, 0, 1, 5, 11, 0, 0};
-    const uint8_t contained[24] = {0, 0, 0, 0, 0x23, 0, 1,    0, 0x0b, 0, 2,    0,
-                                   0, 0, 0, 0, 0x80, 0, 0xc0, 1, 0x40, 0, 0xc0, 4};
-    uint8_t small[24], large[144], work[4];
-    uint16_t list[4];
-    expect("small: no order",
-           rights_list_small(boxes, 12, rows, 24, arrows, 16, 0, small, 24, list, 4, work, 4),
-           RIGHTS_REFUSED, RIGHTS_NO_ORDER, 0, 0, 7);
-    hold("small scratch of J", memcmp(small, contained, 24) == 0);
-    expect("large: judge", rights_judge(boxes, 12, rows, 24, arrows, 16, large, 144), RIGHTS_DONE,
-           0, 0, 0, 0);
-    for (size_t k = 0; k < 144; k++) {
-        hold("the same in both", rights_small_contains(small, 12, k / 12, k % 12)
-                                     == (large[k] != RIGHTS_NOT_CONTAINED));
-    }
-    hold("no such box", !rights_small_contains(contained, 12, 2, 12)
-                            && !rights_small_contains(contained, 12, 1, 16)
-                            && !rights_small_contains(contained, 12, 12, 0));
-}
-
-/* Judges n users without arrows; the small scratch must end with the wanted bytes. */
-static void small_filled(const char *what, size_t n, const uint16_t *rows, size_t rows_len,
-                         uint32_t number, const uint8_t *wanted) {
-    static const uint8_t boxes[RIGHTS_MAX_BOXES] = {RIGHTS_USER};
-    static uint8_t scratch[RIGHTS_SMALL_SCRATCH_ROOM + 1];
-    size_t length = rights_small_scratch_len(n);
-    memset(scratch, 9, sizeof scratch);
-    expect(what, rights_judge_small(boxes, n, rows, rows_len, no_rows, 0, scratch, length - 1),
-           RIGHTS_REFUSED, RIGHTS_BUFFER_SHORT, RIGHTS_SCRATCH, length, 0);
-    hold(what, scratch[0] == 9);
-    expect(what, rights_judge_small(boxes, n, rows, rows_len, no_rows, 0, scratch, length + 1),
-           number ? RIGHTS_REFUSED : RIGHTS_DONE, number, 0, 0, 0);
-    hold(what, memcmp(scratch, wanted, length) == 0 && scratch[length] == 9);
-}
-
-/* The calls with small scratch, and what they leave in it up to a ring of as many boxes as there
-   may be, each of which contains all of them. */
-static void small(void) {
-    static uint8_t all[RIGHTS_SMALL_SCRATCH_ROOM];
-    static uint16_t around[2 * RIGHTS_MAX_BOXES];
-    const uint8_t none[1] = {0}, itself[1] = {1}, three[3] = {6, 4, 0};
-    const uint8_t nine[18] = {0x80, 1, 0, 0, 0, 0, 0, 0, 0, 0, 0, 0, 0, 0, 0, 0, 0x80, 0};
-    const uint16_t loop[2] = {0, 0}, chain[4] = {0, 1, 1, 2}, over_a_byte[4] = {0, 8, 8, 7};
-    hold("lengths of small scratch",
-         rights_small_scratch_len(0) == 0 && rights_small_scratch_len(8) == 8
-             && rights_small_scratch_len(9) == 18
-             && rights_small_scratch_len(RIGHTS_MAX_BOXES) == RIGHTS_SMALL_SCRATCH_ROOM
-             && RIGHTS_SMALL_SCRATCH_ROOM == 8192);
-    small_b();
-    small_j();
-    small_filled("small: one box", 1, no_rows, 0, 0, none);
-    small_filled("small: a box in itself", 1, loop, 2, RIGHTS_CONTAINS_ITSELF, itself);
-    small_filled("small: three boxes", 3, chain, 4, 0, three);
-    small_filled("small: nine boxes", 9, over_a_byte, 4, 0, nine);
-    for (size_t k = 0; k < RIGHTS_MAX_BOXES; k++) {
-        around[2 * k] = (uint16_t)k;
-        around[2 * k + 1] = (uint16_t)((k + 1) % RIGHTS_MAX_BOXES);
-    }
-    memset(all, 255, sizeof all);
-    small_filled("small: 256 boxes", RIGHTS_MAX_BOXES, around, 2 * RIGHTS_MAX_BOXES,
-                 RIGHTS_CONTAINS_ITSELF, all);
-}
-
 int main(void) {
     const uint8_t boxes[4] = {0, 0, 0, 1};
     const uint16_t rows[4] = {2, 0, 2, 1};
@@ -419,7 +306,6 @@ int main(void) {
 
     packing();
     groups();
-    small();
     ring();
     printf("boundary: %s\n", failed ? "FAILED" : "passed");
     return failed != 0;

@@ -2,12 +2,10 @@
 //! limits and some orders of refusals, with expectations written by hand from documents 01 and 02.
 //! Each is put to the library through the Rust package and to the model.
 
-use super::calls::lend;
-use super::checker::{self, Answer, Known, Lists, Scratch, Tables};
+use super::checker::{self, Answer, Known, Lists, Tables};
 use super::compare_answer;
 use super::generator::{self, Random};
 use super::packing_cases;
-use super::small_cases;
 use rights::lent::{self, Counts};
 
 /// Number and three numbers of a refusal.
@@ -1128,14 +1126,14 @@ fn one_case(case: &Case, report: &mut Report) {
     let what = format!("{}: judge", case.name);
     let got = picture.judge(&mut scratch);
     report.same(&what, numbers(&got), case.judge);
-    let model = checker::judge(&known, Scratch::Large, &vec![9; needed]);
+    let model = checker::judge(&known, &vec![9; needed]);
     report.same(&what, model_numbers(&model.result), case.judge);
 
     for &(user, file, want) in case.entries {
         let what = format!("{}: entry {user}, {file}", case.name);
         let got = picture.entry(user, file, 0, &mut scratch);
         report.same(&what, got.ok().map(compare_answer), Some(want));
-        let model = checker::entry(&known, user, file, 0, Scratch::Large, &vec![9; needed]);
+        let model = checker::entry(&known, user, file, 0, &vec![9; needed]);
         report.same(&what, model.result.ok(), Some(want));
     }
 
@@ -1145,7 +1143,6 @@ fn one_case(case: &Case, report: &mut Report) {
     let model = checker::matrix(
         &known,
         0,
-        Scratch::Large,
         &vec![9; needed],
         &vec![9; pairs],
         &vec![9; pairs],
@@ -1175,7 +1172,7 @@ fn one_list(case: &Case, spare: usize, report: &mut Report) {
     let mut scratch = vec![9; case.boxes.len() * case.boxes.len()];
     let (mut list, mut work) = (vec![9; places + spare], vec![9; pairs + spare]);
     let (mut want_list, mut want_work) = (list.clone(), work.clone());
-    let model = checker::list(&case.known(), 0, Scratch::Large, &scratch, &list, &work);
+    let model = checker::list(&case.known(), 0, &scratch, &list, &work);
     let got = case.lend().list(0, &mut scratch, &mut list, &mut work);
 
     // The result, the first list places afterwards, and how many work bytes are 0 then.
@@ -1227,10 +1224,10 @@ impl ScratchCase {
             arrows: self.arrows.to_vec(),
         });
         let (user, file) = self.asked;
-        let judge = checker::judge(&known, Scratch::Large, scratch);
-        let entry = checker::entry(&known, user, file, 0, Scratch::Large, scratch);
-        let matrix = checker::matrix(&known, 0, Scratch::Large, scratch, &[9; ROOM], &[9; ROOM]);
-        let list = checker::list(&known, 0, Scratch::Large, scratch, &[9; ROOM], &[9; ROOM]);
+        let judge = checker::judge(&known, scratch);
+        let entry = checker::entry(&known, user, file, 0, scratch);
+        let matrix = checker::matrix(&known, 0, scratch, &[9; ROOM], &[9; ROOM]);
+        let list = checker::list(&known, 0, scratch, &[9; ROOM], &[9; ROOM]);
         [
             (model_numbers(&judge.result), judge.scratch),
             (model_numbers(&entry.result), entry.scratch),
@@ -1460,11 +1457,19 @@ fn long_chain(report: &mut Report) {
     let line = |a: usize| [vec![0; a + 1], vec![2], vec![1; 255]].concat()[..256].to_vec();
     let want: Vec<u8> = (0..256).flat_map(line).chain([9]).collect();
     let mut scratch = vec![9; 65_537];
-    let model = checker::judge(&Known::new(&tables), Scratch::Large, &scratch);
+    let model = checker::judge(&Known::new(&tables), &scratch);
     let got = picture.judge(&mut scratch);
     report.same("chain of 256 boxes", numbers(&got), None);
     report.same("chain of 256 boxes: scratch", scratch == want, true);
     report.same("chain of 256 boxes: scratch", model.scratch == want, true);
+}
+
+fn lend(t: &Tables) -> lent::Tables<'_> {
+    lent::Tables {
+        boxes: &t.boxes,
+        containments: &t.rows,
+        arrows: &t.arrows,
+    }
 }
 
 /// That every call on these tables is refused so, if at all, by checks 1 to 7; without a refusal
@@ -1758,7 +1763,6 @@ pub fn run() -> Report {
     limits_of_atoms(&mut report);
     files(&mut report);
     packing_cases::run(&mut report);
-    small_cases::run(&mut report);
-    report.same("version", rights::version(), (4, 1, 0));
+    report.same("version", rights::version(), (4, 0, 0));
     report
 }

@@ -1,6 +1,6 @@
 //! The independent model: document 01 with requests P1 (packing), P2 (what is drawn directly), P3
-//! (the order of lists), P6 (groups that have emptied) and P10 (the smaller scratch) of document 02
-//! in plain Rust, written from their text alone.
+//! (the order of lists) and P6 (groups that have emptied) of document 02 in plain Rust, written from
+//! their text alone.
 //!
 //! Each call is a pure function from what was lent (the tables and the contents of every buffer
 //! before the call) to the answer and the contents of every buffer after it.
@@ -330,8 +330,8 @@ impl Picture {
         self.first(mode, |answer| matches!(answer, Answer::Granted(_)))
     }
 
-    /// Byte a × n + b of the large scratch, in document 02's words: "2 where a row has a as outer box
-    /// and b as inner, 1 where a contains b only through others, 0 otherwise."
+    /// Byte a × n + b of the scratch, in document 02's words: "2 where a row has a as outer box and
+    /// b as inner, 1 where a contains b only through others, 0 otherwise."
     fn joined(&self, a: usize, b: usize) -> u8 {
         if self.inner[a].contains(&b) {
             2
@@ -342,23 +342,9 @@ impl Picture {
         }
     }
 
-    /// Byte `at` of row a of the small scratch, in document 02's words: "Bit b modulo 8 (0 is the
-    /// lowest) of byte b divided by 8 in row a says whether a contains b at any level; spare bits
-    /// are 0."
-    fn eight_bits(&self, a: usize, at: usize) -> u8 {
-        let boxes = 8 * at..self.n.min(8 * at + 8);
-        let contained = boxes.filter(|&b| self.contains[a][b]);
-        contained.map(|b| 1 << (b % 8)).sum()
-    }
-
-    /// Every byte that a scratch of this kind needs.
-    fn scratch(&self, kind: Scratch) -> Vec<u8> {
-        let width = kind.width(self.n);
-        (0..kind.length(self.n))
-            .map(|place| match kind {
-                Scratch::Large => self.joined(place / width, place % width),
-                Scratch::Small => self.eight_bits(place / width, place % width),
-            })
+    fn scratch(&self) -> Vec<u8> {
+        (0..self.n * self.n)
+            .map(|place| self.joined(place / self.n, place % self.n))
             .collect()
     }
 }
@@ -591,31 +577,6 @@ fn known_mode(mode: u16) -> Result<(), Refusal> {
     Ok(())
 }
 
-/// The two kinds of scratch that a call may take.
-#[derive(Clone, Copy, Debug, PartialEq, Eq)]
-pub enum Scratch {
-    /// Document 01: "n × n bytes for n boxes".
-    Large,
-    /// Document 02: "one bit for each pair of boxes, rows rounded up to bytes".
-    Small,
-}
-
-impl Scratch {
-    /// The bytes of a row for n boxes.
-    fn width(self, n: usize) -> usize {
-        match self {
-            Scratch::Large => n,
-            Scratch::Small if n % 8 == 0 => n / 8,
-            Scratch::Small => n / 8 + 1,
-        }
-    }
-
-    /// The bytes of the whole scratch, a row for each box: what check 9 asks for.
-    pub fn length(self, n: usize) -> usize {
-        n * self.width(n)
-    }
-}
-
 /// Check 9 for one buffer.
 fn long_enough(buffer: usize, lent: usize, needed: usize) -> Result<(), Refusal> {
     if lent < needed {
@@ -625,8 +586,8 @@ fn long_enough(buffer: usize, lent: usize, needed: usize) -> Result<(), Refusal>
 }
 
 /// Fills the scratch, checks 1 to 9 having passed, then makes check 10.
-fn fill_and_check_loops(p: &Picture, kind: Scratch, scratch: &mut [u8]) -> Result<(), Refusal> {
-    scratch[..kind.length(p.n)].copy_from_slice(&p.scratch(kind));
+fn fill_and_check_loops(p: &Picture, scratch: &mut [u8]) -> Result<(), Refusal> {
+    scratch[..p.n * p.n].copy_from_slice(&p.scratch());
     match p.on_loop {
         Some(b) => refuse(10, b, 0, 0),
         None => Ok(()),
@@ -638,19 +599,19 @@ pub struct JudgeEnd {
     pub scratch: Vec<u8>,
 }
 
-pub fn judge(known: &Known, kind: Scratch, scratch: &[u8]) -> JudgeEnd {
+pub fn judge(known: &Known, scratch: &[u8]) -> JudgeEnd {
     let mut after = scratch.to_vec();
-    let result = judge_into(known, kind, &mut after);
+    let result = judge_into(known, &mut after);
     JudgeEnd {
         result,
         scratch: after,
     }
 }
 
-fn judge_into(known: &Known, kind: Scratch, scratch: &mut [u8]) -> Result<(), Refusal> {
+fn judge_into(known: &Known, scratch: &mut [u8]) -> Result<(), Refusal> {
     let p = known.sound()?;
-    long_enough(0, scratch.len(), kind.length(p.n))?;
-    fill_and_check_loops(p, kind, scratch)?;
+    long_enough(0, scratch.len(), p.n * p.n)?;
+    fill_and_check_loops(p, scratch)?;
     for mode in 0..MODES {
         if let Some((user, file)) = p.first_unclear(mode) {
             return refuse(12, mode as usize, user, file);
@@ -664,16 +625,9 @@ pub struct EntryEnd {
     pub scratch: Vec<u8>,
 }
 
-pub fn entry(
-    known: &Known,
-    user: u16,
-    file: u16,
-    mode: u16,
-    kind: Scratch,
-    scratch: &[u8],
-) -> EntryEnd {
+pub fn entry(known: &Known, user: u16, file: u16, mode: u16, scratch: &[u8]) -> EntryEnd {
     let mut after = scratch.to_vec();
-    let result = entry_into(known, user, file, mode, kind, &mut after);
+    let result = entry_into(known, user, file, mode, &mut after);
     EntryEnd {
         result,
         scratch: after,
@@ -685,13 +639,12 @@ fn entry_into(
     user: u16,
     file: u16,
     mode: u16,
-    kind: Scratch,
     scratch: &mut [u8],
 ) -> Result<Answer, Refusal> {
     let p = known.sound()?;
     known_mode(mode)?;
-    long_enough(0, scratch.len(), kind.length(p.n))?;
-    fill_and_check_loops(p, kind, scratch)?;
+    long_enough(0, scratch.len(), p.n * p.n)?;
+    fill_and_check_loops(p, scratch)?;
     let row = p.users.iter().position(|&u| u == user as usize);
     let column = p.files.iter().position(|&f| f == file as usize);
     match (row, column) {
@@ -710,7 +663,6 @@ pub struct MatrixEnd {
 pub fn matrix(
     known: &Known,
     mode: u16,
-    kind: Scratch,
     scratch: &[u8],
     bytes: &[u8],
     numbers: &[u16],
@@ -721,22 +673,17 @@ pub fn matrix(
         bytes: bytes.to_vec(),
         numbers: numbers.to_vec(),
     };
-    end.result = matrix_into(known, mode, kind, &mut end);
+    end.result = matrix_into(known, mode, &mut end);
     end
 }
 
-fn matrix_into(
-    known: &Known,
-    mode: u16,
-    kind: Scratch,
-    end: &mut MatrixEnd,
-) -> Result<(), Refusal> {
+fn matrix_into(known: &Known, mode: u16, end: &mut MatrixEnd) -> Result<(), Refusal> {
     let p = known.sound()?;
     known_mode(mode)?;
-    long_enough(0, end.scratch.len(), kind.length(p.n))?;
+    long_enough(0, end.scratch.len(), p.n * p.n)?;
     long_enough(1, end.bytes.len(), p.pairs())?;
     long_enough(2, end.numbers.len(), p.pairs())?;
-    fill_and_check_loops(p, kind, &mut end.scratch)?;
+    fill_and_check_loops(p, &mut end.scratch)?;
     for (place, answer) in p.answers[mode as usize].iter().enumerate() {
         let (byte, number) = match *answer {
             Answer::Granted(k) => (1, k as u16),
@@ -758,32 +705,25 @@ pub struct ListEnd {
     pub work: Vec<u8>,
 }
 
-pub fn list(
-    known: &Known,
-    mode: u16,
-    kind: Scratch,
-    scratch: &[u8],
-    list: &[u16],
-    work: &[u8],
-) -> ListEnd {
+pub fn list(known: &Known, mode: u16, scratch: &[u8], list: &[u16], work: &[u8]) -> ListEnd {
     let mut end = ListEnd {
         result: Ok(0),
         scratch: scratch.to_vec(),
         list: list.to_vec(),
         work: work.to_vec(),
     };
-    end.result = list_into(known, mode, kind, &mut end);
+    end.result = list_into(known, mode, &mut end);
     end
 }
 
-fn list_into(known: &Known, mode: u16, kind: Scratch, end: &mut ListEnd) -> Result<usize, Refusal> {
+fn list_into(known: &Known, mode: u16, end: &mut ListEnd) -> Result<usize, Refusal> {
     let p = known.sound()?;
     known_mode(mode)?;
     let needed_list = p.of_mode(mode).len();
-    long_enough(0, end.scratch.len(), kind.length(p.n))?;
+    long_enough(0, end.scratch.len(), p.n * p.n)?;
     long_enough(3, end.list.len(), needed_list)?;
     long_enough(4, end.work.len(), p.pairs())?;
-    fill_and_check_loops(p, kind, &mut end.scratch)?;
+    fill_and_check_loops(p, &mut end.scratch)?;
     if let Some((user, file)) = p.first_unclear(mode) {
         return refuse(12, mode as usize, user, file);
     }
@@ -1059,8 +999,7 @@ fn full_listing(file: &[u8]) -> Result<String, Refusal> {
     let t = tables_in(file)?;
     let known = Known::new(&t);
     let p = known.sound()?;
-    let kind = Scratch::Large;
-    let verdict = match judge(&known, kind, &vec![0; kind.length(p.n)]).result {
+    let verdict = match judge(&known, &vec![0; p.n * p.n]).result {
         Ok(()) => "accepted\n".to_string(),
         Err(Refusal {
             number: 12,

@@ -9,7 +9,6 @@
 //!     compare --self-test            that wrong libraries are noticed (built with --cfg model)
 //!     ... --loud                     names each seed before it runs, in case of a crash
 
-mod calls;
 mod cases;
 mod checker;
 mod generator;
@@ -17,13 +16,10 @@ mod groups;
 mod owned;
 mod packing;
 mod packing_cases;
-mod small;
-mod small_cases;
-mod small_vectors;
 #[cfg(model)]
 mod standin;
 
-use checker::{Answer, Known, Lists, Scratch, Tables, Tried};
+use checker::{Answer, Known, Lists, Tables, Tried};
 use generator::Random;
 use rights::lent;
 use std::fmt::Debug;
@@ -33,7 +29,7 @@ use std::process::{Command, ExitCode, Stdio};
 use std::time::Instant;
 
 /// From so many pictures on, every refusal number, all of `SHOWN`, all of `groups::SHOWN` and all
-/// that is counted of packing and of small scratches must have come up.
+/// that is counted of packing must have come up.
 const FULL_RUN: u64 = 10_000;
 
 /// What a picture and its filled scratch can show.
@@ -50,13 +46,6 @@ fn counted(names: &[&str], counts: &[u64]) -> String {
     let each = names.iter().zip(counts);
     let each: Vec<String> = each.map(|(what, n)| format!("{what} {n}")).collect();
     each.join(", ")
-}
-
-/// Counts what came up once more.
-fn add<const N: usize>(counts: &mut [u64; N], seen: [bool; N]) {
-    for (count, seen) in counts.iter_mut().zip(seen) {
-        *count += seen as u64;
-    }
 }
 
 /// How often things came up.
@@ -76,11 +65,8 @@ struct Tally {
     sound: u64,
     groups: [u64; 10],
     packing: packing::Seen,
-    small: small::Seen,
-    /// Lists that were written with a large scratch, and refusals 13 then.
     lists: u64,
-    no_order: u64,
-    /// Of these the ones that name another pair than the mode's first granted one.
+    /// Refusals 13 that name another pair than the mode's first granted one.
     later_no_order: u64,
     listed_arrows: u64,
     every_list_tried: u64,
@@ -104,7 +90,6 @@ impl Tally {
             .map(|k| format!("refusal {k}"))
             .chain(not_shown.map(|(what, _)| what.to_string()))
             .chain(self.packing.never())
-            .chain(self.small.never())
             .collect()
     }
 
@@ -120,13 +105,12 @@ impl Tally {
         let shown = counted(&groups::SHOWN, &self.groups);
         println!("pictures that pass 1 to 7 {}: {shown}", self.sound);
         self.packing.print();
-        self.small.print();
         println!(
             "lists written {} with {} arrows, each asked for twice; no order {} (not at the \
              first granted pair {}); every list tried {} times",
             self.lists,
             self.listed_arrows,
-            self.no_order,
+            self.refusals[13],
             self.later_no_order,
             self.every_list_tried
         );
@@ -285,27 +269,19 @@ struct Trial<'a> {
 
 impl Trial<'_> {
     fn lent_tables(&self) -> lent::Tables<'_> {
-        calls::lend(self.tables)
+        lent::Tables {
+            boxes: &self.tables.boxes,
+            containments: &self.tables.rows,
+            arrows: &self.tables.arrows,
+        }
     }
 
-    /// Lengths to lend for a scratch of this kind and for other buffers, where these are needed.
-    /// Where a fault of the tables comes first, nothing is needed, and anything may be lent.
-    fn lengths(
-        &mut self,
-        kind: Scratch,
-        others: impl Fn(&checker::Picture) -> Vec<usize>,
-    ) -> Vec<usize> {
-        let Known::Sound(p) = self.known else {
-            return (0..3).map(|_| self.r.below(40)).collect();
-        };
-        let needed = [vec![kind.length(p.n)], others(p)].concat();
-        match kind {
-            Scratch::Large => generator::lengths(&mut self.r, &needed),
-            Scratch::Small => {
-                let lent = generator::small_lengths(&mut self.r, p.n * p.n, &needed);
-                self.tally.small.lent(lent[0], needed[0], p.n);
-                lent
-            }
+    /// Lengths to lend where these are needed. Where a fault of the tables comes first, nothing
+    /// is needed, and anything may be lent.
+    fn lengths(&mut self, needed: impl Fn(&checker::Picture) -> Vec<usize>) -> Vec<usize> {
+        match self.known {
+            Known::Sound(p) => generator::lengths(&mut self.r, &needed(p)),
+            Known::Faulty(_) => (0..3).map(|_| self.r.below(40)).collect(),
         }
     }
 
@@ -327,44 +303,31 @@ impl Trial<'_> {
         }
     }
 
-    fn judge(&mut self, kind: Scratch) -> Result<(), String> {
-        let lengths = self.lengths(kind, |_| vec![]);
+    fn judge(&mut self) -> Result<(), String> {
+        let lengths = self.lengths(|p| vec![p.n * p.n]);
         let mut scratch = bytes(&mut self.r, lengths[0]);
-        let got = calls::judge(&self.lent_tables(), kind, scratch.lend());
-        let want = checker::judge(self.known, kind, scratch.before());
-        let call = format!("judge{}", calls::suffix(kind));
-        self.same(&call, got, want.result)?;
-        scratch.ends_as(&format!("{call}: scratch"), &want.scratch)?;
-        if kind == Scratch::Small {
-            self.tally.small.refused("judge_small", &want.result);
-            return Ok(());
-        }
+        let got = self.lent_tables().judge(scratch.lend());
+        let want = checker::judge(self.known, scratch.before());
         self.tally.clear_pictures += want.result.is_ok() as u64;
+        self.same("judge", got, want.result)?;
+        scratch.ends_as("judge: scratch", &want.scratch)?;
         if matches!(want.result, Err(refusal) if refusal.number < 10) {
             return Ok(());
         }
         let n = self.tables.boxes.len();
         let filled = &scratch.after()[..n * n];
         self.tally.filled += 1;
-        add(&mut self.tally.shown, shown(self.tables, filled));
+        for (count, shown) in self.tally.shown.iter_mut().zip(shown(self.tables, filled)) {
+            *count += shown as u64;
+        }
         steps_drawn(self.tables, filled).map_err(|why| format!("judge: scratch: {why}"))
     }
 
-    /// One entry with a large scratch and, every other time, with a small one.
     fn entry(&mut self, user: u16, file: u16, mode: u16) -> Result<(), String> {
-        self.entry_with(Scratch::Large, user, file, mode)?;
-        if self.r.percent(50) {
-            self.entry_with(Scratch::Small, user, file, mode)?;
-        }
-        Ok(())
-    }
-
-    fn entry_with(&mut self, kind: Scratch, user: u16, file: u16, mode: u16) -> Result<(), String> {
-        let lengths = self.lengths(kind, |_| vec![]);
+        let lengths = self.lengths(|p| vec![p.n * p.n]);
         let mut scratch = bytes(&mut self.r, lengths[0]);
-        let tables = self.lent_tables();
-        let got = calls::entry(&tables, kind, (user, file, mode), scratch.lend());
-        let want = checker::entry(self.known, user, file, mode, kind, scratch.before());
+        let got = self.lent_tables().entry(user, file, mode, scratch.lend());
+        let want = checker::entry(self.known, user, file, mode, scratch.before());
         match want.result {
             Ok(Answer::Granted(_)) => self.tally.granted += 1,
             Ok(Answer::Denied(_)) => self.tally.denied += 1,
@@ -372,73 +335,58 @@ impl Trial<'_> {
             Ok(Answer::Unclear(..)) => self.tally.unclear += 1,
             Err(_) => {}
         }
-        let call = format!("entry{} {user}, {file}, mode {mode}", calls::suffix(kind));
+        let call = format!("entry {user}, {file}, mode {mode}");
         self.same(&call, got.map(compare_answer), want.result)?;
-        scratch.ends_as(&format!("{call}: scratch"), &want.scratch)?;
-        if kind == Scratch::Small {
-            self.tally.small.refused("entry_small", &want.result);
-        }
-        Ok(())
+        scratch.ends_as(&format!("{call}: scratch"), &want.scratch)
     }
 
-    fn matrix(&mut self, kind: Scratch, mode: u16) -> Result<(), String> {
-        let lengths = self.lengths(kind, |p| vec![p.pairs(), p.pairs()]);
+    fn matrix(&mut self, mode: u16) -> Result<(), String> {
+        let lengths = self.lengths(|p| vec![p.n * p.n, p.pairs(), p.pairs()]);
         let mut scratch = bytes(&mut self.r, lengths[0]);
         let mut cells = bytes(&mut self.r, lengths[1]);
         let mut numbers = words(&mut self.r, lengths[2]);
-        let tables = self.lent_tables();
-        let buffers = (scratch.lend(), cells.lend(), numbers.lend());
-        let got = calls::matrix(&tables, kind, mode, buffers);
+        let got = self
+            .lent_tables()
+            .matrix(mode, scratch.lend(), cells.lend(), numbers.lend());
         let want = checker::matrix(
             self.known,
             mode,
-            kind,
             scratch.before(),
             cells.before(),
             numbers.before(),
         );
-        let call = format!("matrix{} of mode {mode}", calls::suffix(kind));
+        let call = format!("matrix of mode {mode}");
         self.same(&call, got, want.result)?;
         scratch.ends_as(&format!("{call}: scratch"), &want.scratch)?;
         cells.ends_as(&format!("{call}: bytes"), &want.bytes)?;
-        numbers.ends_as(&format!("{call}: numbers"), &want.numbers)?;
-        if kind == Scratch::Small {
-            self.tally.small.refused("matrix_small", &want.result);
-        }
-        Ok(())
+        numbers.ends_as(&format!("{call}: numbers"), &want.numbers)
     }
 
-    fn list(&mut self, kind: Scratch, mode: u16) -> Result<(), String> {
-        let lengths = self.lengths(kind, |p| vec![p.of_mode(mode).len(), p.pairs()]);
+    fn list(&mut self, mode: u16) -> Result<(), String> {
+        let lengths = self.lengths(|p| vec![p.n * p.n, p.of_mode(mode).len(), p.pairs()]);
         let mut scratch = bytes(&mut self.r, lengths[0]);
         let mut list = words(&mut self.r, lengths[1]);
         let mut work = bytes(&mut self.r, lengths[2]);
-        let tables = self.lent_tables();
-        let buffers = (scratch.lend(), list.lend(), work.lend());
-        let got = calls::list(&tables, kind, mode, buffers);
+        let got = self
+            .lent_tables()
+            .list(mode, scratch.lend(), list.lend(), work.lend());
         let want = checker::list(
             self.known,
             mode,
-            kind,
             scratch.before(),
             list.before(),
             work.before(),
         );
-        let call = format!("list{} of mode {mode}", calls::suffix(kind));
+        let call = format!("list of mode {mode}");
+        if let (Known::Sound(p), Err(r)) = (self.known, &want.result) {
+            let named = (r.places[1] as usize, r.places[2] as usize);
+            let later = r.number == 13 && p.first_granted(mode) != Some(named);
+            self.tally.later_no_order += later as u64;
+        }
         self.same(&call, got, want.result)?;
         scratch.ends_as(&format!("{call}: scratch"), &want.scratch)?;
         list.ends_as(&format!("{call}: list"), &want.list)?;
         work.ends_as(&format!("{call}: work"), &want.work)?;
-        if kind == Scratch::Small {
-            self.tally.small.refused("list_small", &want.result);
-            return Ok(());
-        }
-        if let (Known::Sound(p), Err(r)) = (self.known, &want.result) {
-            let named = (r.places[1] as usize, r.places[2] as usize);
-            let later = r.number == 13 && p.first_granted(mode) != Some(named);
-            self.tally.no_order += (r.number == 13) as u64;
-            self.tally.later_no_order += later as u64;
-        }
         if let Ok(count) = got {
             self.tally.lists += 1;
             self.tally.listed_arrows += count as u64;
@@ -555,14 +503,11 @@ impl Trial<'_> {
             return Ok(());
         };
         self.tally.sound += 1;
-        add(&mut self.tally.groups, groups::shown(self.tables));
+        let shown = groups::shown(self.tables);
+        for (count, shown) in self.tally.groups.iter_mut().zip(shown) {
+            *count += shown as u64;
+        }
         groups::compare(&mut self.r, self.tables, p, mode)
-    }
-
-    /// What is the same with a scratch of either kind.
-    fn small(&mut self, mode: u16) -> Result<(), String> {
-        let seen = &mut self.tally.small;
-        small::compare(&mut self.r, self.tables, self.known, mode, seen)
     }
 
     /// Packing the picture, and what a file packs to when it is read.
@@ -574,8 +519,7 @@ impl Trial<'_> {
 
     /// Every call, the mode calls for each mode that comes up and one more.
     fn all_calls(&mut self) -> Result<(), String> {
-        self.judge(Scratch::Large)?;
-        self.judge(Scratch::Small)?;
+        self.judge()?;
         self.atoms()?;
         let (mut users, mut files, mut modes) = (Vec::new(), Vec::new(), Vec::new());
         if let Known::Sound(p) = self.known {
@@ -590,10 +534,8 @@ impl Trial<'_> {
         modes.push(generator::asked_mode(&mut self.r, self.tables));
         let n = self.tables.boxes.len();
         for &mode in &modes {
-            for kind in [Scratch::Large, Scratch::Small] {
-                self.matrix(kind, mode)?;
-                self.list(kind, mode)?;
-            }
+            self.matrix(mode)?;
+            self.list(mode)?;
             let few = users.len() * files.len() <= 12;
             if few {
                 for &user in &users {
@@ -620,7 +562,6 @@ impl Trial<'_> {
             self.entry(user, file, modes[0])?;
         }
         self.groups(modes[0])?;
-        self.small(modes[0])?;
         let file = generator::file(&mut self.r, self.tables);
         let copy = file.clone();
         self.read(&file)?;

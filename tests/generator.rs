@@ -577,41 +577,6 @@ fn hollow(r: &mut Random, d: &mut Draft) {
     }
 }
 
-/// A count of boxes at or beside a multiple of 8, often one of 64.
-fn about_bytes(r: &mut Random) -> usize {
-    let multiple = match r.below(10) {
-        0..=3 => 8 * r.from_to(1, 5),
-        _ => 64 * r.from_to(1, 4),
-    };
-    (multiple - 1 + r.below(3)).min(256)
-}
-
-/// Adds boxes up to such a count, each around an older one or around none, some with arrows, and
-/// mixes the numbers, so that what contains what is told by all bits of a small scratch. Most are
-/// user groups and folders: there are hardly more pairs.
-fn widen(r: &mut Random, d: &mut Draft) {
-    let wanted = about_bytes(r);
-    let mode = d.arrows.first().map_or(0, |arrow| arrow[2]);
-    while d.boxes.len() < wanted {
-        let byte = r.pick(&[0, 1, 2, 2, 2, 2, 3, 3, 3, 3]);
-        let older = d.of_side(byte % 2);
-        let b = d.add_box(byte);
-        if let (Some(&last), true) = (older.last(), r.percent(75)) {
-            let inner = if r.percent(40) { last } else { r.pick(&older) };
-            d.rows.push([b, inner]);
-        }
-        let far = d.of_side(1 - byte % 2);
-        if !far.is_empty() && d.arrows.len() < 500 && r.percent(4) {
-            let mut ends = [b, r.pick(&far)];
-            if byte % 2 == 1 {
-                ends.reverse();
-            }
-            d.arrows.push([ends[0], ends[1], mode, r.below(2) as u16]);
-        }
-    }
-    d.mix(r);
-}
-
 /// Fills the tables up to their limits: more single boxes, some of them empty groups if there are
 /// groups, and the first containment and arrow over and over before the others, so that the last
 /// rows of full tables count.
@@ -750,12 +715,8 @@ pub fn picture(r: &mut Random) -> (Tables, &'static str) {
     if r.percent(50) {
         draw_groups(r, &mut d);
     }
-    if matches!(size, Size::Full) {
-        if r.percent(50) {
-            fill_up(r, &mut d);
-        }
-    } else if r.percent(3) {
-        widen(r, &mut d);
+    if matches!(size, Size::Full) && r.percent(50) {
+        fill_up(r, &mut d);
     }
     let mut tables = d.tables();
     if r.percent(15) {
@@ -1028,19 +989,6 @@ pub fn lengths(r: &mut Random, needed: &[usize]) -> Vec<usize> {
             _ => r.below(needed + 1),
         })
         .collect()
-}
-
-/// The same where the first buffer is a small scratch: at times it is as long as a large one would
-/// be, a byte short or empty.
-pub fn small_lengths(r: &mut Random, large: usize, needed: &[usize]) -> Vec<usize> {
-    let mut lent = lengths(r, needed);
-    lent[0] = match r.below(16) {
-        0..=2 => large,
-        3 => needed[0].saturating_sub(1),
-        4 => 0,
-        _ => lent[0],
-    };
-    lent
 }
 
 /// How many bytes are lent for a packed file of this length: mostly as many or more, else too few.

@@ -2,11 +2,10 @@
 //! what the library answers for two pictures that differ in bytes only, however the model finds
 //! atomic boxes.
 
-use super::calls::{lend, told, Asked, FRESH_BYTE, FRESH_NUMBER};
-use super::checker::{Picture, Scratch, Tables};
+use super::checker::{Picture, Tables};
 use super::generator::{self, Random};
-use rights::lent::AtomCounts;
-use rights::Refusal;
+use rights::lent::{self, AtomCounts};
+use rights::{Answer, Refusal};
 
 /// What a picture that passes checks 1 to 7 can show.
 pub const SHOWN: [&str; 10] = [
@@ -64,19 +63,67 @@ pub fn atoms_named(t: &Tables, users: &[u16], files: &[u16]) -> Result<(), Strin
     Ok(())
 }
 
+/// What is asked, and how long the buffers are: scratch, matrix bytes and numbers, list, work,
+/// atomic users and files.
+struct Asked {
+    user: u16,
+    file: u16,
+    mode: u16,
+    lengths: [usize; 7],
+}
+
+/// What each call answers and leaves in its buffers.
+struct Told {
+    judge: (Result<(), Refusal>, Vec<u8>),
+    entry: (Result<Answer, Refusal>, Vec<u8>),
+    matrix: (Result<(), Refusal>, Vec<u8>, Vec<u8>, Vec<u16>),
+    list: (Result<usize, Refusal>, Vec<u8>, Vec<u16>, Vec<u8>),
+    atoms: (Result<AtomCounts, Refusal>, Vec<u16>, Vec<u16>),
+}
+
+fn lend(t: &Tables) -> lent::Tables<'_> {
+    lent::Tables {
+        boxes: &t.boxes,
+        containments: &t.rows,
+        arrows: &t.arrows,
+    }
+}
+
+/// Buffers hold what no call writes, so that it shows what was left alone.
 fn bytes(length: usize) -> Vec<u8> {
-    vec![FRESH_BYTE; length]
+    vec![170; length]
 }
 
 fn words(length: usize) -> Vec<u16> {
-    vec![FRESH_NUMBER; length]
+    vec![43_690; length]
 }
 
-/// The atomic boxes, and what the places for them hold.
-fn atoms(t: &Tables, lent: [usize; 2]) -> (Result<AtomCounts, Refusal>, [Vec<u16>; 2]) {
-    let [mut users, mut files] = lent.map(words);
-    let counts = lend(t).atoms(&mut users, &mut files);
-    (counts, [users, files])
+fn told(t: &Tables, asked: &Asked) -> Told {
+    let picture = lend(t);
+    let &Asked {
+        user,
+        file,
+        mode,
+        lengths: [scratch, cells, numbers, list, work, users, files],
+    } = asked;
+    let filled = || bytes(scratch);
+    let mut judge = (Ok(()), filled());
+    judge.0 = picture.judge(&mut judge.1);
+    let mut entry = (Ok(Answer::DeniedByDefault), filled());
+    entry.0 = picture.entry(user, file, mode, &mut entry.1);
+    let mut matrix = (Ok(()), filled(), bytes(cells), words(numbers));
+    matrix.0 = picture.matrix(mode, &mut matrix.1, &mut matrix.2, &mut matrix.3);
+    let mut listed = (Ok(0), filled(), words(list), bytes(work));
+    listed.0 = picture.list(mode, &mut listed.1, &mut listed.2, &mut listed.3);
+    let mut atoms = (Ok(AtomCounts { users, files }), words(users), words(files));
+    atoms.0 = picture.atoms(&mut atoms.1, &mut atoms.2);
+    Told {
+        judge,
+        entry,
+        matrix,
+        list: listed,
+        atoms,
+    }
 }
 
 /// Groups that hold something may be said or not: where boxes that are the outer one of a row go
@@ -100,18 +147,23 @@ fn said_or_not(r: &mut Random, t: &Tables, p: &Picture, mode: u16) -> Result<(),
         user,
         file,
         mode,
-        lengths: [0, 1, 2, 3, 4].map(|k| lengths[k]),
+        lengths: lengths.try_into().expect("as many as needed"),
     };
-    let [one, two] = [t, &other].map(|t| told(&lend(t), Scratch::Large, &asked));
-    let differ = |call: &str| format!("{call}: not the same where the bytes are {:?}", other.boxes);
-    if let Some((told, _)) = one.iter().zip(&two).find(|(one, two)| one != two) {
-        return Err(differ(told.call));
+    let (one, two) = (told(t, &asked), told(&other, &asked));
+    let calls = [
+        ("judge", one.judge == two.judge),
+        ("entry", one.entry == two.entry),
+        ("matrix", one.matrix == two.matrix),
+        ("list", one.list == two.list),
+        ("atoms", one.atoms == two.atoms),
+    ];
+    match calls.iter().find(|(_, same)| !same) {
+        None => Ok(()),
+        Some((call, _)) => Err(format!(
+            "{call}: not the same where the bytes are {:?}",
+            other.boxes
+        )),
     }
-    let lent = [lengths[5], lengths[6]];
-    if atoms(t, lent) != atoms(&other, lent) {
-        return Err(differ("atoms"));
-    }
-    Ok(())
 }
 
 /// An atomic box that becomes a group, or a folder, takes its row, or column, out of the matrix and

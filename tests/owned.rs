@@ -1,10 +1,9 @@
 //! The Rust package's pictures that own their rows, beside the model: whatever buffers a call needs
-//! are there, so only faults of the picture and the question refuse it. The scratch is a small one.
+//! are there, so only faults of the picture and the question refuse it.
 
-use super::calls::lend;
-use super::checker::{self, Known, Scratch, Tables};
+use super::checker::{self, Known, Tables};
 use super::{compare_answer, compare_refusal};
-use rights::{Cell, Mode, Picture, Side};
+use rights::{lent, Cell, Mode, Picture, Side};
 use std::fmt::Debug;
 
 fn same<T: PartialEq + Debug>(call: &str, got: T, want: T) -> Result<(), String> {
@@ -16,9 +15,12 @@ fn same<T: PartialEq + Debug>(call: &str, got: T, want: T) -> Result<(), String>
     }
 }
 
-/// A small scratch that suffices.
-fn scratch(model: &checker::Picture) -> Vec<u8> {
-    vec![9; Scratch::Small.length(model.n)]
+fn lend(t: &Tables) -> lent::Tables<'_> {
+    lent::Tables {
+        boxes: &t.boxes,
+        containments: &t.rows,
+        arrows: &t.arrows,
+    }
 }
 
 /// That a picture holds the rows of the tables it was made of, box bytes included, and that each box
@@ -50,7 +52,8 @@ pub fn compare(tables: &Tables, known: &Known, asked: u16) -> Result<(), String>
     let (Ok(picture), Ok(model), Ok(mode)) = (picture, known.sound(), mode) else {
         return Ok(());
     };
-    let want = checker::judge(known, Scratch::Small, &scratch(model)).result;
+    let scratch = vec![9; model.n * model.n];
+    let want = checker::judge(known, &scratch).result;
     same("judge", picture.judge().map_err(compare_refusal), want)?;
     let atoms = picture.atoms().map_err(compare_refusal);
     let want = checker::atoms_of(tables);
@@ -62,8 +65,8 @@ pub fn compare(tables: &Tables, known: &Known, asked: u16) -> Result<(), String>
     for user in model.users.last().copied().into_iter().chain(group) {
         let user = user as u16;
         let got = picture.entry(user, file, mode).map(compare_answer);
-        let want = checker::entry(known, user, file, asked, Scratch::Small, &scratch(model));
-        same("entry", got.map_err(compare_refusal), want.result)?;
+        let want = checker::entry(known, user, file, asked, &scratch).result;
+        same("entry", got.map_err(compare_refusal), want)?;
     }
     Ok(())
 }
@@ -74,15 +77,9 @@ fn matrix(
     model: &checker::Picture,
     mode: Mode,
 ) -> Result<(), String> {
-    let pairs = model.pairs();
-    let want = checker::matrix(
-        known,
-        mode.number(),
-        Scratch::Small,
-        &scratch(model),
-        &vec![9; pairs],
-        &vec![9; pairs],
-    );
+    let (n, pairs) = (model.n, model.pairs());
+    let (bytes, numbers) = (vec![9; pairs], vec![9; pairs]);
+    let want = checker::matrix(known, mode.number(), &vec![9; n * n], &bytes, &numbers);
     let got = match picture.matrix(mode) {
         Ok(got) => got,
         Err(refusal) => return same("matrix", Err(compare_refusal(refusal)), want.result),
@@ -116,14 +113,14 @@ fn list(
     model: &checker::Picture,
     mode: Mode,
 ) -> Result<(), String> {
+    let (n, pairs) = (model.n, model.pairs());
     let places = vec![9; model.of_mode(mode.number()).len()];
     let want = checker::list(
         known,
         mode.number(),
-        Scratch::Small,
-        &scratch(model),
+        &vec![9; n * n],
         &places,
-        &vec![9; model.pairs()],
+        &vec![9; pairs],
     );
     let got = picture.list(mode).map_err(compare_refusal);
     let want = want.result.map(|count| want.list[..count].to_vec());

@@ -2,10 +2,9 @@
 //! reading, the same bytes once more, other bytes for another picture, and which files come out of
 //! reading and packing as they were.
 
-use super::calls::lend;
 use super::checker::{self, Tables};
 use super::generator::{self, Random};
-use super::{add, bytes, compare_refusal, counted, words};
+use super::{bytes, compare_refusal, counted, words};
 use rights::lent::{self, Counts};
 
 const BLOCK: usize = 512;
@@ -73,6 +72,12 @@ pub struct Seen {
     files: [u64; 2],
 }
 
+fn add<const N: usize>(counts: &mut [u64; N], seen: [bool; N]) {
+    for (count, seen) in counts.iter_mut().zip(seen) {
+        *count += seen as u64;
+    }
+}
+
 impl Seen {
     fn all(&self) -> [(&'static str, &'static [&'static str], &[u64]); 5] {
         [
@@ -97,6 +102,14 @@ impl Seen {
             never.extend(zero.map(|(name, _)| format!("packing, {what}: {name}")));
         }
         never
+    }
+}
+
+fn lend(t: &Tables) -> lent::Tables<'_> {
+    lent::Tables {
+        boxes: &t.boxes,
+        containments: &t.rows,
+        arrows: &t.arrows,
     }
 }
 

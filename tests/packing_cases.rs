@@ -2,7 +2,6 @@
 //! sides of each limit, and each refusal with what it leaves. Each is put to the library and to the
 //! model.
 
-use super::calls::lend;
 use super::cases::{file_b, Refused, Report};
 use super::checker::{self, Tables};
 use rights::lent::{self, PACKED_ROOM};
@@ -308,6 +307,14 @@ fn tables(boxes: &[u8], rows: &[u16], arrows: &[u16]) -> Tables {
         boxes: boxes.to_vec(),
         rows: rows.to_vec(),
         arrows: arrows.to_vec(),
+    }
+}
+
+fn lend(t: &Tables) -> lent::Tables<'_> {
+    lent::Tables {
+        boxes: &t.boxes,
+        containments: &t.rows,
+        arrows: &t.arrows,
     }
 }
 

@@ -3,13 +3,6 @@
 What a pair is answered is the model's (tests/model.py); checks, buffers and their order are said here. A case is
 (label, input, lines): the input's numbers and tables, and for each line the answer's words, the byte buffers and the
 number buffers, each as far as a call writes it (tests/test_cases.py).
-
-The first letter of a label says what is called:
-p  a picture with the large scratch: preparing the scratch, judge, entry and matrix, a line for each. The input is the three
-   tables, how many places of the scratch are lent, mode, user, file, and how many places of matrix bytes and numbers.
-l  the list of a mode with the large scratch. The input is that of p, with the places of the work and of the list for the last two.
-h  the headings of the matrix. The input is boxes, containments, and how many places of users and of files are lent.
-s and t are p and l with the small scratch (tests/small_cases.py).
 """
 
 import model
@@ -60,41 +53,18 @@ def first(faults):
     return next((f for f in faults if f), None)
 
 
-def large(inside, drawn):
-    """The large scratch, of what each box contains: 2 for what is drawn, 1 for what else is contained (document 02, P2)."""
-    boxes = range(len(inside))
-    return [2 if (a, b) in drawn else int(b in inside[a]) for a in boxes for b in boxes]
-
-
-def small_length(n):
-    """The bytes of the small scratch for n boxes: a bit for each pair, rows rounded up to bytes (document 02, P10)."""
-    return n * ((n + 7) // 8)
-
-
-def small(inside, _):
-    """The small scratch: a row is one number, in which bit b says whether box b is contained, its lowest byte first."""
-    n = len(inside)
-    return [byte for mine in inside for byte in sum(1 << b for b in mine).to_bytes((n + 7) // 8, "little")]
-
-
-# The two kinds of scratch: the bytes for so many boxes, and what they hold.
-LARGE = (lambda n: n * n), large
-SMALL = small_length, small
-
-
-def expected(boxes, rows, arrows, lent, mode, u, f, nb, nn, kind=LARGE):
-    """The four lines for a picture, with a scratch of this kind."""
+def expected(boxes, rows, arrows, lent, mode, u, f, nb, nn):
+    """The four lines for a picture."""
     n = len(boxes)
-    length, bytes_of = kind
     fault = refusal(boxes, rows, arrows)
-    room = None if length(n) <= lent else (9, 0, length(n), 0)
+    room = None if n * n <= lent else (9, 0, n * n, 0)
     asked = (8, mode, 0, 0) if mode > 7 else None
     filled, loop, unclear = [], None, None
     users = files = []
     if not fault:
         drawn = {*pairs_of(rows)}
         picture = model.Picture(boxes, drawn, fours_of(arrows))
-        filled = bytes_of(picture.inside, drawn)
+        filled = [2 if (a, b) in drawn else int(b in picture.inside[a]) for a in range(n) for b in range(n)]
         loop = (10, picture.looped[0], 0, 0) if picture.looped else None
         users, files = picture.users, picture.files
         if not room and not loop:
@@ -402,13 +372,13 @@ LISTS = [
 ]
 
 
-def listed(picture, said, places, kind=LARGE):
+def listed(picture, said, places):
     """The line of a list. The scratch is filled after 8 and 9, as by the first line of a picture."""
     boxes, rows, _ = picture
     words = said.split()
     early = words[:2] in (["refused", "8"], ["refused", "9"])
     done = words[0] == "written" or words[1] == "13"
-    scratch = [] if early else expected(*picture, 65536, *QUESTION, kind)[0][1][0]
+    scratch = [] if early else expected(*picture, 65536, *QUESTION)[0][1][0]
     pairs = len(atoms(boxes, rows, 0)) * len(atoms(boxes, rows, 1))
     return words, [scratch, [0] * pairs if done else []], [places]
 

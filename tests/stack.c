@@ -28,8 +28,7 @@ static uint16_t rows[RIGHTS_ROWS_ROOM], arrows[RIGHTS_ARROWS_ROOM];
 static size_t boxes_len, rows_len, arrows_len;
 static uint8_t file[RIGHTS_FILE_ROOM];
 static size_t file_len;
-static uint8_t scratch[RIGHTS_SCRATCH_ROOM], small[RIGHTS_SMALL_SCRATCH_ROOM];
-static uint8_t bytes[RIGHTS_PAIRS_ROOM], work[RIGHTS_PAIRS_ROOM];
+static uint8_t scratch[RIGHTS_SCRATCH_ROOM], bytes[RIGHTS_PAIRS_ROOM], work[RIGHTS_PAIRS_ROOM];
 static uint16_t numbers[RIGHTS_PAIRS_ROOM], list[RIGHTS_LIST_ROOM];
 static uint16_t users[RIGHTS_ATOMS_ROOM], files[RIGHTS_ATOMS_ROOM];
 static uint8_t read_boxes[RIGHTS_BOXES_ROOM];
@@ -59,25 +58,6 @@ static void matrix(void) {
 static void list_call(void) {
     rights_list(boxes, boxes_len, rows, rows_len, arrows, arrows_len, mode, scratch,
                 sizeof scratch, list, RIGHTS_LIST_ROOM, work, RIGHTS_PAIRS_ROOM);
-}
-
-static void judge_small(void) {
-    rights_judge_small(boxes, boxes_len, rows, rows_len, arrows, arrows_len, small, sizeof small);
-}
-
-static void entry_small(void) {
-    rights_entry_small(boxes, boxes_len, rows, rows_len, arrows, arrows_len, user, file_box, mode,
-                       small, sizeof small);
-}
-
-static void matrix_small(void) {
-    rights_matrix_small(boxes, boxes_len, rows, rows_len, arrows, arrows_len, mode, small,
-                        sizeof small, bytes, RIGHTS_PAIRS_ROOM, numbers, RIGHTS_PAIRS_ROOM);
-}
-
-static void list_small(void) {
-    rights_list_small(boxes, boxes_len, rows, rows_len, arrows, arrows_len, mode, small,
-                      sizeof small, list, RIGHTS_LIST_ROOM, work, RIGHTS_PAIRS_ROOM);
 }
 
 static void atoms(void) {
@@ -112,10 +92,6 @@ static const struct call {
 } calls[] = {
     {"rights_judge", judge, RIGHTS_STACK_JUDGE},    {"rights_entry", entry, RIGHTS_STACK_ENTRY},
     {"rights_matrix", matrix, RIGHTS_STACK_MATRIX}, {"rights_list", list_call, RIGHTS_STACK_LIST},
-    {"rights_judge_small", judge_small, RIGHTS_STACK_JUDGE},
-    {"rights_entry_small", entry_small, RIGHTS_STACK_ENTRY},
-    {"rights_matrix_small", matrix_small, RIGHTS_STACK_MATRIX},
-    {"rights_list_small", list_small, RIGHTS_STACK_LIST},
     {"rights_atoms", atoms, RIGHTS_STACK_ATOMS},    {"rights_read", read_call, RIGHTS_STACK_READ},
     {"rights_pack", pack, RIGHTS_STACK_PACK},
     {"rights_version", version, RIGHTS_STACK_VERSION},
@@ -428,13 +404,7 @@ static int as_said(void) {
                                           RIGHTS_PAIRS_ROOM);
         rights_reply reading = rights_read(file, file_len, read_boxes, RIGHTS_BOXES_ROOM, read_rows,
                                            RIGHTS_ROWS_ROOM, read_arrows, RIGHTS_ARROWS_ROOM);
-        rights_reply judged_small = rights_judge_small(boxes, boxes_len, rows, rows_len, arrows,
-                                                       arrows_len, small, sizeof small);
-        rights_reply listed_small =
-            rights_list_small(boxes, boxes_len, rows, rows_len, arrows, arrows_len, 0, small,
-                              sizeof small, list, RIGHTS_LIST_ROOM, work, RIGHTS_PAIRS_ROOM);
         good = good && judged.number == pictures[k].judged && listed.number == pictures[k].listed
-               && judged_small.number == judged.number && listed_small.number == listed.number
                && file_len == RIGHTS_MAX_FILE && reading.kind == RIGHTS_DONE
                && rights_rows_len(reading) == rows_len && rights_arrows_len(reading) == arrows_len
                && packed_as_said(pictures[k].blocks);
@@ -457,7 +427,7 @@ int main(void) {
     }
     for (size_t k = 0; k < sizeof calls / sizeof calls[0]; k++) {
         long most = found(&calls[k]);
-        printf("%-19s takes %6ld bytes, the header says %6ld%s\n", calls[k].name, most,
+        printf("%-14s takes %6ld bytes, the header says %6ld%s\n", calls[k].name, most,
                calls[k].header, most > calls[k].header ? ": TOO MUCH" : "");
         failed += most > calls[k].header;
     }

@@ -10,10 +10,7 @@
 mod checker;
 #[path = "standin_pack.rs"]
 mod packing;
-#[path = "standin_small.rs"]
-mod small;
 
-use small::Scratch;
 use std::slice::{from_raw_parts, from_raw_parts_mut};
 use std::sync::atomic::{AtomicUsize, Ordering::Relaxed};
 
@@ -276,81 +273,6 @@ ways! {
     PackNotFive: "packing: containments across sides are packed",
     PackNotSix: "packing: arrows between wrong sides are packed",
     PackNotSeven: "packing: modes above 7 and signs above 1 are packed",
-    SmallBitsTurned: "small scratch: the lowest bit of a byte is that of the last of its eight boxes",
-    SmallBytesTurned: "small scratch: the bytes of a row go from the last to the first",
-    SmallExchanged: "small scratch: rows and columns are exchanged",
-    SmallByteColumns: "small scratch: the first bytes of all rows stand before the second ones",
-    SmallPacked: "small scratch: rows are not rounded up to bytes",
-    SmallWidthDown: "small scratch: rows are rounded down to bytes",
-    SmallWidthMore: "small scratch: rows of a multiple of 8 boxes have a byte more",
-    SmallWidthTwo: "small scratch: rows are rounded up to two bytes",
-    SmallWidthEight: "small scratch: rows are rounded up to eight bytes",
-    SmallTurned: "small scratch: a bit is 1 where a doesn't contain b",
-    SmallDirect: "small scratch: bits only for what is drawn directly",
-    SmallThrough: "small scratch: bits only for what is joined through others",
-    SmallTwoRows: "small scratch: bits only for what is joined by at most two rows",
-    SmallDiagonal: "small scratch: each box is said to contain itself",
-    SmallNoLoops: "small scratch: no box is said to contain itself",
-    SmallUsers: "small scratch: bits only for users and user groups",
-    SmallEmpty: "small scratch: no bit for an empty group or folder",
-    SmallHighBit: "small scratch: the highest bit of each byte is lost",
-    SmallFirstByte: "small scratch: only the first byte of a row is filled, the others are 0",
-    SmallFirstEight: "small scratch: only eight bytes of a row are filled, the others are 0",
-    SmallLastBox: "small scratch: the bit of box 255 is lost",
-    SmallLastRow: "small scratch: the row of the last box is 0",
-    SmallSpareOnes: "small scratch: spare bits are 1",
-    SmallSpareOne: "small scratch: the lowest spare bit is 1",
-    SmallSpareKept: "small scratch: spare bits are left as they were",
-    SmallAdded: "small scratch: bits that were 1 before stay 1",
-    SmallBeyond: "small scratch: the byte beyond the needed length is set to 0",
-    SmallBeyondLarge: "small scratch: the bytes up to n * n are set to 0",
-    SmallCleared: "small scratch: all bytes beyond the needed length are set to 0",
-    SmallReadTurned: "small scratch: answers go by the bits of a byte in turned order",
-    SmallReadExchanged: "small scratch: answers go by rows and columns exchanged",
-    SmallReadFirstByte: "small scratch: answers go by the first byte of a row only",
-    SmallReadFirstEight: "small scratch: answers go by eight bytes of a row only",
-    SmallReadHighBit: "small scratch: answers don't see the highest bit of a byte",
-    SmallReadDirect: "small scratch: answers go by what is drawn directly",
-    SmallNineLarge: "small scratch: n * n bytes are asked for",
-    SmallNineExact: "small scratch: one of the exact length is too short",
-    SmallNineShort: "small scratch: a byte less than needed suffices",
-    SmallNineNamesLarge: "small scratch: 9 names n * n",
-    SmallNineNamesRow: "small scratch: 9 names the bytes of a row",
-    SmallNineNamesMissing: "small scratch: 9 names the bytes that are missing",
-    SmallNineBuffer: "small scratch: 9 names buffer 13",
-    SmallNineJudge: "small scratch: 9 names n * n in judge",
-    SmallNineEntry: "small scratch: 9 names n * n in an entry",
-    SmallNineMatrix: "small scratch: 9 names n * n in the matrix",
-    SmallNineList: "small scratch: 9 names n * n in the list",
-    SmallNineBeforeOne: "small scratch: 9 before 1 to 7",
-    SmallNineBeforeEight: "small scratch: 9 before 8",
-    SmallNineLast: "small scratch: buffer 0 after the others",
-    SmallTenBeforeNine: "small scratch: 10 before 9 for the matrix",
-    SmallElevenBeforeTen: "small scratch: 11 before 10",
-    SmallNotOnTen: "small scratch: not filled on 10",
-    SmallNotOnEleven: "small scratch: not filled on 11",
-    SmallNotOnTwelve: "small scratch: not filled on 12",
-    SmallNotOnThirteen: "small scratch: not filled on 13",
-    SmallNotByJudge: "small scratch: not filled by judge",
-    SmallNotByEntry: "small scratch: not filled by an entry",
-    SmallNotByMatrix: "small scratch: not filled by the matrix",
-    SmallNotByList: "small scratch: not filled by the list",
-    SmallOnEight: "small scratch: filled on 8",
-    SmallOnNine: "small scratch: filled on 9 for a later buffer",
-    SmallShortFilled: "small scratch: one that is too short is filled as far as it goes",
-    SmallShortCleared: "small scratch: one that is too short is set to 0",
-    SmallFaultCleared: "small scratch: set to 0 on 1 to 7",
-    SmallClearedAfter: "small scratch: set to 0 after an answer",
-    SmallBoxLimit: "small scratch: the 256th box is refused",
-    SmallJudgeModeZero: "small scratch: judge looks at mode 0 only",
-    SmallHighest: "small scratch: the highest certificate is shown",
-    SmallLevelIsSame: "small scratch: only the same box is level",
-    SmallEmptyIsUser: "small scratch: an empty user group is a user",
-    SmallMatrixColumns: "small scratch: the matrix goes by file, then user",
-    SmallMatrixNumbers: "small scratch: default numbers are not written",
-    SmallListHighest: "small scratch: at each place of the list stands the highest arrow that can follow",
-    SmallNoOrderKept: "small scratch: 13 leaves the list as it was",
-    SmallWorkDirty: "small scratch: the work bytes are left dirty",
 }
 
 static WRONG: AtomicUsize = AtomicUsize::new(0);
@@ -361,14 +283,6 @@ pub fn be(way: Wrong) {
 
 fn is(way: Wrong) -> bool {
     WRONG.load(Relaxed) == way as usize
-}
-
-/// The way in which it is wrong now.
-fn now() -> Wrong {
-    match WRONG.load(Relaxed) {
-        0 => Wrong::Nowhere,
-        way => WAYS[way - 1].0,
-    }
 }
 
 fn reply(kind: u32, a: usize, b: usize, c: usize) -> Reply {
@@ -621,8 +535,7 @@ impl Tables<'_> {
         self.atoms(0, with_empty).len() * self.atoms(1, with_empty).len()
     }
 
-    /// The large scratch: containment by Warshall's method, in place and by ones; then 2 for each
-    /// row.
+    /// The scratch: containment by Warshall's method, in place and by ones; then 2 for each row.
     fn fill(&self, scratch: &mut [u8]) {
         let n = self.n();
         if is(Wrong::ScratchBeyond) {
@@ -794,23 +707,15 @@ impl<'a> World<'a> {
         contained(byte, Wrong::OrderByOnes, Wrong::OrderByTwos)
     }
 
-    /// Whether a box is another or contains it.
-    fn covers(&self, outer: usize, inner: usize) -> bool {
-        let byte = self.holds[outer * self.t.n() + inner];
-        contained(byte, Wrong::ReachByOnes, Wrong::ReachByTwos)
-            || outer == inner && !is(Wrong::SameBoxMissed)
-    }
-
     fn reaches(&self, k: usize, u: usize, f: usize) -> bool {
         let (tail, head) = (self.t.tail(k), self.t.head(k));
+        let holds = |outer: usize, inner: usize| {
+            let byte = self.holds[outer * self.t.n() + inner];
+            contained(byte, Wrong::ReachByOnes, Wrong::ReachByTwos)
+                || outer == inner && !is(Wrong::SameBoxMissed)
+        };
         let idle = is(Wrong::GroupsReachNothing) && (self.t.group(tail) || self.t.group(head));
-        self.covers(tail, u) && self.covers(head, f) && !idle
-    }
-
-    /// The arrows, of these, that can reach a pair of the user.
-    fn of_user(&self, arrows: &[usize], u: usize) -> Vec<usize> {
-        let around = |k: &usize| self.covers(self.t.tail(*k), u);
-        arrows.iter().copied().filter(around).collect()
+        holds(tail, u) && holds(head, f) && !idle
     }
 
     /// -1 if a lies inside b, 1 if b lies inside a, 0 if they are level.
@@ -846,9 +751,9 @@ impl<'a> World<'a> {
         checker::overrides(|a, b| self.inside(a, b), ends(p), ends(n))
     }
 
-    /// Kind and arrows of the answer for a pair, given all arrows of the mode that can reach it.
-    fn cell(&self, arrows: &[usize], u: usize, f: usize) -> (u32, usize, usize) {
-        let reaching = arrows.iter().copied().filter(|&k| self.reaches(k, u, f));
+    /// Kind and arrows of the answer for a pair.
+    fn cell(&self, of_mode: &[usize], u: usize, f: usize) -> (u32, usize, usize) {
+        let reaching = of_mode.iter().copied().filter(|&k| self.reaches(k, u, f));
         let (pos, neg): (Vec<usize>, Vec<usize>) = reaching.partition(|&k| self.t.positive(k));
         if pos.is_empty() && neg.is_empty() {
             let kind = if is(Wrong::DefaultGranted) {
@@ -916,9 +821,8 @@ impl<'a> World<'a> {
         let of_mode = self.t.of_mode(mode);
         let mut by_file = None;
         for &u in &self.users {
-            let arrows = self.of_user(&of_mode, u);
             for &f in &self.files {
-                if self.cell(&arrows, u, f).0 == UNCLEAR {
+                if self.cell(&of_mode, u, f).0 == UNCLEAR {
                     if !is(Wrong::TwelveByFile) {
                         return Some((u, f));
                     }
@@ -930,19 +834,19 @@ impl<'a> World<'a> {
     }
 }
 
-fn judge(t: &Tables, scratch: &mut Scratch) -> Reply {
+fn judge(t: &Tables, scratch: &mut [u8]) -> Reply {
     if let Some(refused) = t.fault() {
         return refused;
     }
-    let needed = scratch.needed(t.n());
+    let needed = t.n() * t.n();
     if scratch.len() < needed {
         return refusal(9, 0, needed, 0);
     }
-    let holds = scratch.fill(t);
-    if let Some(refused) = t.looped(&holds) {
+    t.fill(scratch);
+    if let Some(refused) = t.looped(scratch) {
         return refused;
     }
-    let world = World::new(t, &holds, Wrong::EmptyInJudge);
+    let world = World::new(t, scratch, Wrong::EmptyInJudge);
     let modes = if is(Wrong::JudgeModeZero) { 1 } else { 8 };
     let mut found: Vec<(usize, (usize, usize))> = Vec::new();
     for mode in 0..modes {
@@ -959,11 +863,11 @@ fn judge(t: &Tables, scratch: &mut Scratch) -> Reply {
     }
 }
 
-fn entry(t: &Tables, user: u16, file: u16, mode: u16, scratch: &mut Scratch) -> Reply {
+fn entry(t: &Tables, user: u16, file: u16, mode: u16, scratch: &mut [u8]) -> Reply {
     if let Some(refused) = t.fault() {
         return refused;
     }
-    let needed = scratch.needed(t.n());
+    let needed = t.n() * t.n();
     if is(Wrong::EightAfterNine) && scratch.len() < needed {
         return refusal(9, 0, needed, 0);
     }
@@ -973,7 +877,7 @@ fn entry(t: &Tables, user: u16, file: u16, mode: u16, scratch: &mut Scratch) -> 
     if scratch.len() < needed {
         return refusal(9, 0, needed, 0);
     }
-    let holds = scratch.fill(t);
+    t.fill(scratch);
     let (u, f) = (user as usize, file as usize);
     let mut users = t.atoms(0, Wrong::EntryEmptyGroup);
     let files = t.atoms(1, Wrong::EntryEmptyFolder);
@@ -989,13 +893,13 @@ fn entry(t: &Tables, user: u16, file: u16, mode: u16, scratch: &mut Scratch) -> 
     if is(Wrong::ElevenBeforeTen) && wrong {
         return named;
     }
-    if let Some(refused) = t.looped(&holds) {
+    if let Some(refused) = t.looped(scratch) {
         return refused;
     }
     if wrong {
         return named;
     }
-    let world = World::new(t, &holds, Wrong::EntryEmptyGroup);
+    let world = World::new(t, scratch, Wrong::EntryEmptyGroup);
     let (kind, a, b) = world.cell(&t.of_mode(mode), u, f);
     reply(kind, t.number(a), t.number(b), 0)
 }
@@ -1018,15 +922,14 @@ fn mode_and_buffers(mode: u16, buffers: &[(usize, usize, usize)]) -> Option<Repl
 fn matrix(
     t: &Tables,
     mode: u16,
-    scratch: &mut Scratch,
+    scratch: &mut [u8],
     bytes: &mut [u8],
     numbers: &mut [u16],
 ) -> Reply {
     if let Some(refused) = t.fault() {
         return refused;
     }
-    let needed = scratch.needed(t.n());
-    let pairs = t.pairs(Wrong::EmptyInMatrix);
+    let (needed, pairs) = (t.n() * t.n(), t.pairs(Wrong::EmptyInMatrix));
     let mut buffers = [
         (0, scratch.len(), needed),
         (1, bytes.len(), pairs),
@@ -1038,40 +941,39 @@ fn matrix(
     if is(Wrong::NineEmptyNumbers) {
         buffers[2].2 = t.pairs(Wrong::NineEmptyNumbers);
     }
-    let before = scratch.bytes.to_vec();
     if is(Wrong::TenBeforeNine) && mode < 8 && scratch.len() >= needed {
-        let holds = scratch.fill(t);
-        if let Some(refused) = t.looped(&holds) {
+        let mut filled = vec![0; needed];
+        t.fill(&mut filled);
+        if let Some(refused) = t.looped(&filled) {
+            scratch[..needed].copy_from_slice(&filled);
             return refused;
         }
-        scratch.bytes.copy_from_slice(&before);
     }
     if is(Wrong::ScratchOnNine) && mode < 8 && scratch.len() >= needed {
-        scratch.fill(t);
+        t.fill(scratch);
     }
-    scratch.order(&mut buffers);
     if let Some(refused) = mode_and_buffers(mode, &buffers) {
         return refused;
     }
-    let holds = scratch.fill(t);
-    if let Some(refused) = t.looped(&holds) {
+    let before = scratch.to_vec();
+    t.fill(scratch);
+    if let Some(refused) = t.looped(scratch) {
         if is(Wrong::ScratchNotOnTen) {
-            scratch.bytes.copy_from_slice(&before);
+            scratch.copy_from_slice(&before);
         }
         return refused;
     }
-    let world = World::new(t, &holds, Wrong::EmptyInMatrix);
+    let world = World::new(t, scratch, Wrong::EmptyInMatrix);
     let of_mode = t.of_mode(mode);
     let mut first_granted = true;
     for (i, &u) in world.users.iter().enumerate() {
-        let arrows = world.of_user(&of_mode, u);
         for (j, &f) in world.files.iter().enumerate() {
             let place = if is(Wrong::MatrixColumnsFirst) {
                 j * world.users.len() + i
             } else {
                 i * world.files.len() + j
             };
-            let (kind, arrow, _) = world.cell(&arrows, u, f);
+            let (kind, arrow, _) = world.cell(&of_mode, u, f);
             if kind == GRANTED && is(Wrong::MatrixCellUnwritten) && first_granted {
                 first_granted = false;
                 continue;
@@ -1146,12 +1048,11 @@ fn in_order(t: &Tables, arrows: &[(usize, Vec<usize>)], work: &mut [u8]) -> Vec<
     }
 }
 
-fn list(t: &Tables, mode: u16, scratch: &mut Scratch, list: &mut [u16], work: &mut [u8]) -> Reply {
+fn list(t: &Tables, mode: u16, scratch: &mut [u8], list: &mut [u16], work: &mut [u8]) -> Reply {
     if let Some(refused) = t.fault() {
         return refused;
     }
-    let needed = scratch.needed(t.n());
-    let pairs = t.pairs(Wrong::EmptyInList);
+    let (needed, pairs) = (t.n() * t.n(), t.pairs(Wrong::EmptyInList));
     let of_mode = t.of_mode(mode);
     let places = if is(Wrong::NineListAllArrows) {
         t.arrows.len() / 4
@@ -1174,15 +1075,14 @@ fn list(t: &Tables, mode: u16, scratch: &mut Scratch, list: &mut [u16], work: &m
     if is(Wrong::NineWorkFirst) {
         buffers.swap(1, 2);
     }
-    scratch.order(&mut buffers);
     if let Some(refused) = mode_and_buffers(mode, &buffers) {
         return refused;
     }
-    let holds = scratch.fill(t);
-    if let Some(refused) = t.looped(&holds) {
+    t.fill(scratch);
+    if let Some(refused) = t.looped(scratch) {
         return refused;
     }
-    let world = World::new(t, &holds, Wrong::EmptyInList);
+    let world = World::new(t, scratch, Wrong::EmptyInList);
     if is(Wrong::WorkBeforeTwelve) {
         work[..pairs].fill(0);
     }
@@ -1198,21 +1098,21 @@ fn list(t: &Tables, mode: u16, scratch: &mut Scratch, list: &mut [u16], work: &m
     }
     let highest = is(Wrong::ListHighest)
         || is(Wrong::ListByLentWork) && work[..pairs].iter().any(|byte| byte % 2 == 1);
-    let columns = world.files.len();
-    let at = |place: usize| (world.users[place / columns], world.files[place % columns]);
-    let mut reached: Vec<(usize, Vec<usize>)> = of_mode.iter().map(|&k| (k, vec![])).collect();
-    for (i, &u) in world.users.iter().enumerate() {
-        let arrows = world.of_user(&of_mode, u);
-        for (j, &f) in world.files.iter().enumerate() {
-            let place = i * columns + j;
-            work[place] = (world.cell(&arrows, u, f).0 == GRANTED) as u8;
-        }
-        for (k, places) in reached.iter_mut().filter(|(k, _)| arrows.contains(k)) {
-            let files = world.files.iter().enumerate();
-            let hit = files.filter(|(_, &f)| world.reaches(*k, u, f));
-            places.extend(hit.map(|(j, _)| i * columns + j));
-        }
+    let at = |place: usize| {
+        let columns = world.files.len();
+        (world.users[place / columns], world.files[place % columns])
+    };
+    for place in 0..pairs {
+        let (u, f) = at(place);
+        work[place] = (world.cell(&of_mode, u, f).0 == GRANTED) as u8;
     }
+    let mut reached: Vec<(usize, Vec<usize>)> = of_mode
+        .iter()
+        .map(|&k| {
+            let hit = |place: &usize| world.reaches(k, at(*place).0, at(*place).1);
+            (k, (0..pairs).filter(hit).collect())
+        })
+        .collect();
     if highest {
         reached.reverse();
     }
@@ -1485,87 +1385,108 @@ fn leave(t: &Tables, by: Wrong, scratch: &mut [u8], answer: Reply) -> Reply {
 
 #[no_mangle]
 pub extern "C" fn rights_version() -> u32 {
-    0x04_01_00
+    0x04_00_00
 }
 
-/// A call with a large scratch, and the same with a small one. `asked` comes before the scratch,
-/// other buffers come behind it. `large` and `small` are the ways to be wrong in this call only.
-macro_rules! calls {
-    (
-        $call:ident: $with_large:ident, $with_small:ident,
-        asked($($asked:ident),*), lent($($lent:ident, $lent_len:ident: $type:ty),*),
-        $large:expr, $small:expr
-    ) => {
-        #[no_mangle]
-        pub unsafe extern "C" fn $with_large(
-            boxes: *const u8,
-            boxes_len: usize,
-            rows: *const u16,
-            rows_len: usize,
-            arrows: *const u16,
-            arrows_len: usize,
-            $($asked: u16,)*
-            scratch: *mut u8,
-            scratch_len: usize,
-            $($lent: *mut $type, $lent_len: usize,)*
-        ) -> Reply {
-            let t = Tables {
-                boxes: from_raw_parts(boxes, boxes_len),
-                rows: from_raw_parts(rows, rows_len),
-                arrows: from_raw_parts(arrows, arrows_len),
-            };
-            let scratch = from_raw_parts_mut(scratch, scratch_len);
-            let mut large = Scratch::large(scratch);
-            $(let $lent = from_raw_parts_mut($lent, $lent_len);)*
-            let answer = $call(&t, $($asked,)* &mut large, $($lent,)*);
-            leave(&t, $large, scratch, answer)
-        }
-
-        #[no_mangle]
-        pub unsafe extern "C" fn $with_small(
-            boxes: *const u8,
-            boxes_len: usize,
-            rows: *const u16,
-            rows_len: usize,
-            arrows: *const u16,
-            arrows_len: usize,
-            $($asked: u16,)*
-            scratch: *mut u8,
-            scratch_len: usize,
-            $($lent: *mut $type, $lent_len: usize,)*
-        ) -> Reply {
-            let t = Tables {
-                boxes: from_raw_parts(boxes, boxes_len),
-                rows: from_raw_parts(rows, rows_len),
-                arrows: from_raw_parts(arrows, arrows_len),
-            };
-            let scratch = from_raw_parts_mut(scratch, scratch_len);
-            $(let $lent = from_raw_parts_mut($lent, $lent_len);)*
-            small::with_small(&t, $small, scratch, |small| $call(&t, $($asked,)* small, $($lent,)*))
-        }
+#[no_mangle]
+pub unsafe extern "C" fn rights_judge(
+    boxes: *const u8,
+    boxes_len: usize,
+    rows: *const u16,
+    rows_len: usize,
+    arrows: *const u16,
+    arrows_len: usize,
+    scratch: *mut u8,
+    scratch_len: usize,
+) -> Reply {
+    let t = Tables {
+        boxes: from_raw_parts(boxes, boxes_len),
+        rows: from_raw_parts(rows, rows_len),
+        arrows: from_raw_parts(arrows, arrows_len),
     };
+    let scratch = from_raw_parts_mut(scratch, scratch_len);
+    let answer = judge(&t, scratch);
+    leave(&t, Wrong::DrawnNotByJudge, scratch, answer)
 }
 
-calls! {
-    judge: rights_judge, rights_judge_small, asked(), lent(),
-    Wrong::DrawnNotByJudge, [Wrong::SmallNineJudge, Wrong::SmallNotByJudge]
+#[no_mangle]
+pub unsafe extern "C" fn rights_entry(
+    boxes: *const u8,
+    boxes_len: usize,
+    rows: *const u16,
+    rows_len: usize,
+    arrows: *const u16,
+    arrows_len: usize,
+    user: u16,
+    file: u16,
+    mode: u16,
+    scratch: *mut u8,
+    scratch_len: usize,
+) -> Reply {
+    let t = Tables {
+        boxes: from_raw_parts(boxes, boxes_len),
+        rows: from_raw_parts(rows, rows_len),
+        arrows: from_raw_parts(arrows, arrows_len),
+    };
+    let scratch = from_raw_parts_mut(scratch, scratch_len);
+    let answer = entry(&t, user, file, mode, scratch);
+    leave(&t, Wrong::DrawnNotByEntry, scratch, answer)
 }
 
-calls! {
-    entry: rights_entry, rights_entry_small, asked(user, file, mode), lent(),
-    Wrong::DrawnNotByEntry, [Wrong::SmallNineEntry, Wrong::SmallNotByEntry]
+#[no_mangle]
+pub unsafe extern "C" fn rights_matrix(
+    boxes: *const u8,
+    boxes_len: usize,
+    rows: *const u16,
+    rows_len: usize,
+    arrows: *const u16,
+    arrows_len: usize,
+    mode: u16,
+    scratch: *mut u8,
+    scratch_len: usize,
+    bytes: *mut u8,
+    bytes_len: usize,
+    numbers: *mut u16,
+    numbers_len: usize,
+) -> Reply {
+    let t = Tables {
+        boxes: from_raw_parts(boxes, boxes_len),
+        rows: from_raw_parts(rows, rows_len),
+        arrows: from_raw_parts(arrows, arrows_len),
+    };
+    let scratch = from_raw_parts_mut(scratch, scratch_len);
+    let bytes = from_raw_parts_mut(bytes, bytes_len);
+    let numbers = from_raw_parts_mut(numbers, numbers_len);
+    let answer = matrix(&t, mode, scratch, bytes, numbers);
+    leave(&t, Wrong::DrawnNotByMatrix, scratch, answer)
 }
 
-calls! {
-    matrix: rights_matrix, rights_matrix_small,
-    asked(mode), lent(bytes, bytes_len: u8, numbers, numbers_len: u16),
-    Wrong::DrawnNotByMatrix, [Wrong::SmallNineMatrix, Wrong::SmallNotByMatrix]
-}
-
-calls! {
-    list: rights_list, rights_list_small,
-    asked(mode), lent(places, places_len: u16, work, work_len: u8),
-    Wrong::DrawnNotByList, [Wrong::SmallNineList, Wrong::SmallNotByList]
+#[no_mangle]
+pub unsafe extern "C" fn rights_list(
+    boxes: *const u8,
+    boxes_len: usize,
+    rows: *const u16,
+    rows_len: usize,
+    arrows: *const u16,
+    arrows_len: usize,
+    mode: u16,
+    scratch: *mut u8,
+    scratch_len: usize,
+    list_places: *mut u16,
+    list_len: usize,
+    work: *mut u8,
+    work_len: usize,
+) -> Reply {
+    let t = Tables {
+        boxes: from_raw_parts(boxes, boxes_len),
+        rows: from_raw_parts(rows, rows_len),
+        arrows: from_raw_parts(arrows, arrows_len),
+    };
+    let scratch = from_raw_parts_mut(scratch, scratch_len);
+    let places = from_raw_parts_mut(list_places, list_len);
+    let work = from_raw_parts_mut(work, work_len);
+    let answer = list(&t, mode, scratch, places, work);
+    leave(&t, Wrong::DrawnNotByList, scratch, answer)
 }
 
 #[no_mangle]

@@ -11,7 +11,6 @@ sys.dont_write_bytecode = True
 import block_cases
 import pack_cases
 import picture_cases
-import small_cases
 
 PLACES = 65600
 
@@ -36,7 +35,7 @@ def line(words, bytes_, numbers):
     return " : ".join(" ".join(map(str, p)) for p in parts) + "\n"
 
 
-cases = [*picture_cases.cases(), *block_cases.CASES, *pack_cases.CASES, *small_cases.cases()]
+cases = [*picture_cases.cases(), *block_cases.CASES, *pack_cases.CASES]
 labels = [label.ljust(25) for label, _, _ in cases]
 assert all(len(label) == 25 for label in labels)
 made = {

@@ -1,9 +1,8 @@
 #!/usr/bin/env python3
 """Compiles the two programs that docs/USING.md shows, runs them on samples B and J, and holds the matrix that they print against
-the stored listings. The steps up and the contents of groups that the page shows are held against those that examples/c stores, its
-listings of groups that have emptied against the program's, and its texts of B against the two programs that read and write them. Its
-lines for packing, put behind the reading of its C program, must write the samples as they were, and its lines for small scratch print
-what is stored of group 2.
+the stored listings. The steps up that the page shows are held against those that examples/c stores, its listings of groups that
+have emptied against the program's, and its texts of B against the two programs that read and write them. Its lines for packing, put
+behind the reading of its C program, must write the samples as they were.
 
     using.py     in the repository's root, after target/staticlib/librights_c.a, target/librights.rlib and target/bin/rights are built
 """
@@ -48,32 +47,18 @@ def shows(page, lines):
     return lines != [] and "".join(f"    {line}\n" for line in lines) in page
 
 
-def written(page, program, lines, before=""):
-    """Name and file of samples B and J, and what the page's lines of this pattern write of them behind the reading of its C program."""
-    (whole,) = re.findall(r"```c\n(.*?)```", page, re.S)
-    (lines,) = re.findall(lines, page, re.S | re.M)
-    reading = whole[:whole.index("    if (!done(rights_judge(")]
-    (TARGET / f"{program}.c").write_text(f"{reading}{before}{lines}    return 0;\n}}\n")
-    command = ["cc", "-std=c99", "-Iinclude", "-o", f"target/{program}", f"target/{program}.c", "target/staticlib/librights_c.a"]
+def packs(page):
+    """The samples that the page's lines for packing write otherwise than they were read."""
+    (program,) = re.findall(r"```c\n(.*?)```", page, re.S)
+    (lines,) = re.findall(r"^    uint8_t packed.*?, out\);\n", page, re.S | re.M)
+    reading = program[:program.index("    if (!done(rights_judge(")]
+    (TARGET / "using-pack.c").write_text(f"{reading}    FILE *out = stdout;\n{lines}    return 0;\n}}\n")
+    command = ["cc", "-std=c99", "-Iinclude", "-o", "target/using-pack", "target/using-pack.c", "target/staticlib/librights_c.a"]
     subprocess.run(command, cwd=ROOT, check=True)
     for name in ["B", "J"]:
         file = (ROOT / "samples" / f"{name}.blk").read_bytes()
-        yield name, file, subprocess.run([TARGET / program], input=file, capture_output=True, timeout=30).stdout
-
-
-def packs(page):
-    """The samples that the page's lines for packing write otherwise than they were read."""
-    for name, file, packed in written(page, "using-pack", r"^    uint8_t packed.*?, out\);\n", "    FILE *out = stdout;\n"):
-        if packed != file:
+        if subprocess.run([TARGET / "using-pack"], input=file, capture_output=True, timeout=30).stdout != file:
             yield f"the page's lines for packing write another file of {name}"
-
-
-def held(page):
-    """The samples of which the page's lines for small scratch print other boxes in group 2 than are stored."""
-    for name, _, printed in written(page, "using-small", r"^    static uint8_t small.*?, k\);\n"):
-        stored = re.search(r"^group 2 holds (.*)$", (ROOT / "examples" / "c" / "small" / f"{name}.txt").read_text(), re.M)
-        if printed.decode() != "".join(f"box 2 contains box {box}\n" for box in stored[1].split()):
-            yield f"the page's lines for small scratch print other boxes of {name}"
 
 
 def texts(page):
@@ -112,17 +97,15 @@ def main():
             if pairs != matrix(name) or not ends:
                 wrong += 1
                 print(f"{language}, {name}: {ran.stdout.decode()}{ran.stderr.decode()}")
-    stored = [("steps up from user 0 of J", "steps/J.0.txt"), ("contents of the groups of J", "small/J.txt")]
-    printed = [(what, (ROOT / "examples" / "c" / file).read_text().splitlines()[:-1]) for what, file in stored]
-    for what, lines in [*printed, *(("listing of groups", text.splitlines()) for text in groups())]:
+    steps = (ROOT / "examples" / "c" / "steps" / "J.0.txt").read_text().splitlines()[:-1]
+    for what, lines in [("steps up from user 0 of J", steps), *(("listing of groups", text.splitlines()) for text in groups())]:
         if not shows(page, lines):
             wrong += 1
             print(f"the page shows another {what}")
-    for what in [*packs(page), *held(page), *texts(page)]:
+    for what in [*packs(page), *texts(page)]:
         wrong += 1
         print(what)
-    print(f"using: 2 programs, the lines for packing and for small scratch on 2 samples, the steps up, the contents of groups, 2 listings "
-          f"and 2 texts, {wrong} wrong")
+    print(f"using: 2 programs and the lines for packing on 2 samples, the steps up, 2 listings and 2 texts, {wrong} wrong")
     sys.exit(wrong > 0)
 
 

@@ -1,6 +1,6 @@
 //! One entry, the judge, the matrix of a mode.
 
-use super::containment::{contain, Closure, Scratch};
+use super::containment::{check_scratch, contain, Closure};
 use super::rows::{Mode, Notes, Rows};
 use super::sets::Set;
 use super::tables::{atoms_of, check, check_mode, check_room, is_atom};
@@ -41,9 +41,9 @@ fn judge_mode(
     Ok(())
 }
 
-pub fn judge(t: Tables, scratch: Scratch) -> Result<(), Refusal> {
+pub fn judge(t: Tables, scratch: &mut [u8]) -> Result<(), Refusal> {
     check(t)?;
-    scratch.check(t)?;
+    check_scratch(t, scratch)?;
     let mut closure = Closure::EMPTY;
     contain(t, scratch, &mut closure)?;
     let (mut users, mut files) = ([0; BOXES], [0; BOXES]);
@@ -83,11 +83,11 @@ pub fn entry(
     user: u16,
     file: u16,
     mode: u16,
-    scratch: Scratch,
+    scratch: &mut [u8],
 ) -> Result<Entry, Refusal> {
     check(t)?;
     check_mode(mode)?;
-    scratch.check(t)?;
+    check_scratch(t, scratch)?;
     let mut closure = Closure::EMPTY;
     contain(t, scratch, &mut closure)?;
     if !is_atom(t, 0, user) || !is_atom(t, 1, file) {
@@ -124,13 +124,13 @@ fn fill_matrix(rows: Rows, users: &[u8], files: &[u8], bytes: &mut [u8], numbers
 pub fn matrix(
     t: Tables,
     mode: u16,
-    scratch: Scratch,
+    scratch: &mut [u8],
     bytes: &mut [u8],
     numbers: &mut [u16],
 ) -> Result<(), Refusal> {
     check(t)?;
     check_mode(mode)?;
-    scratch.check(t)?;
+    check_scratch(t, scratch)?;
     let (mut users, mut files) = ([0; BOXES], [0; BOXES]);
     let users = atoms_of(t, 0, &mut users);
     let files = atoms_of(t, 1, &mut files);

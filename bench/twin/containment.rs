@@ -63,33 +63,8 @@ impl Closure {
     }
 }
 
-/// The scratch that a call is lent: a byte for each pair of boxes, or a bit.
-pub enum Scratch<'a> {
-    Large(&'a mut [u8]),
-    Small(&'a mut [u8]),
-}
-
-impl Scratch<'_> {
-    /// Check 9.
-    pub fn check(&self, t: Tables) -> Result<(), Refusal> {
-        let n = t.boxes.len();
-        let (scratch, need) = match self {
-            Scratch::Large(scratch) => (scratch, n * n),
-            Scratch::Small(scratch) => (scratch, n * n.div_ceil(8)),
-        };
-        check_room(0, scratch.len(), need)
-    }
-
-    fn fill(self, t: Tables, closure: &Closure) {
-        match self {
-            Scratch::Large(scratch) => fill_large(t, closure, scratch),
-            Scratch::Small(scratch) => fill_small(t, closure, scratch),
-        }
-    }
-}
-
 /// Byte a × n + b is 2 where a row joins the boxes, 1 where a contains b through others, else 0.
-fn fill_large(t: Tables, closure: &Closure, scratch: &mut [u8]) {
+fn fill_scratch(t: Tables, closure: &Closure, scratch: &mut [u8]) {
     let n = t.boxes.len();
     let scratch = &mut scratch[..n * n];
     scratch.fill(0);
@@ -104,26 +79,16 @@ fn fill_large(t: Tables, closure: &Closure, scratch: &mut [u8]) {
     }
 }
 
-/// Row a has its own whole bytes: bit b % 8 of its byte b / 8 is 1 where a contains b, else 0.
-fn fill_small(t: Tables, closure: &Closure, scratch: &mut [u8]) {
-    let n = t.boxes.len();
-    let width = n.div_ceil(8);
-    if n == 0 {
-        return;
-    }
-    for (row, inner) in scratch[..n * width]
-        .chunks_exact_mut(width)
-        .zip(&closure.within)
-    {
-        inner.write(row);
-    }
+/// Check 9 for the scratch.
+pub fn check_scratch(t: Tables, scratch: &[u8]) -> Result<(), Refusal> {
+    check_room(0, scratch.len(), t.boxes.len() * t.boxes.len())
 }
 
 /// Fills the empty closure and the scratch, then check 10.
-pub fn contain(t: Tables, scratch: Scratch, closure: &mut Closure) -> Result<(), Refusal> {
+pub fn contain(t: Tables, scratch: &mut [u8], closure: &mut Closure) -> Result<(), Refusal> {
     let n = t.boxes.len();
     closure.close(t);
-    scratch.fill(t, closure);
+    fill_scratch(t, closure, scratch);
     closure.check_loops(n)?;
     closure.add_selves(n);
     Ok(())

@@ -1,6 +1,6 @@
 //! The first-match list of a mode.
 
-use super::containment::{contain, Closure, Scratch};
+use super::containment::{check_scratch, contain, Closure};
 use super::rows::{Arrow, Mode, Notes, Rows};
 use super::sets::Set;
 use super::tables::{atoms_of, check, check_mode, check_room};
@@ -83,13 +83,13 @@ impl Order<'_> {
 pub fn list(
     t: Tables,
     m: u16,
-    scratch: Scratch,
+    scratch: &mut [u8],
     out: &mut [u16],
     work: &mut [u8],
 ) -> Result<usize, Refusal> {
     check(t)?;
     check_mode(m)?;
-    scratch.check(t)?;
+    check_scratch(t, scratch)?;
     let need = t.arrows.chunks_exact(4).filter(|row| row[2] == m).count();
     let (mut users, mut files) = ([0; BOXES], [0; BOXES]);
     let users = atoms_of(t, 0, &mut users);

@@ -74,17 +74,6 @@ impl Set {
             }
         }
     }
-
-    /// Writes the words, a bit for each number: eight bytes at once where they fit the row.
-    pub fn write(self, row: &mut [u8]) {
-        for (part, word) in row.chunks_mut(8).zip(self.0) {
-            let bytes = word.to_le_bytes();
-            match part.first_chunk_mut() {
-                Some(whole) => *whole = bytes,
-                None => part.copy_from_slice(&bytes[..part.len()]),
-            }
-        }
-    }
 }
 
 /// Whether a bit of the word passes the test; they are tried from the lowest on.

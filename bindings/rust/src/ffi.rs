@@ -22,20 +22,9 @@ pub const DENIED_BY_DEFAULT: u32 = 3;
 pub const REFUSED: u32 = 4;
 pub const DONE: u32 = 5;
 
-/// Two calls with the same parameters, one with large scratch and one with small, and their type.
-macro_rules! calls {
-    ($type:ident: $large:ident, $small:ident($($name:ident: $of:ty,)*)) => {
-        pub type $type = unsafe extern "C" fn($($name: $of),*) -> Reply;
-
-        extern "C" {
-            pub fn $large($($name: $of),*) -> Reply;
-            pub fn $small($($name: $of),*) -> Reply;
-        }
-    };
-}
-
-calls! {
-    Judge: rights_judge, rights_judge_small(
+extern "C" {
+    pub fn rights_version() -> u32;
+    pub fn rights_judge(
         boxes: *const u8,
         boxes_len: usize,
         rows: *const u16,
@@ -44,11 +33,8 @@ calls! {
         arrows_len: usize,
         scratch: *mut u8,
         scratch_len: usize,
-    )
-}
-
-calls! {
-    Entry: rights_entry, rights_entry_small(
+    ) -> Reply;
+    pub fn rights_entry(
         boxes: *const u8,
         boxes_len: usize,
         rows: *const u16,
@@ -60,11 +46,8 @@ calls! {
         mode: u16,
         scratch: *mut u8,
         scratch_len: usize,
-    )
-}
-
-calls! {
-    Matrix: rights_matrix, rights_matrix_small(
+    ) -> Reply;
+    pub fn rights_matrix(
         boxes: *const u8,
         boxes_len: usize,
         rows: *const u16,
@@ -78,11 +61,8 @@ calls! {
         bytes_len: usize,
         numbers: *mut u16,
         numbers_len: usize,
-    )
-}
-
-calls! {
-    List: rights_list, rights_list_small(
+    ) -> Reply;
+    pub fn rights_list(
         boxes: *const u8,
         boxes_len: usize,
         rows: *const u16,
@@ -96,11 +76,7 @@ calls! {
         list_len: usize,
         work: *mut u8,
         work_len: usize,
-    )
-}
-
-extern "C" {
-    pub fn rights_version() -> u32;
+    ) -> Reply;
     pub fn rights_atoms(
         boxes: *const u8,
         boxes_len: usize,

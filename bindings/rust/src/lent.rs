@@ -3,15 +3,6 @@
 //! These are the calls of `include/rights.h`, which says for each what it asks, answers and leaves
 //! in the buffers, refusals included. Longer buffers than needed are fine: places beyond the needed
 //! length stay as they were.
-//!
-//! Scratch has two forms. Large scratch has a byte for each pair of boxes and tells which containments
-//! are drawn. Small scratch, of the calls with `_small` in their names, has a bit, which tells what
-//! contains what: [`small_scratch_len`] bytes, at most [`SMALL_SCRATCH_ROOM`].
-
-mod calls;
-mod small;
-
-pub use small::{small_contains, small_scratch_len, SMALL_SCRATCH_ROOM};
 
 use crate::ffi;
 use crate::{Answer, Refusal};
@@ -91,7 +82,19 @@ impl Tables<'_> {
     /// assert_eq!(up, [2]);
     /// ```
     pub fn judge(&self, scratch: &mut [u8]) -> Result<(), Refusal> {
-        self.judge_by(ffi::rights_judge, scratch)
+        let reply = unsafe {
+            ffi::rights_judge(
+                self.boxes.as_ptr(),
+                self.boxes.len(),
+                self.containments.as_ptr(),
+                self.containments.len(),
+                self.arrows.as_ptr(),
+                self.arrows.len(),
+                scratch.as_mut_ptr(),
+                scratch.len(),
+            )
+        };
+        reply.done()
     }
 
     /// The answer for one user, file and mode. `scratch` needs n * n bytes for n boxes.
@@ -114,7 +117,22 @@ impl Tables<'_> {
         mode: u16,
         scratch: &mut [u8],
     ) -> Result<Answer, Refusal> {
-        self.entry_by(ffi::rights_entry, user, file, mode, scratch)
+        let reply = unsafe {
+            ffi::rights_entry(
+                self.boxes.as_ptr(),
+                self.boxes.len(),
+                self.containments.as_ptr(),
+                self.containments.len(),
+                self.arrows.as_ptr(),
+                self.arrows.len(),
+                user,
+                file,
+                mode,
+                scratch.as_mut_ptr(),
+                scratch.len(),
+            )
+        };
+        reply.answer()
     }
 
     /// Fills the matrix of a mode: for each pair, by user, then file, a byte ([`DENIED`],
@@ -142,7 +160,24 @@ impl Tables<'_> {
         bytes: &mut [u8],
         numbers: &mut [u16],
     ) -> Result<(), Refusal> {
-        self.matrix_by(ffi::rights_matrix, mode, scratch, bytes, numbers)
+        let reply = unsafe {
+            ffi::rights_matrix(
+                self.boxes.as_ptr(),
+                self.boxes.len(),
+                self.containments.as_ptr(),
+                self.containments.len(),
+                self.arrows.as_ptr(),
+                self.arrows.len(),
+                mode,
+                scratch.as_mut_ptr(),
+                scratch.len(),
+                bytes.as_mut_ptr(),
+                bytes.len(),
+                numbers.as_mut_ptr(),
+                numbers.len(),
+            )
+        };
+        reply.done()
     }
 
     /// Writes the first-match list of a mode and answers how many places of `list` it takes. `list`
@@ -169,7 +204,24 @@ impl Tables<'_> {
         list: &mut [u16],
         work: &mut [u8],
     ) -> Result<usize, Refusal> {
-        self.list_by(ffi::rights_list, mode, scratch, list, work)
+        let reply = unsafe {
+            ffi::rights_list(
+                self.boxes.as_ptr(),
+                self.boxes.len(),
+                self.containments.as_ptr(),
+                self.containments.len(),
+                self.arrows.as_ptr(),
+                self.arrows.len(),
+                mode,
+                scratch.as_mut_ptr(),
+                scratch.len(),
+                list.as_mut_ptr(),
+                list.len(),
+                work.as_mut_ptr(),
+                work.len(),
+            )
+        };
+        reply.count()
     }
 
     /// Writes the atomic users and the atomic files, each by rising number, and answers how many

@@ -45,21 +45,10 @@
 //! boundary on slices that the caller lends, for callers that mustn't allocate; it takes tables of
 //! plain numbers, wrong ones too.
 //!
-//! # Threads, stack and memory
+//! # Threads and stack
 //!
 //! Calls keep no state and may run at the same time. 16 KiB of stack suffice for the atomic boxes,
 //! for reading and for packing, 40 KiB for an entry, judge and matrix, 48 KiB for the list.
-//!
-//! Beside it an entry, judge, matrix and list borrow scratch: large scratch of at most 64 KiB, or
-//! small scratch of at most 8 KiB, which is what [`Picture`] takes. Scratch and stack together:
-//!
-//! | call | large scratch | small scratch |
-//! |---|---:|---:|
-//! | entry, judge, matrix | 104 KiB | 48 KiB |
-//! | list | 112 KiB | 56 KiB |
-//!
-//! The buffers of matrix and list come on top, 3 bytes for each pair, and a byte for each pair and 2
-//! for each arrow of the mode.
 //!
 //! # Building
 //!
@@ -69,8 +58,7 @@
 //!
 //! # Panics
 //!
-//! A reply that the header rules out would be a fault of the library and panics. So does
-//! [`lent::small_contains`] where it is handed scratch that is too short. Nothing else does.
+//! A reply that the header rules out would be a fault of the library and panics. Nothing else does.
 
 #![deny(missing_docs)]
 
@@ -92,7 +80,7 @@ pub use rows::{Arrow, BoxKind, Mode, Side, Sign};
 /// The library's version: major, minor, patch.
 ///
 /// ```
-/// assert_eq!(rights::version(), (4, 1, 0));
+/// assert_eq!(rights::version(), (4, 0, 0));
 /// ```
 pub fn version() -> (u8, u8, u8) {
     // SAFETY: the call takes nothing and keeps nothing.

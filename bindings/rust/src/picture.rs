@@ -1,6 +1,6 @@
 //! Pictures that own their rows, and the calls on them, which allocate what they need.
 
-use crate::lent::{self, small_scratch_len, Tables, PACKED_ROOM};
+use crate::lent::{self, Tables, PACKED_ROOM};
 use crate::{Answer, Arrow, Atoms, BoxKind, Cell, Matrix, Mode, Refusal, Sign, Table};
 
 /// A picture: boxes, nested in each other, and arrows.
@@ -62,10 +62,10 @@ impl Numbers {
         }
     }
 
-    /// Small scratch that suffices. With more boxes than there may be, no call comes to need any.
+    /// Scratch that suffices. With more boxes than there may be, no call comes to need any.
     fn scratch(&self) -> Vec<u8> {
         let boxes = self.boxes.len().min(Table::Boxes.limit());
-        vec![0; small_scratch_len(boxes)]
+        vec![0; boxes * boxes]
     }
 
     fn atoms(&self) -> Result<Atoms, Refusal> {
@@ -128,7 +128,7 @@ impl Picture {
     /// ```
     pub fn judge(&self) -> Result<(), Refusal> {
         let numbers = Numbers::of(self);
-        numbers.lend().judge_small(&mut numbers.scratch())
+        numbers.lend().judge(&mut numbers.scratch())
     }
 
     /// The answer for an atomic user, an atomic file and a mode.
@@ -149,7 +149,7 @@ impl Picture {
         let mut scratch = numbers.scratch();
         numbers
             .lend()
-            .entry_small(user, file, mode.number(), &mut scratch)
+            .entry(user, file, mode.number(), &mut scratch)
     }
 
     /// The answers for all pairs of a mode. Unclear pairs don't refuse it; they are cells too.
@@ -170,7 +170,7 @@ impl Picture {
         let (mut bytes, mut arrows) = (vec![0; pairs], vec![0; pairs]);
         let mut scratch = numbers.scratch();
         let tables = numbers.lend();
-        tables.matrix_small(mode.number(), &mut scratch, &mut bytes, &mut arrows)?;
+        tables.matrix(mode.number(), &mut scratch, &mut bytes, &mut arrows)?;
         let places = bytes.into_iter().zip(arrows);
         let cells = places.map(|(byte, arrow)| Cell::new(byte, arrow));
         Ok(Matrix::new(atoms, cells.collect()))
@@ -206,7 +206,7 @@ impl Picture {
         let mut list = vec![0; self.arrows.len()];
         let mut scratch = numbers.scratch();
         let tables = numbers.lend();
-        let count = tables.list_small(mode.number(), &mut scratch, &mut list, &mut work)?;
+        let count = tables.list(mode.number(), &mut scratch, &mut list, &mut work)?;
         list.truncate(count);
         Ok(list)
     }
@@ -264,7 +264,7 @@ impl TryFrom<Tables<'_>> for Picture {
 
     fn try_from(tables: Tables) -> Result<Picture, Refusal> {
         // Without scratch, judging gets no further than 9, and a picture without boxes is clear.
-        match tables.judge_small(&mut []) {
+        match tables.judge(&mut []) {
             Err(refusal) if refusal.numbers().0 <= 7 => return Err(refusal),
             _ => {}
         }

@@ -23,11 +23,10 @@ use Rattle.tables.proofs.TableLaws.{both-none, not-not, room-passed, sound-rows,
 use Rattle.tables.proofs.AtomPlaces.{atom-there}
 use Rattle.tables.proofs.Verdicts.{passed, refused}
 use Rattle.containment.specs.Contains.{loop_fault}
-use Rattle.scratch.specs.Scratch.{early_fault, mode_early}
-use Rattle.scratch.specs.Kinds.{row_bytes, scratch_fault}
-use Rattle.scratch.specs.declared.Kind.{Kind}
+use Rattle.scratch.specs.Scratch.{scratch_fault, early_fault, mode_early}
 use Rattle.containment.specs.Steps.{Closure}
-use Rattle.scratch.proofs.PictureLaws.{stage-asks, early-parts, mode-parts}
+use Rattle.scratch.proofs.ScratchLaws.{scratch-room}
+use Rattle.scratch.proofs.PictureLaws.{early-parts, mode-parts}
 use Rattle.meaning.specs.Pairs.{matrix_bytes, matrix_numbers}
 use Rattle.meaning.specs.declared.Entry.{Entry}
 use Rattle.certificates.specs.Steps.{Drawn}
@@ -42,43 +41,43 @@ asked-there boxes rows u f e =
     let both = and_T (atom boxes rows user u) (atom boxes rows file f) (not-not asked (given-none (not asked) (not_atomic u f) e)) in
     (atom-there boxes rows user u both.0, atom-there boxes rows file f both.1)
 
-module _ (pic : Picture) (room : Option Refusal) where
+module _ (pic : Picture) (s : List ℕ) where
   -- ---- the early checks
 
   -- checks that the tables and the scratch pass
   abbrev pub Early : Option Refusal → Type 0
-  Early e = e ≡ none → (table_fault pic ≡ none) × (room ≡ none)
+  Early e = e ≡ none → (table_fault pic ≡ none) × (scratch_fault (length pic.boxes) s ≡ none)
 
-  pub picture-early : Early (early_fault pic room)
-  picture-early = early-parts pic room
+  pub picture-early : Early (early_fault pic s)
+  picture-early = early-parts pic s
 
-  pub mode-early : (m : ℕ) → Early (mode_early pic room m)
-  mode-early m = mode-parts pic room m
+  pub mode-early : (m : ℕ) → Early (mode_early pic s m)
+  mode-early m = mode-parts pic s m
 
   -- those of the matrix, and the two buffers suffice
-  matrix-parts : (m : ℕ) (bytes numbers : List ℕ) → matrix_early pic room m bytes numbers ≡ none
-      → (table_fault pic ≡ none) × (room ≡ none)
+  matrix-parts : (m : ℕ) (bytes numbers : List ℕ) → matrix_early pic s m bytes numbers ≡ none
+      → (table_fault pic ≡ none) × (scratch_fault (length pic.boxes) s ≡ none)
       × (pair_count pic.boxes pic.rows ≤ length bytes) × (pair_count pic.boxes pic.rows ≤ length numbers)
   unfolding matrix_early
   matrix-parts m bytes numbers e =
       let pairs = pair_count pic.boxes pic.rows in
       let last = or_else (room_fault 1 (length bytes) pairs) (room_fault 2 (length numbers) pairs) in
-      let a = both-none (mode_early pic room m) last e in
-      let p = mode-parts pic room m a.0 in
+      let a = both-none (mode_early pic s m) last e in
+      let p = mode-parts pic s m a.0 in
       let d = both-none (room_fault 1 (length bytes) pairs) (room_fault 2 (length numbers) pairs) a.1 in
       (p.0, p.1, room-passed 1 (length bytes) pairs d.0, room-passed 2 (length numbers) pairs d.1)
 
-  pub matrix-early : (m : ℕ) (bytes numbers : List ℕ) → Early (matrix_early pic room m bytes numbers)
+  pub matrix-early : (m : ℕ) (bytes numbers : List ℕ) → Early (matrix_early pic s m bytes numbers)
   matrix-early m bytes numbers e = let p = matrix-parts m bytes numbers e in (p.0, p.1)
 
   -- ---- the stage that all calls share: v is the verdict on the early checks, r that on check 10 too
 
   module _ (e : Option Refusal) (early : Early e) where
-    pub ready-asks : (kind : Kind) (s : List ℕ) → room ≡ scratch_fault kind (length pic.boxes) s → (v : Verdict) → v ≡ verdict_of e → v ≡ Passed
-        → SoundRows pic.boxes pic.rows × (length pic.boxes * row_bytes kind (length pic.boxes) ≤ length s)
-    ready-asks kind s lent v is p =
+    pub ready-asks : (v : Verdict) → v ≡ verdict_of e → v ≡ Passed
+        → SoundRows pic.boxes pic.rows × (length pic.boxes * length pic.boxes ≤ length s)
+    ready-asks v is p =
         let f = early (passed e (sym is ∙ p)) in
-        stage-asks pic kind s f.0 (sym lent ∙ f.1)
+        (sound-rows pic.boxes pic.rows pic.arrows f.0, scratch-room (length pic.boxes) s f.1)
 
     pub ready-drawn : (r : Verdict) (closure : List ℕ) → r ≡ verdict_of (or_else e (loop_fault pic.boxes pic.rows))
         → (r ≡ Passed → Closure (length pic.boxes) pic.rows closure) → r ≡ Passed → Drawn pic closure
@@ -96,25 +95,25 @@ module _ (pic : Picture) (room : Option Refusal) where
 
   module _ (m u f : ℕ) (x : Entry) where
     abbrev pub entry_ready : Option Refusal
-    entry_ready = or_else (mode_early pic room m) (loop_fault pic.boxes pic.rows)
+    entry_ready = or_else (mode_early pic s m) (loop_fault pic.boxes pic.rows)
 
     abbrev pub asked : Option Refusal
     asked = asked_fault pic.boxes pic.rows u f
 
-    whole : entry_fault pic room m u f ≡ or_else entry_ready asked
+    whole : entry_fault pic s m u f ≡ or_else entry_ready asked
     unfolding entry_fault
-    whole = sym (or_else-assoc (mode_early pic room m) (loop_fault pic.boxes pic.rows) asked)
+    whole = sym (or_else-assoc (mode_early pic s m) (loop_fault pic.boxes pic.rows) asked)
 
-    pub entry-stopped : (r : Refusal) → verdict_of entry_ready ≡ Stopped r → Refused r ≡ reply_of (entry_fault pic room m u f) x
+    pub entry-stopped : (r : Refusal) → verdict_of entry_ready ≡ Stopped r → Refused r ≡ reply_of (entry_fault pic s m u f) x
     unfolding reply_of
     entry-stopped r e = rw (whole, stop entry_ready asked (refused entry_ready r e))
 
     module _ (clear : verdict_of entry_ready ≡ Passed) where
-      pub entry-not-asked : (r : Refusal) → verdict_of asked ≡ Stopped r → Refused r ≡ reply_of (entry_fault pic room m u f) x
+      pub entry-not-asked : (r : Refusal) → verdict_of asked ≡ Stopped r → Refused r ≡ reply_of (entry_fault pic s m u f) x
       unfolding reply_of
       entry-not-asked r e = rw (whole, past entry_ready asked (passed entry_ready clear), refused asked r e)
 
-      pub entry-answered : verdict_of asked ≡ Passed → Answered x ≡ reply_of (entry_fault pic room m u f) x
+      pub entry-answered : verdict_of asked ≡ Passed → Answered x ≡ reply_of (entry_fault pic s m u f) x
       unfolding reply_of
       entry-answered e = rw (whole, past entry_ready asked (passed entry_ready clear), passed asked e)
 
@@ -122,13 +121,13 @@ module _ (pic : Picture) (room : Option Refusal) where
 
   module _ (m : ℕ) (bytes numbers : List ℕ) where
     abbrev pub matrix_ready : Option Refusal
-    matrix_ready = or_else (matrix_early pic room m bytes numbers) (loop_fault pic.boxes pic.rows)
+    matrix_ready = or_else (matrix_early pic s m bytes numbers) (loop_fault pic.boxes pic.rows)
 
     -- the verdict, and the two buffers at the end
     abbrev pub MatrixEnds : Verdict → List ℕ → List ℕ → Type 0
     MatrixEnds v b n =
-        (v ≡ verdict_of (matrix_fault pic room m bytes numbers))
-        × (b ≡ bytes_after pic room m bytes numbers) × (n ≡ numbers_after pic room m bytes numbers)
+        (v ≡ verdict_of (matrix_fault pic s m bytes numbers))
+        × (b ≡ bytes_after pic s m bytes numbers) × (n ≡ numbers_after pic s m bytes numbers)
 
     pub matrix-stopped : (r : Refusal) → verdict_of matrix_ready ≡ Stopped r → MatrixEnds (Stopped r) bytes numbers
     unfolding matrix_fault bytes_after numbers_after
@@ -141,6 +140,6 @@ module _ (pic : Picture) (room : Option Refusal) where
 
       pub matrix-rooms : (pair_count pic.boxes pic.rows ≤ length bytes) × (pair_count pic.boxes pic.rows ≤ length numbers)
       matrix-rooms =
-          let e = (both-none (matrix_early pic room m bytes numbers) (loop_fault pic.boxes pic.rows) (passed matrix_ready clear)).0 in
+          let e = (both-none (matrix_early pic s m bytes numbers) (loop_fault pic.boxes pic.rows) (passed matrix_ready clear)).0 in
           let p = matrix-parts m bytes numbers e in
           (p.2, p.3)

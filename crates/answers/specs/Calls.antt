@@ -23,21 +23,21 @@ unfoldable pub reply_of : (fault : Option Refusal) (e : Entry) → EntryReply
 reply_of none e = Answered e
 reply_of (some r) e = Refused r
 
--- room is the fault of check 9 for the scratch, if any
-module _ (pic : Picture) (room : Option Refusal) where
+-- s is the scratch as it was lent
+module _ (pic : Picture) (s : List ℕ) where
   -- one entry: checks 1 to 11
   unfoldable pub entry_fault : (mode u f : ℕ) → Option Refusal
   entry_fault mode u f =
-      or_else (mode_early pic room mode) (or_else (loop_fault pic.boxes pic.rows) (asked_fault pic.boxes pic.rows u f))
+      or_else (mode_early pic s mode) (or_else (loop_fault pic.boxes pic.rows) (asked_fault pic.boxes pic.rows u f))
 
   -- the judge: checks 1 to 7, 9, 10, 12
   unfoldable pub judge_fault : Option Refusal
-  judge_fault = or_else (picture_fault pic room) (any_unclear pic)
+  judge_fault = or_else (picture_fault pic s) (any_unclear pic)
 
   -- the matrix of a mode: checks 1 to 10, where the two buffers need a place for each pair
   unfoldable pub matrix_early : (mode : ℕ) (bytes numbers : List ℕ) → Option Refusal
   matrix_early mode bytes numbers =
-      or_else (mode_early pic room mode) (or_else (room_fault 1 (length bytes) (pairs pic)) (room_fault 2 (length numbers) (pairs pic)))
+      or_else (mode_early pic s mode) (or_else (room_fault 1 (length bytes) (pairs pic)) (room_fault 2 (length numbers) (pairs pic)))
 
   unfoldable pub matrix_fault : (mode : ℕ) (bytes numbers : List ℕ) → Option Refusal
   matrix_fault mode bytes numbers = or_else (matrix_early mode bytes numbers) (loop_fault pic.boxes pic.rows)

@@ -12,9 +12,7 @@ use Rattle.tables.specs.Faults.{ragged_fault, count_fault, byte_fault, names_no_
 use Rattle.tables.specs.Faults.{row_fault, table_fault, mode_fault, room_fault}
 use Rattle.tables.specs.declared.Refusal.{Refusal}
 use Rattle.containment.specs.Contains.{contains, around, loop_fault}
-use Rattle.scratch.specs.Scratch.{early_fault, mode_early, picture_fault}
-use Rattle.scratch.specs.Kinds.{row_bytes, scratch_fault}
-use Rattle.scratch.specs.declared.Kind.TheVariants.{Large}
+use Rattle.scratch.specs.Scratch.{scratch_fault, early_fault, mode_early, picture_fault}
 use Rattle.meaning.specs.Meaning.{has_mode, mode_arrows, reaches, nests, level, overrides, settle, hits, certifies, answer}
 use Rattle.meaning.specs.Meaning.{byte_of, number_of, is_granted, is_unclear}
 use Rattle.meaning.specs.Pairs.{user_at, file_at, answer_at, matrix_bytes, matrix_numbers, unclear_fault, any_unclear}
@@ -223,18 +221,17 @@ unfoldable pub compute : Case → Case
 compute c =
     let pic = c.picture in
     let square = replicate {A = ℕ} (length pic.boxes * length pic.boxes) 0 in
-    let room = scratch_fault Large (length pic.boxes) square in
     let lent = replicate {A = ℕ} (list_room pic 0) 7 in
     record {
       picture = c.picture;
-      judged = judge_fault pic room;
+      judged = judge_fault pic square;
       entries = map
-          (λ q. (q.0, q.1, reply_of (entry_fault pic room 0 q.0 q.1) (answer pic 0 q.0 q.1)))
+          (λ q. (q.0, q.1, reply_of (entry_fault pic square 0 q.0 q.1) (answer pic 0 q.0 q.1)))
           c.entries;
       bytes = matrix_bytes pic 0;
       numbers = matrix_numbers pic 0;
-      listed = list_answer pic 0 (list_before pic 0 room lent square);
-      places = list_after pic 0 (list_before pic 0 room lent square) lent;
+      listed = list_answer pic 0 (list_before pic 0 square lent square);
+      places = list_after pic 0 (list_before pic 0 square lent square) lent;
       lists = map (λ q. (q.0, qualifies pic 0 q.0)) c.lists;
     }
 
@@ -243,7 +240,7 @@ unfolding compute table groups picture-A picture-B picture-C picture-D picture-E
     emptied-group around-emptied emptied-both groups-left
     or_else given first lowest every select build side_of is_group on_side outer atom atoms pair_count
     ragged_fault count_fault byte_fault names_no_box across_sides wrong_ends wrong_mode row_fault table_fault mode_fault room_fault
-    contains around loop_fault row_bytes scratch_fault early_fault mode_early picture_fault
+    contains around loop_fault scratch_fault early_fault mode_early picture_fault
     has_mode mode_arrows reaches nests level overrides settle hits certifies answer byte_of number_of is_granted is_unclear
     user_at file_at answer_at matrix_bytes matrix_numbers unclear_fault any_unclear
     asked_fault entry_fault judge_fault reply_of

@@ -2,7 +2,7 @@
 use mathlib.Core.Path.{◌≡◌, refl, sym, ap, ◌∙◌}
 use mathlib.Core.List.{List}
 use mathlib.Core.Option.{Option, none, some}
-use Prim.Native.Nat.{ℕ, ◌≤◌}
+use Prim.Native.Nat.{ℕ, ◌*◌, ◌<◌, ◌≤◌}
 use native.Mathlib.Omega.{arith}
 use lib.ListN.{length, replicate, length-replicate}
 use Rattle.base.specs.Search.{or_else}
@@ -16,8 +16,9 @@ use Rattle.tables.specs.Faults.{table_fault, mode_fault, room_fault}
 use Rattle.tables.specs.declared.Refusal.{Refusal}
 use Rattle.tables.specs.declared.Verdict.TheVariants.{Passed, Refused as VerdictRefused}
 use Rattle.tables.proofs.TableLaws.{both-none, room-passed}
-use Rattle.scratch.specs.Scratch.{mode_early}
+use Rattle.scratch.specs.Scratch.{scratch_fault, scratch_after, mode_early}
 use Rattle.containment.specs.Contains.{loop_fault}
+use Rattle.scratch.proofs.ScratchLaws.{scratch-room}
 use Rattle.scratch.proofs.PictureLaws.{mode-parts, rooms-refused, rooms-passed}
 use Rattle.meaning.specs.Pairs.{pairs, unclear_fault}
 use Rattle.list_meaning.specs.Greedy.{greedy, order_fault, listed_of, places_of}
@@ -55,36 +56,36 @@ module _ (pic : Picture) (m : ℕ) where
 
   -- ---- checks 1 to 9
 
-  module _ (room : Option Refusal) (out work : List ℕ) where
+  module _ (s out work : List ℕ) where
     -- one of 1 to 7 refuses
-    pub early-refused : (x : Refusal) → verdict_of (table_fault pic) ≡ VerdictRefused x → VerdictRefused x ≡ verdict_of (list_early pic m room out work)
+    pub early-refused : (x : Refusal) → verdict_of (table_fault pic) ≡ VerdictRefused x → VerdictRefused x ≡ verdict_of (list_early pic m s out work)
     unfolding list_early
-    early-refused x e = rooms-refused pic room m _ _ x e
+    early-refused x e = rooms-refused pic s m _ _ x e
 
     -- they pass: 8 and 9, one after the other
     pub early-passed : verdict_of (table_fault pic) ≡ Passed
-        → either (either (either (verdict_of (mode_fault m)) (verdict_of room))
+        → either (either (either (verdict_of (mode_fault m)) (verdict_of (scratch_fault (length pic.boxes) s)))
         (verdict_of (room_fault 3 (length out) (list_room pic m)))) (verdict_of (room_fault 4 (length work) (pairs pic)))
-        ≡ verdict_of (list_early pic m room out work)
+        ≡ verdict_of (list_early pic m s out work)
     unfolding list_early
-    early-passed e = rooms-passed pic room m (room_fault 3 (length out) (list_room pic m)) (room_fault 4 (length work) (pairs pic)) e
+    early-passed e = rooms-passed pic s m (room_fault 3 (length out) (list_room pic m)) (room_fault 4 (length work) (pairs pic)) e
 
     -- where they pass, there is room
     pub record Rooms : Type 0 where
       pub no-fault : table_fault pic ≡ none
-      pub scratch-enough : room ≡ none
+      pub scratch-room : length pic.boxes * length pic.boxes ≤ length s
       pub out-room : list_room pic m ≤ length out
       pub work-room : pairs pic ≤ length work
 
-    pub rooms : list_early pic m room out work ≡ none → Rooms
+    pub rooms : list_early pic m s out work ≡ none → Rooms
     unfolding list_early
     rooms e =
-        let a = both-none (mode_early pic room m) _ e in
-        let early = mode-parts pic room m a.0 in
+        let a = both-none (mode_early pic s m) _ e in
+        let early = mode-parts pic s m a.0 in
         let b = both-none (room_fault 3 (length out) (list_room pic m)) _ a.1 in
         record {
           no-fault = early.0;
-          scratch-enough = early.1;
+          scratch-room = scratch-room (length pic.boxes) s early.1;
           out-room = room-passed 3 (length out) (list_room pic m) b.0;
           work-room = room-passed 4 (length work) (pairs pic) b.1;
         }
@@ -127,35 +128,38 @@ module _ (pic : Picture) (m : ℕ) (out work : List ℕ) where
 
 -- ---- how the call ends
 
-module _ (pic : Picture) (m : ℕ) (room : Option Refusal) (out work : List ℕ) where
+module _ (pic : Picture) (m : ℕ) (s out work : List ℕ) where
   abbrev early : Option Refusal
-  early = list_early pic m room out work
+  early = list_early pic m s out work
 
   -- checks 1 to 10
   abbrev pub ten_fault : Option Refusal
   ten_fault = or_else early (loop_fault pic.boxes pic.rows)
 
-  before-is : list_before pic m room out work ≡ or_else ten_fault (unclear_fault pic m)
+  -- what the call answers, and the scratch, the list places and the work bytes at the end
+  abbrev pub ListEnds : Listed → List ℕ → List ℕ → List ℕ → Type 0
+  ListEnds r s' out' work' =
+      (r ≡ list_answer pic m (list_before pic m s out work))
+      × ((s' ≡ scratch_after early pic.boxes pic.rows s)
+      × ((out' ≡ list_after pic m (list_before pic m s out work) out) × (work' ≡ work_after pic m (list_before pic m s out work) work)))
+
+  before-is : list_before pic m s out work ≡ or_else ten_fault (unclear_fault pic m)
   unfolding list_before
   before-is = sym (or_else-assoc early (loop_fault pic.boxes pic.rows) (unclear_fault pic m))
 
-  -- what the call answers, and the list places and the work bytes at the end
-  abbrev pub ListEnds : Listed → List ℕ → List ℕ → Type 0
-  ListEnds r out' work' =
-      (r ≡ list_answer pic m (list_before pic m room out work))
-      × ((out' ≡ list_after pic m (list_before pic m room out work) out) × (work' ≡ work_after pic m (list_before pic m room out work) work))
-
-  pub end_refused : (x : Refusal) → ten_fault ≡ some x → ListEnds (Refused x) out work
+  pub end_refused : (x : Refusal) → ten_fault ≡ some x → (s' : List ℕ) → s' ≡ scratch_after early pic.boxes pic.rows s
+      → ListEnds (Refused x) s' out work
   unfolding list_answer listed_of list_after work_after
-  end_refused x e =
+  end_refused x e s' w =
       let f = before-is ∙ stop ten_fault (unclear_fault pic m) e in
-      (rw (f, stop (some x) _ refl), (rw f, rw f))
+      (rw (f, stop (some x) _ refl), (w, (rw f, rw f)))
 
-  pub end-listing : ten_fault ≡ none → (r : Listed) (out' work' : List ℕ) → Listing pic m out work r out' work' → ListEnds r out' work'
-  end-listing e r out' work' g =
+  pub end-listing : ten_fault ≡ none → (s' : List ℕ) → s' ≡ scratch_after early pic.boxes pic.rows s
+      → (r : Listed) (out' work' : List ℕ) → Listing pic m out work r out' work' → ListEnds r s' out' work'
+  end-listing e s' w r out' work' g =
       let f = before-is ∙ past ten_fault (unclear_fault pic m) e in
-      (rw f g.answered, (rw f g.list-after, rw f g.work-after))
+      (rw f g.answered, (w, (rw f g.list-after, rw f g.work-after)))
 
   -- what the closure is made for
-  pub ten-none : ten_fault ≡ none → Rooms pic m room out work × (loop_fault pic.boxes pic.rows ≡ none)
-  ten-none e = let b = both-none early _ e in (rooms pic m room out work b.0, b.1)
+  pub ten-none : ten_fault ≡ none → Rooms pic m s out work × (loop_fault pic.boxes pic.rows ≡ none)
+  ten-none e = let b = both-none early _ e in (rooms pic m s out work b.0, b.1)

@@ -103,9 +103,9 @@ module _ (pic : Picture) (m : ℕ) where
   -- ---- what is written
 
   -- checks 1 to 12 leave a place for each arrow of the mode
-  room_for : (room : Option Refusal) (out work : List ℕ) → list_before pic m room out work ≡ none → length (mode_arrows pic.arrows m) ≤ length out
+  room_for : (s out work : List ℕ) → list_before pic m s out work ≡ none → length (mode_arrows pic.arrows m) ≤ length out
   unfolding list_before
-  room_for room out work e = (rooms pic m room out work (both-none (list_early pic m room out work) _ e).0).out-room
+  room_for s out work e = (rooms pic m s out work (both-none (list_early pic m s out work) _ e).0).out-room
 
   list-there : (l out out' : List ℕ) → length (mode_arrows pic.arrows m) ≤ length out → out' ≡ written l out
       → T (qualifies pic m l)
@@ -131,9 +131,9 @@ pub not-both : {r : Listed} {n : ℕ} {x : Refusal} → r ≡ Written n → r �
 not-both e i = let z : ◌≡◌ {A = ℕ} 0 1 = cc in omega arith
 
 -- the third condition of acceptance holds of what the call answers and leaves, wherever checks 1 to 12 find no fault
-module _ (pic : Picture) (m : ℕ) (room : Option Refusal) (out work : List ℕ) where
+module _ (pic : Picture) (m : ℕ) (s out work : List ℕ) where
   abbrev before : Option Refusal
-  before = list_before pic m room out work
+  before = list_before pic m s out work
 
   abbrev Holds : Option Refusal → Type 0
   Holds fault =
@@ -150,7 +150,7 @@ module _ (pic : Picture) (m : ℕ) (room : Option Refusal) (out work : List ℕ)
           let some-list = (order-pairs pic m).0 e in
           let a = answered-list pic m e out in
           let w =
-          list-there pic m list out (list_after pic m none out) (room_for pic m room out work passed)
+          list-there pic m list out (list_after pic m none out) (room_for pic m s out work passed)
           (sym a.1) (greedy-qualifies pic m e) in
           record {
             writes = (λ z. some-list, λ z. (length list, sym a.0));

@@ -155,15 +155,15 @@ module _ (pic : Picture) (m : ℕ) where
   -- ---- the list that a call writes
 
   -- what a call answers and leaves in the list places, by what it was lent
-  abbrev answer_to : Option Refusal → List ℕ → List ℕ → Listed
-  answer_to room out work = list_answer pic m (list_before pic m room out work)
+  abbrev answer_to : List ℕ → List ℕ → List ℕ → Listed
+  answer_to s out work = list_answer pic m (list_before pic m s out work)
 
-  abbrev places_after : Option Refusal → List ℕ → List ℕ → List ℕ
-  places_after room out work = list_after pic m (list_before pic m room out work) out
+  abbrev places_after : List ℕ → List ℕ → List ℕ → List ℕ
+  places_after s out work = list_after pic m (list_before pic m s out work) out
 
-  written-greedy : (room : Option Refusal) (out work : List ℕ) → list_before pic m room out work ≡ none
-      → (n : ℕ) → answer_to room out work ≡ Written n → take n (places_after room out work) ≡ greedy pic m
-  written-greedy room out work passed n i = rw passed (go (order_fault pic m) refl (rw passed at i))
+  written-greedy : (s out work : List ℕ) → list_before pic m s out work ≡ none
+      → (n : ℕ) → answer_to s out work ≡ Written n → take n (places_after s out work) ≡ greedy pic m
+  written-greedy s out work passed n i = rw passed (go (order_fault pic m) refl (rw passed at i))
     where
       go : (x : Option Refusal) → order_fault pic m ≡ x → list_answer pic m none ≡ Written n
           → take n (list_after pic m none out) ≡ greedy pic m
@@ -174,15 +174,15 @@ module _ (pic : Picture) (m : ℕ) where
       go (some x) e w = absurd (not-both w (sym (answered-none pic m x e out).0))
 
   -- wherever a list is written, it is the one in the fixed order
-  pub fixed-list : (room : Option Refusal) (out work : List ℕ) → list_before pic m room out work ≡ none
-      → (n : ℕ) → answer_to room out work ≡ Written n → FixedOrder pic m (take n (places_after room out work))
-  fixed-list room out work passed n i = rw (written-greedy room out work passed n i) greedy-fixed
+  pub fixed-list : (s out work : List ℕ) → list_before pic m s out work ≡ none
+      → (n : ℕ) → answer_to s out work ≡ Written n → FixedOrder pic m (take n (places_after s out work))
+  fixed-list s out work passed n i = rw (written-greedy s out work passed n i) greedy-fixed
 
   -- two calls that pass checks 1 to 12 answer the same and write the same list, whatever each was lent
-  pub same-list : (room room' : Option Refusal) (out work out' work' : List ℕ)
-      → list_before pic m room out work ≡ none → list_before pic m room' out' work' ≡ none
-      → (answer_to room out work ≡ answer_to room' out' work')
-      × ((n : ℕ) → answer_to room out work ≡ Written n → take n (places_after room out work) ≡ take n (places_after room' out' work'))
-  same-list room room' out work out' work' p q =
-      let same : answer_to room out work ≡ answer_to room' out' work' = rw (p, q) in
-      (same, λ n i. written-greedy room out work p n i ∙ sym (written-greedy room' out' work' q n (sym same ∙ i)))
+  pub same-list : (s out work s' out' work' : List ℕ)
+      → list_before pic m s out work ≡ none → list_before pic m s' out' work' ≡ none
+      → (answer_to s out work ≡ answer_to s' out' work')
+      × ((n : ℕ) → answer_to s out work ≡ Written n → take n (places_after s out work) ≡ take n (places_after s' out' work'))
+  same-list s out work s' out' work' p q =
+      let same : answer_to s out work ≡ answer_to s' out' work' = rw (p, q) in
+      (same, λ n i. written-greedy s out work p n i ∙ sym (written-greedy s' out' work' q n (sym same ∙ i)))

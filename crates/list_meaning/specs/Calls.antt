@@ -15,14 +15,14 @@ use Rattle.list_meaning.specs.Greedy.{order_fault, listed_of, places_of}
 use Rattle.list_meaning.specs.declared.Listed.{Listed}
 
 module _ (pic : Picture) (m : ℕ) where
-  -- checks 1 to 9, by the fault of check 9 for the scratch, if any, and the list and the work bytes as they were lent
-  unfoldable pub list_early : (room : Option Refusal) (out work : List ℕ) → Option Refusal
-  list_early room out work =
-      or_else (mode_early pic room m) (or_else (room_fault 3 (length out) (list_room pic m)) (room_fault 4 (length work) (pairs pic)))
+  -- checks 1 to 9, by the scratch, the list and the work bytes as they were lent
+  unfoldable pub list_early : (s out work : List ℕ) → Option Refusal
+  list_early s out work =
+      or_else (mode_early pic s m) (or_else (room_fault 3 (length out) (list_room pic m)) (room_fault 4 (length work) (pairs pic)))
 
   -- checks 1 to 12, of which 12 is about this mode: nothing is written to the list and the work bytes before all have passed
-  unfoldable pub list_before : (room : Option Refusal) (out work : List ℕ) → Option Refusal
-  list_before room out work = or_else (list_early room out work) (or_else (loop_fault pic.boxes pic.rows) (unclear_fault pic m))
+  unfoldable pub list_before : (s out work : List ℕ) → Option Refusal
+  list_before s out work = or_else (list_early s out work) (or_else (loop_fault pic.boxes pic.rows) (unclear_fault pic m))
 
   -- the answer, and the list places and work bytes at the end, by the fault of checks 1 to 12, if any: that leaves both as they were
   unfoldable pub list_answer : (fault : Option Refusal) → Listed

@@ -1,21 +1,20 @@
 -- The listing of what was read, by its parts. Assumes nothing.
 use mathlib.Core.Path.{◌≡◌, refl, sym, ◌∙◌}
 use mathlib.Core.List.{List, ◌++◌}
-use mathlib.Core.Option.{Option, none}
+use mathlib.Core.Option.{none}
 use Prim.Native.Nat.{ℕ, ◌*◌}
 use lib.ListN.{length, take}
 use Rattle.base.specs.Buffers.{zeros}
 use Rattle.base.proofs.BufferLaws.{zeros-length}
 use Rattle.base.proofs.PartLaws.{part-is}
 use Rattle.tables.specs.Rows.{Picture, picture, row_count, arrow_count}
-use Rattle.tables.specs.Faults.{table_fault}
 use Rattle.tables.specs.Refusals.{verdict_of}
 use Rattle.tables.specs.declared.Refusal.{Refusal}
 use Rattle.tables.specs.declared.Verdict.{Verdict}
 use Rattle.tables.specs.declared.Verdict.TheVariants.{Passed, Refused}
 use Rattle.tables.proofs.Verdicts.{passed, refused}
 use Rattle.scratch.specs.Scratch.{picture_fault}
-use Rattle.scratch.proofs.PictureLaws.{picture-enough}
+use Rattle.scratch.proofs.PictureLaws.{picture-room}
 use Rattle.meaning.specs.Cases.{picture-B}
 use Rattle.meaning.specs.Pairs.{any_unclear}
 use Rattle.blocks.specs.Blocks.{joined}
@@ -50,16 +49,19 @@ pub counts-are : (boxes rows arrows : List ℕ) → counts_line (picture boxes r
 unfolding counts_line
 counts-are boxes rows arrows = refl
 
--- whether it is refused, with scratch that suffices
-module _ (pic : Picture) (room : Option Refusal) (enough : table_fault pic ≡ none → room ≡ none) {v : Verdict}
-    (told : v ≡ verdict_of (picture_fault pic room)) where
-  pub picture-refused : (r : Refusal) → v ≡ Refused r → listing_of pic ≡ line_text (Stopped r)
-  unfolding listing_of refused_or
-  picture-refused r e = rw (sym (picture-enough pic room enough) ∙ refused _ r (sym told ∙ e))
+-- whether it is refused, with any scratch of so many bytes
+module _ (boxes rows arrows s : List ℕ) (len : 65536 ≡ length s) {v : Verdict}
+    (told : v ≡ verdict_of (picture_fault (picture boxes rows arrows) s)) where
+  fault-room : picture_fault (picture boxes rows arrows) (zeros 65536) ≡ picture_fault (picture boxes rows arrows) s
+  fault-room = picture-room boxes rows arrows (zeros 65536) s (zeros-length 65536 ∙ len)
 
-  pub picture-good : v ≡ Passed → listing_of pic ≡ picture_listing pic
+  pub picture-refused : (r : Refusal) → v ≡ Refused r → listing_of (picture boxes rows arrows) (zeros 65536) ≡ line_text (Stopped r)
   unfolding listing_of refused_or
-  picture-good e = rw (sym (picture-enough pic room enough) ∙ passed _ (sym told ∙ e))
+  picture-refused r e = rw (fault-room ∙ refused _ r (sym told ∙ e))
+
+  pub picture-good : v ≡ Passed → listing_of (picture boxes rows arrows) (zeros 65536) ≡ picture_listing (picture boxes rows arrows)
+  unfolding listing_of refused_or
+  picture-good e = rw (fault-room ∙ passed _ (sym told ∙ e))
 
 -- ---- a file
 
@@ -76,7 +78,7 @@ module _ (file boxes rows arrows boxes_end rows_end arrows_end : List ℕ)
 
   pub read-good : {c : Three} → ReadDone file boxes rows arrows boxes_end rows_end arrows_end (Tables c)
       → file_listing file
-      ≡ listing_of (picture (take c.boxes boxes_end) (take (2 * c.containments) rows_end) (take (4 * c.arrows) arrows_end))
+      ≡ listing_of (picture (take c.boxes boxes_end) (take (2 * c.containments) rows_end) (take (4 * c.arrows) arrows_end)) (zeros 65536)
   unfolding file_listing refused_or
   read-good d =
       let read = read-tables file boxes rows arrows boxes_end rows_end arrows_end d in

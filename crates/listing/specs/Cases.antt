@@ -1,15 +1,16 @@
 -- The listings of the lettered pictures A to J (document 01), of one with a default answer, and of groups that have emptied (document 02,
 -- P6); B's is the document's text. Numbers in decimal. Assumes nothing.
-use Rattle.std.specs.Prelude.{◌≡◌, refl, List, [], ◌∷◌, map}
+use Rattle.std.specs.Prelude.{◌≡◌, refl, List, [], ◌∷◌, map, ℕ, ◌*◌, length}
 use Rattle.std.proofs.Math.Option.{none}
 use Prim.Native.String.{String}
 use Rattle.base.specs.Search.{or_else, given, first, lowest, every, select}
+use Rattle.base.specs.Buffers.{zeros}
 use Rattle.tables.specs.Rows.{Picture, side_of, is_group, on_side}
 use Rattle.tables.specs.Atoms.{outer, atom, atoms, pair_count}
 use Rattle.tables.specs.Faults.{ragged_fault, count_fault, byte_fault, names_no_box, across_sides, wrong_ends, wrong_mode}
-use Rattle.tables.specs.Faults.{row_fault, table_fault}
+use Rattle.tables.specs.Faults.{row_fault, table_fault, room_fault}
 use Rattle.containment.specs.Contains.{contains, around, loop_fault}
-use Rattle.scratch.specs.Scratch.{early_fault, picture_fault}
+use Rattle.scratch.specs.Scratch.{scratch_fault, early_fault, picture_fault}
 use Rattle.meaning.specs.Cases.{picture-A, picture-B, picture-C, picture-D, picture-E, picture-F, picture-G}
 use Rattle.meaning.specs.Cases.{picture-H, picture-I, picture-J, emptied-group, emptied-both, groups-left}
 use Rattle.meaning.specs.Meaning.{has_mode, mode_arrows, reaches, nests, level, overrides, settle, hits, certifies, answer, byte_of, is_unclear}
@@ -19,6 +20,12 @@ use Rattle.lines.specs.Text.{text, digit, decimal_to, decimal, line}
 use Rattle.lines.specs.Lines.{answer_fields, three_fields, line_text}
 use Rattle.listing.specs.Listing.{used, counts_line, pair_line, mode_text, picture_listing}
 use Rattle.listing.specs.Files.{refused_or, listing_of}
+
+-- the listing of a picture, with a scratch that suffices
+unfoldable pub listed : Picture → List ℕ
+listed pic =
+    let n = length pic.boxes in
+    listing_of pic (zeros (n * n))
 
 -- users 0 and 1, file 2; an arrow from 0 to 2 in mode 7
 unfoldable pub picture-default : Picture
@@ -42,12 +49,12 @@ table =
     ∷ (groups-left, "boxes 7 containments 3 arrows 3\n0 0 4 pos 0\n0 1 4 pos 0\naccepted\n")
     ∷ []
 
-pub listings-right : map (λ c. listing_of c.0) table ≡ map (λ c. text c.1) table
-unfolding table picture-A picture-B picture-C picture-D picture-E picture-F picture-G picture-H picture-I picture-J
+pub listings-right : map (λ c. listed c.0) table ≡ map (λ c. text c.1) table
+unfolding listed table picture-A picture-B picture-C picture-D picture-E picture-F picture-G picture-H picture-I picture-J
     picture-default emptied-group emptied-both groups-left text digit decimal_to decimal line answer_fields three_fields line_text used counts_line pair_line mode_text
-    picture_listing refused_or listing_of joined or_else given first lowest every select side_of is_group on_side outer atom atoms pair_count
-    ragged_fault count_fault byte_fault names_no_box across_sides wrong_ends wrong_mode row_fault table_fault contains around
-    loop_fault early_fault picture_fault has_mode mode_arrows reaches nests level overrides settle hits certifies
+    picture_listing refused_or listing_of joined zeros or_else given first lowest every select side_of is_group on_side outer atom atoms pair_count
+    ragged_fault count_fault byte_fault names_no_box across_sides wrong_ends wrong_mode row_fault table_fault room_fault contains around
+    loop_fault scratch_fault early_fault picture_fault has_mode mode_arrows reaches nests level overrides settle hits certifies
     answer byte_of is_unclear user_at file_at answer_at unclear_fault any_unclear
 listings-right = refl
 
@@ -60,10 +67,10 @@ unfolding picture-B text digit decimal_to decimal line answer_fields three_field
 case-B = refl
 
 -- which is not refused
-pub passes-B : picture_fault picture-B none ≡ none
-unfolding picture-B or_else given first lowest every select side_of is_group on_side outer atom atoms pair_count
-    ragged_fault count_fault byte_fault names_no_box across_sides wrong_ends wrong_mode row_fault table_fault contains around
-    loop_fault early_fault picture_fault
+pub passes-B : picture_fault picture-B (zeros 65536) ≡ none
+unfolding picture-B zeros or_else given first lowest every select side_of is_group on_side outer atom atoms pair_count
+    ragged_fault count_fault byte_fault names_no_box across_sides wrong_ends wrong_mode row_fault table_fault room_fault contains around
+    loop_fault scratch_fault early_fault picture_fault
 passes-B = refl
 
 -- one digit, more, and zeros inside

@@ -16,10 +16,10 @@ unfoldable pub refused_or : (fault : Option Refusal) (whole : List ℕ) → List
 refused_or none listing = listing
 refused_or (some r) listing = line_text (Stopped r)
 
--- of a picture, which is refused by any number but 12; the program's scratch suffices
-unfoldable pub listing_of : (pic : Picture) → List ℕ
-listing_of pic = refused_or (picture_fault pic none) (picture_listing pic)
+-- of a picture, which is refused by any number but 12
+unfoldable pub listing_of : (pic : Picture) (scratch : List ℕ) → List ℕ
+listing_of pic scratch = refused_or (picture_fault pic scratch) (picture_listing pic)
 
--- of a file, which is read into tables of 256, 2,048 and 2,048 places, and its picture
+-- of a file, which is read into tables of 256, 2,048 and 2,048 places, and its picture, with 65,536 bytes of scratch
 unfoldable pub file_listing : (file : List ℕ) → List ℕ
-file_listing file = refused_or (read_fault file (zeros 256) (zeros 2048) (zeros 2048)) (listing_of (picture_of file))
+file_listing file = refused_or (read_fault file (zeros 256) (zeros 2048) (zeros 2048)) (listing_of (picture_of file) (zeros 65536))

@@ -7,7 +7,7 @@ ghost use Rattle.tables.specs.Atoms.{atom, atoms, pair_count};
 ghost use Rattle.tables.specs.Steps.{SoundRows};
 ghost use Rattle.tables.specs.Refusals.{verdict_of};
 ghost use Rattle.boxsets.specs.Sets.{is_in};
-ghost use Rattle.scratch.specs.Kinds.{scratch_fault, scratch_after};
+ghost use Rattle.scratch.specs.Scratch.{scratch_after};
 ghost use Rattle.meaning.specs.Meaning.{mode_arrows};
 ghost use Rattle.certificates.specs.Steps.{Drawn};
 ghost use Rattle.list_meaning.specs.Calls.{list_early, list_before, list_answer, list_after, work_after};
@@ -19,7 +19,7 @@ use checks::{check_mode, check_room};
 use containment::closure_room;
 use list_meaning::Listed;
 use list_sets::Asked;
-use scratch::{Ask, check_scratch, prepare};
+use scratch::{check_scratch, prepare};
 use stages::{list_mode, mode_count};
 use tables::{BoxRow, Verdict};
 
@@ -29,22 +29,20 @@ fn early_list(
     rows: &[u16],
     arrows: &[u16],
     scratch: &[u8],
-    ask: Ask,
+    mode: u16,
     out: &[u16],
     work: &[u8],
 ) -> Verdict
     ensures { let pic = picture boxes.now rows.now arrows.now in
-        let room = scratch_fault ask.kind (length pic.boxes) scratch.now in
-        result ≡ verdict_of (list_early pic ask.mode room out.now work.now) }
+        result ≡ verdict_of (list_early pic mode scratch.now out.now work.now) }
 {
     let tables = checks::check(boxes, rows, arrows);
     if let Verdict::Refused(r) = tables {
         return Verdict::Refused(r);
     }
-    let kind = ask.kind;
-    check_mode(ask.mode)
-        .or_else(check_scratch(boxes, scratch, kind))
-        .or_else(check_room(3, out.len(), mode_count(arrows, ask.mode)))
+    check_mode(mode)
+        .or_else(check_scratch(boxes, scratch))
+        .or_else(check_room(3, out.len(), mode_count(arrows, mode)))
         .or_else(check_room(4, work.len(), pair_count(boxes, rows)))
 }
 
@@ -87,39 +85,34 @@ fn write_list(
 }
 
 // The first-match list of a mode (document 01, "What may be asked"), in the order of document 02, P3: how many places of `out` hold it,
-// or the refusal. Checks 1 to 10, 12 in this mode, and 13. The scratch needs a row for each box, `out` a place for each arrow of the
-// mode, and `work` a byte for each pair.
+// or the refusal. Checks 1 to 10, 12 in this mode, and 13. The scratch needs a byte for each pair of boxes, `out` a place for each
+// arrow of the mode, and `work` a byte for each pair.
 pub fn list(
     boxes: &[u8],
     rows: &[u16],
     arrows: &[u16],
     scratch: &mut [u8],
-    ask: Ask,
+    mode: u16,
     out: &mut [u16],
     work: &mut [u8],
 ) -> Listed
     ensures result_value { let pic = picture boxes.now rows.now arrows.now in
-        let room = scratch_fault ask.kind (length pic.boxes) scratch.old in
-        result ≡ list_answer pic ask.mode (list_before pic ask.mode room out.old work.old) }
+        result ≡ list_answer pic mode (list_before pic mode scratch.old out.old work.old) }
     ensures scratch_after { let pic = picture boxes.now rows.now arrows.now in
-        let room = scratch_fault ask.kind (length pic.boxes) scratch.old in
-        scratch.new ≡ scratch_after ask.kind (list_early pic ask.mode room out.old work.old)
-        pic.boxes pic.rows scratch.old }
+        scratch.new ≡ scratch_after (list_early pic mode scratch.old out.old work.old)
+        boxes.now rows.now scratch.old }
     ensures out_after { let pic = picture boxes.now rows.now arrows.now in
-        let room = scratch_fault ask.kind (length pic.boxes) scratch.old in
-        out.new
-        ≡ list_after pic ask.mode (list_before pic ask.mode room out.old work.old) out.old }
+        out.new ≡ list_after pic mode
+        (list_before pic mode scratch.old out.old work.old) out.old }
     ensures work_after { let pic = picture boxes.now rows.now arrows.now in
-        let room = scratch_fault ask.kind (length pic.boxes) scratch.old in
-        work.new
-        ≡ work_after pic ask.mode (list_before pic ask.mode room out.old work.old) work.old }
+        work.new ≡ work_after pic mode
+        (list_before pic mode scratch.old out.old work.old) work.old }
 {
-    let early = early_list(boxes, rows, arrows, scratch, ask, out, work);
-    let kind = ask.kind;
+    let early = early_list(boxes, rows, arrows, scratch, mode, out, work);
     let mut closure = closure_room();
-    let verdict = prepare(early, boxes, rows, scratch, kind, &mut closure);
+    let verdict = prepare(early, boxes, rows, scratch, &mut closure);
     if let Verdict::Refused(r) = verdict {
         return Listed::Refused(r);
     }
-    write_list(boxes, rows, arrows, &closure, ask.mode, out, work)
+    write_list(boxes, rows, arrows, &closure, mode, out, work)
 }

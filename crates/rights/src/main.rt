@@ -2,6 +2,7 @@
 // bytes these are is promised by `listing`; here they only come in and go out. A failure of reading or writing gives a line on
 // standard error: a failed read gives no listing, and after a failed write nothing more goes out.
 ghost use Rattle.std.specs.Prelude.{◌≡◌, ◌*◌, ◌≤◌, length, take};
+ghost use Rattle.base.specs.Buffers.{zeros};
 ghost use Rattle.tables.specs.Rows.{picture};
 ghost use Rattle.certificates.specs.Steps.{Drawn};
 ghost use Rattle.listing.specs.Files.{listing_of, file_listing};
@@ -11,7 +12,6 @@ ghost use Rattle.rights.specs.Steps.{GotMost};
 
 use blocks::{Counts, Reading};
 use libc::{STDERR_FILENO, STDIN_FILENO};
-use scratch::{Kind, early_picture, prepare};
 use sending::{Sent, send_picture, send_stopped};
 use tables::{BoxRow, Verdict};
 
@@ -64,22 +64,15 @@ fn list_picture(boxes: &[u8], rows: &[u16], arrows: &[u16], closure: &[u64]) -> 
     )
 }
 
-// Small scratch for as many boxes as there may be.
-fn scratch_bytes() -> [u8; 8192]
-    ensures { 8192 ≡ length result }
-{
-    [0; 8192]
-}
-
 // Of any picture.
 fn list_tables(boxes: &[u8], rows: &[u16], arrows: &[u16]) -> Sent
     ensures { let pic = picture boxes.now rows.now arrows.now in
-        SentAll (listing_of pic) result }
+        SentAll (listing_of pic (zeros 65536)) result }
 {
-    let mut scratch = scratch_bytes();
+    let mut scratch = io::large_buffer();
     let mut closure = containment::closure_room();
-    let early = early_picture(boxes, rows, arrows, &scratch, Kind::Small);
-    let v = prepare(early, boxes, rows, &mut scratch, Kind::Small, &mut closure);
+    let early = scratch::early_picture(boxes, rows, arrows, &scratch);
+    let v = scratch::prepare(early, boxes, rows, &mut scratch, &mut closure);
     if let Verdict::Refused(r) = v {
         return send_stopped(r);
     }
@@ -92,7 +85,7 @@ fn list_counted(c: Counts, boxes: &[u8], rows: &[u16], arrows: &[u16]) -> Sent
         × (4 * c.arrows ≤ length arrows.now) }
     ensures { let pic = picture (take c.boxes boxes.now)
         (take (2 * c.containments) rows.now) (take (4 * c.arrows) arrows.now) in
-        SentAll (listing_of pic) result }
+        SentAll (listing_of pic (zeros 65536)) result }
 {
     let nb = c.boxes;
     let nr = 2 * c.containments;

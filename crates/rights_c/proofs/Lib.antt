@@ -1,4 +1,2 @@
--- Laws for the proofs of this crate, and the theorems on its calls.
+-- Laws for the proofs of this crate.
 mod ReplyLaws
-mod CallLaws
-mod SameResults

@@ -1,21 +1,29 @@
 // The calls across the C boundary (`include/rights.h`): numbers and slices in, one reply out. A slice passes as a pointer and then
 // a length in elements.
-mod replies;
-
-ghost use Rattle.std.specs.Prelude.{◌≡◌, [], ◌∷◌, ◌+◌, ◌*◌, length};
+ghost use Rattle.std.specs.Prelude.{◌≡◌, ◌*◌, length};
+ghost use Rattle.base.specs.Search.{or_else};
 ghost use Rattle.tables.specs.Rows.{picture, user as user_side, file as file_side};
 ghost use Rattle.tables.specs.Refusals.{unless_refused};
 ghost use Rattle.tables.specs.Atoms.{atoms};
+ghost use Rattle.scratch.specs.Scratch.{scratch_after, early_fault, mode_early};
+ghost use Rattle.meaning.specs.Meaning.{answer};
+ghost use Rattle.answers.specs.Calls.{entry_fault, judge_fault, matrix_early, matrix_fault, bytes_after, numbers_after};
+ghost use Rattle.list_meaning.specs.Greedy.{greedy, order_fault};
+ghost use Rattle.list_meaning.specs.Calls.{list_early, list_before, list_after, work_after};
 ghost use Rattle.headings.specs.Calls.{heading_fault, users_after, files_after};
 ghost use Rattle.blocks.specs.Files.{picture_of};
 ghost use Rattle.blocks.specs.Reads.{row_counts, read_fault};
 ghost use Rattle.packing.specs.Packed.{packed};
 ghost use Rattle.packing.specs.Packs.{pack_fault, file_after};
-ghost use Rattle.rights_c.specs.Replies.{done_reply, reply_by};
-ghost use Rattle.rights_c.specs.Calls.{judging, asking, drawing, listing, Ends};
+ghost use Rattle.rights_c.specs.Replies.{reply, done_reply, reply_by, entry_reply};
+ghost use Rattle.rights_c.specs.Steps.{refused_reply, verdict_reply, asked_reply, list_reply, heading_reply, read_reply, pack_reply};
 
-use replies::{of_asked, of_headings, of_list, of_packing, of_reading, of_verdict};
-use scratch::{Ask, Kind};
+use blocks::Reading;
+use headings::Headings;
+use list_meaning::Listed;
+use meaning::Entry;
+use packing::Packing;
+use tables::{Refusal, Verdict};
 
 // What a call answers: its kind, a refusal's number, and three numbers; 0 where nothing is named.
 #[repr(C)]
@@ -28,7 +36,106 @@ pub struct Reply {
     pub c: u64,
 }
 
-// ---- With large scratch
+fn done(a: usize, b: usize, c: usize) -> Reply
+    ensures { result ≡ done_reply a b c }
+{
+    Reply {
+        kind: 5,
+        number: 0,
+        a: a as u64,
+        b: b as u64,
+        c: c as u64,
+    }
+}
+
+fn of_refusal(x: Refusal) -> Reply
+    ensures { result ≡ refused_reply x }
+{
+    Reply {
+        kind: 4,
+        number: x.number as u32,
+        a: x.first as u64,
+        b: x.second as u64,
+        c: x.third as u64,
+    }
+}
+
+fn of_verdict(v: Verdict) -> Reply
+    ensures { result ≡ verdict_reply v }
+{
+    match v {
+        Verdict::Passed => done(0, 0, 0),
+        Verdict::Refused(x) => of_refusal(x),
+    }
+}
+
+fn shown(kind: u32, a: u16, b: u16) -> Reply
+    ensures { result ≡ reply kind 0 a b 0 }
+{
+    Reply {
+        kind,
+        number: 0,
+        a: a as u64,
+        b: b as u64,
+        c: 0,
+    }
+}
+
+fn of_entry(e: Entry) -> Reply
+    ensures { result ≡ entry_reply e }
+{
+    match e {
+        Entry::Granted(k) => shown(1, k, 0),
+        Entry::Denied(k) => shown(0, k, 0),
+        Entry::Default => shown(3, 0, 0),
+        Entry::Unclear(p, n) => shown(2, p, n),
+    }
+}
+
+fn of_asked(x: answers::EntryReply) -> Reply
+    ensures { result ≡ asked_reply x }
+{
+    match x {
+        answers::EntryReply::Answered(e) => of_entry(e),
+        answers::EntryReply::Refused(y) => of_refusal(y),
+    }
+}
+
+fn of_list(l: Listed) -> Reply
+    ensures { result ≡ list_reply l }
+{
+    match l {
+        Listed::Written(count) => done(count, 0, 0),
+        Listed::Refused(x) => of_refusal(x),
+    }
+}
+
+fn of_headings(h: Headings) -> Reply
+    ensures { result ≡ heading_reply h }
+{
+    match h {
+        Headings::Written(users, files) => done(users, files, 0),
+        Headings::Refused(x) => of_refusal(x),
+    }
+}
+
+fn of_reading(x: Reading) -> Reply
+    ensures { result ≡ read_reply x }
+{
+    match x {
+        Reading::Tables(c) => done(c.boxes, c.containments, c.arrows),
+        Reading::Refused(y) => of_refusal(y),
+    }
+}
+
+fn of_packing(x: Packing) -> Reply
+    ensures { result ≡ pack_reply x }
+{
+    match x {
+        Packing::Packed(len) => done(len, 0, 0),
+        Packing::Refused(y) => of_refusal(y),
+    }
+}
 
 #[unsafe(no_mangle)]
 pub extern "C" fn rights_judge(
@@ -37,10 +144,13 @@ pub extern "C" fn rights_judge(
     arrows: &[u16],
     scratch: &mut [u8],
 ) -> Reply
-    ensures { Ends Kind.Large (picture boxes.now rows.now arrows.now)
-        judging scratch.old result [] scratch.new }
+    ensures result_value { let pic = picture boxes.now rows.now arrows.now in
+        result ≡ reply_by (judge_fault pic scratch.old) (done_reply 0 0 0) }
+    ensures scratch_after { let pic = picture boxes.now rows.now arrows.now in
+        scratch.new ≡ scratch_after (early_fault pic scratch.old) boxes.now rows.now
+        scratch.old }
 {
-    of_verdict(answers::judge(boxes, rows, arrows, scratch, Kind::Large))
+    of_verdict(answers::judge(boxes, rows, arrows, scratch))
 }
 
 #[unsafe(no_mangle)]
@@ -53,14 +163,13 @@ pub extern "C" fn rights_entry(
     mode: u16,
     scratch: &mut [u8],
 ) -> Reply
-    ensures { Ends Kind.Large (picture boxes.now rows.now arrows.now)
-        (asking user file mode) scratch.old result [] scratch.new }
+    ensures result_value { let pic = picture boxes.now rows.now arrows.now in
+        result ≡ reply_by (entry_fault pic scratch.old mode user file) (entry_reply (answer pic mode user file)) }
+    ensures scratch_after { let pic = picture boxes.now rows.now arrows.now in
+        scratch.new ≡ scratch_after (mode_early pic scratch.old mode) boxes.now rows.now
+        scratch.old }
 {
-    let ask = Ask {
-        mode,
-        kind: Kind::Large,
-    };
-    of_asked(answers::one_entry(boxes, rows, arrows, scratch, user, file, ask))
+    of_asked(answers::one_entry(boxes, rows, arrows, scratch, user, file, mode))
 }
 
 #[unsafe(no_mangle)]
@@ -73,15 +182,17 @@ pub extern "C" fn rights_matrix(
     bytes: &mut [u8],
     numbers: &mut [u16],
 ) -> Reply
-    ensures { Ends Kind.Large (picture boxes.now rows.now arrows.now)
-        (drawing mode bytes.old numbers.old) scratch.old
-        result (bytes.new ∷ numbers.new ∷ []) scratch.new }
+    ensures result_value { let pic = picture boxes.now rows.now arrows.now in
+        result ≡ reply_by (matrix_fault pic scratch.old mode bytes.old numbers.old) (done_reply 0 0 0) }
+    ensures scratch_after { let pic = picture boxes.now rows.now arrows.now in
+        scratch.new ≡ scratch_after (matrix_early pic scratch.old mode bytes.old numbers.old)
+        boxes.now rows.now scratch.old }
+    ensures bytes_after { let pic = picture boxes.now rows.now arrows.now in
+        bytes.new ≡ bytes_after pic scratch.old mode bytes.old numbers.old }
+    ensures numbers_after { let pic = picture boxes.now rows.now arrows.now in
+        numbers.new ≡ numbers_after pic scratch.old mode bytes.old numbers.old }
 {
-    let ask = Ask {
-        mode,
-        kind: Kind::Large,
-    };
-    of_verdict(answers::matrix(boxes, rows, arrows, scratch, ask, bytes, numbers))
+    of_verdict(answers::matrix(boxes, rows, arrows, scratch, mode, bytes, numbers))
 }
 
 #[unsafe(no_mangle)]
@@ -94,95 +205,21 @@ pub extern "C" fn rights_list(
     list: &mut [u16],
     work: &mut [u8],
 ) -> Reply
-    ensures { Ends Kind.Large (picture boxes.now rows.now arrows.now)
-        (listing mode list.old work.old) scratch.old
-        result (list.new ∷ work.new ∷ []) scratch.new }
+    ensures result_value { let pic = picture boxes.now rows.now arrows.now in
+        let before = list_before pic mode scratch.old list.old work.old in
+        result ≡ reply_by (or_else before (order_fault pic mode)) (done_reply (length (greedy pic mode)) 0 0) }
+    ensures scratch_after { let pic = picture boxes.now rows.now arrows.now in
+        scratch.new ≡ scratch_after (list_early pic mode scratch.old list.old work.old)
+        boxes.now rows.now scratch.old }
+    ensures list_after { let pic = picture boxes.now rows.now arrows.now in
+        list.new ≡ list_after pic mode (list_before pic mode scratch.old list.old work.old)
+        list.old }
+    ensures work_after { let pic = picture boxes.now rows.now arrows.now in
+        work.new ≡ work_after pic mode (list_before pic mode scratch.old list.old work.old)
+        work.old }
 {
-    let ask = Ask {
-        mode,
-        kind: Kind::Large,
-    };
-    of_list(lists::list(boxes, rows, arrows, scratch, ask, list, work))
+    of_list(lists::list(boxes, rows, arrows, scratch, mode, list, work))
 }
-
-// ---- With small scratch
-
-#[unsafe(no_mangle)]
-pub extern "C" fn rights_judge_small(
-    boxes: &[u8],
-    rows: &[u16],
-    arrows: &[u16],
-    scratch: &mut [u8],
-) -> Reply
-    ensures { Ends Kind.Small (picture boxes.now rows.now arrows.now)
-        judging scratch.old result [] scratch.new }
-{
-    of_verdict(answers::judge(boxes, rows, arrows, scratch, Kind::Small))
-}
-
-#[unsafe(no_mangle)]
-pub extern "C" fn rights_entry_small(
-    boxes: &[u8],
-    rows: &[u16],
-    arrows: &[u16],
-    user: u16,
-    file: u16,
-    mode: u16,
-    scratch: &mut [u8],
-) -> Reply
-    ensures { Ends Kind.Small (picture boxes.now rows.now arrows.now)
-        (asking user file mode) scratch.old result [] scratch.new }
-{
-    let ask = Ask {
-        mode,
-        kind: Kind::Small,
-    };
-    of_asked(answers::one_entry(boxes, rows, arrows, scratch, user, file, ask))
-}
-
-#[unsafe(no_mangle)]
-pub extern "C" fn rights_matrix_small(
-    boxes: &[u8],
-    rows: &[u16],
-    arrows: &[u16],
-    mode: u16,
-    scratch: &mut [u8],
-    bytes: &mut [u8],
-    numbers: &mut [u16],
-) -> Reply
-    ensures { Ends Kind.Small (picture boxes.now rows.now arrows.now)
-        (drawing mode bytes.old numbers.old) scratch.old
-        result (bytes.new ∷ numbers.new ∷ []) scratch.new }
-{
-    let ask = Ask {
-        mode,
-        kind: Kind::Small,
-    };
-    of_verdict(answers::matrix(boxes, rows, arrows, scratch, ask, bytes, numbers))
-}
-
-#[unsafe(no_mangle)]
-pub extern "C" fn rights_list_small(
-    boxes: &[u8],
-    rows: &[u16],
-    arrows: &[u16],
-    mode: u16,
-    scratch: &mut [u8],
-    list: &mut [u16],
-    work: &mut [u8],
-) -> Reply
-    ensures { Ends Kind.Small (picture boxes.now rows.now arrows.now)
-        (listing mode list.old work.old) scratch.old
-        result (list.new ∷ work.new ∷ []) scratch.new }
-{
-    let ask = Ask {
-        mode,
-        kind: Kind::Small,
-    };
-    of_list(lists::list(boxes, rows, arrows, scratch, ask, list, work))
-}
-
-// ---- Without scratch
 
 #[unsafe(no_mangle)]
 pub extern "C" fn rights_atoms(
@@ -232,10 +269,10 @@ pub extern "C" fn rights_pack(boxes: &[u8], rows: &[u16], arrows: &[u16], file: 
     of_packing(packer::pack(boxes, rows, arrows, file))
 }
 
-// The version of these calls: major × 65,536 + minor × 256 + patch, which are 4, 1 and 0.
+// The version of these calls: major × 65,536 + minor × 256 + patch, of which major is 4 and the others 0.
 #[unsafe(no_mangle)]
 pub extern "C" fn rights_version() -> u32
-    ensures { result ≡ 4 * 65536 + 256 }
+    ensures { result ≡ 4 * 65536 }
 {
-    0x040100
+    0x040000
 }

@@ -1,22 +1,17 @@
 -- The byte of two boxes: what it says in rows and chains, and how a pass over the rows makes it. Assumes nothing.
-use mathlib.Core.Path.{◌≡◌, refl, sym, ap, subst}
+use mathlib.Core.Path.{◌≡◌, refl, sym, subst}
 use mathlib.Core.Logic.{◌↔◌}
 use mathlib.Core.Bool.{Bool, true, false, not, cond}
 use mathlib.Core.List.{List}
-use Prim.Native.Nat.{ℕ}
+use Prim.Native.Nat.{ℕ, ◌*◌, ◌/◌, ◌%◌}
 use lib.Dec.{T, eqb}
 use Rattle.base.specs.Steps.{bit}
 use Rattle.containment.specs.Contains.{Row, Chain, one, direct, contains}
-use Rattle.scratch.specs.Scratch.{Drawn, directly, through-others, otherwise, drawn}
-use Rattle.scratch.specs.Kinds.{row_bytes, row_byte, scratch_bytes}
-use Rattle.scratch.specs.declared.Kind.{Kind}
-use Rattle.scratch.specs.declared.Kind.TheVariants.{Large, Small}
+use Rattle.scratch.specs.Scratch.{Drawn, directly, through-others, otherwise, drawn, scratch_bytes}
 use Rattle.scratch.specs.Steps.{filled, over}
 use Rattle.base.proofs.Bits.{bit_is, bit_test}
 use Rattle.base.proofs.Tests.{T?, T_true, not-false}
-use Rattle.base.specs.Buffers.{written}
-use Rattle.base.proofs.GridLaws.{grid-same}
-use Rattle.bit_rows.proofs.NumberLaws.{row-bits-same}
+use Rattle.base.proofs.BufferLaws.{build-same}
 use Rattle.containment.proofs.ContainsLaws.{direct-row, row-direct, contains-chain, chain-contains, row-contains, same-contains, same-direct}
 
 module _ (rows : List ℕ) (a b : ℕ) where
@@ -78,12 +73,7 @@ module _ (rows new : List ℕ) (same : (a b : ℕ) → Row rows a b ↔ Row new 
   unfolding drawn
   same-drawn a b = rw (same-direct rows new same a b, same-contains rows new same a b)
 
-  same_byte : (kind : Kind) (a q : ℕ) → row_byte kind rows a q ≡ row_byte kind new a q
-  unfolding row_byte
-  same_byte Large a q = same-drawn a q
-  same_byte Small a q = row-bits-same (contains rows) (contains new) a (same-contains rows new same a) q
-
-  pub same-filled : (kind : Kind) (n : ℕ) (s : List ℕ) → filled kind n rows s ≡ filled kind n new s
+  pub same-filled : (n : ℕ) (s : List ℕ) → filled n rows s ≡ filled n new s
   unfolding scratch_bytes
-  same-filled kind n s =
-      ap (λ (l : List ℕ). written l s) (grid-same (row_byte kind rows) n (row_bytes kind n) (row_byte kind new) (λ a q l. same_byte kind a q))
+  same-filled n s =
+      rw (build-same (λ p. drawn rows (p / n) (p % n)) (λ p. drawn new (p / n) (p % n)) (n * n) (λ p l. same-drawn (p / n) (p % n)))

@@ -1,7 +1,6 @@
 -- Laws for the proofs of this crate and of the crates above it.
 pub mod DrawnLaws
 pub mod ScratchLaws
-pub mod KindLaws
 pub mod PictureLaws
 mod OnesLaws
 mod SpreadLaws

@@ -9,15 +9,14 @@ use borrow.Author.Tests.{eq-eqb}
 use lib.Dec.{T, eqb, eqb→eq}
 use lib.ListN.{length, get_or, set, drop, length-set}
 use lib.Seq.{get_or-set_same, get_or-set_other}
-use Rattle.base.specs.Steps.{bit, SameFrom}
+use Rattle.base.specs.Steps.{bit}
 use Rattle.base.proofs.Index.{in_table, same_row, same-col}
 use Rattle.base.proofs.Tests.{and_T, not-false}
 use Rattle.tables.proofs.RowLaws.{rows-from}
 use Rattle.boxsets.specs.Sets.{has}
 use Rattle.containment.specs.Contains.{direct, contains}
 use Rattle.containment.specs.Steps.{RowsBelow, Both}
-use Rattle.scratch.specs.Steps.{filled, Square, Bytes, Cells, over}
-use Rattle.scratch.specs.declared.Kind.TheVariants.{Large}
+use Rattle.scratch.specs.Steps.{filled, Bytes, Cells, over, SameFrom, Square}
 use Rattle.containment.proofs.RowBoxes.{RowBoxes}
 use Rattle.containment.proofs.ContainsLaws.{direct-more}
 use Rattle.containment.proofs.ClosureLaws.{contains-below}
@@ -65,7 +64,7 @@ contains-square n rows t below s a b l h = contains-below n rows below a b (subs
 -- ---- spread by the sets, then marked
 
 pub fill_is : (n : ℕ) (rows sets s t u : List ℕ) → n * n ≤ length s → Both n (contains rows) sets
-    → Cells n (has sets) t → SameFrom (n * n) s t → Marked n 2 rows 0 t u → u ≡ filled Large n rows s
+    → Cells n (has sets) t → SameFrom (n * n) s t → Marked n 2 rows 0 t u → u ≡ filled n rows s
 fill_is n rows sets s t u room both cells same marked =
     is-filled n rows s u room
     (λ a b la lb.

@@ -6,16 +6,15 @@ use Prim.Native.Nat.{ℕ, ◌+◌, ◌-◌, ◌*◌, ◌<◌, ◌≤◌}
 use native.Mathlib.Omega.{arith}
 use borrow.Author.Count.{below_more}
 use lib.ListN.{length, get_or}
-use Rattle.base.specs.Steps.{bit, SameFrom}
+use Rattle.base.specs.Steps.{bit}
 use Rattle.base.specs.Buffers.{written, zeros}
 use Rattle.base.proofs.Bits.{bit_is}
-use Rattle.base.proofs.BufferLaws.{written_at, zeros-length, zeros-at}
-use Rattle.base.proofs.GridLaws.{cleared-rest}
+use Rattle.base.proofs.BufferLaws.{written-length, written_at, written-rest, zeros-length, zeros-at}
 use Rattle.base.proofs.Index.{row_step, in_table, next_row}
 use Rattle.base.proofs.Tests.{not-false}
 use Rattle.boxsets.specs.Sets.{is_in, set_at, has}
 use Rattle.boxsets.proofs.TableLaws.{has_in}
-use Rattle.scratch.specs.Steps.{Cells, Ones, Room, Square}
+use Rattle.scratch.specs.Steps.{Cells, SameFrom, Ones, Room, Square}
 
 -- the rows of bytes before i say what the sets have, and those from i on are 0
 pub record Spread (n i : ℕ) (sets s t : List ℕ) : Type 0 where
@@ -46,6 +45,12 @@ module _ (n i : ℕ) (sets s t u : List ℕ) (l : i < n) (square : Square n sets
 
 -- n × n places are cleared first, and no more than that
 module _ (n : ℕ) (sets s t : List ℕ) (room : n * n ≤ length s) (clear : t ≡ written (zeros (n * n)) s) where
+  pub cleared-rest : SameFrom (n * n) s t
+  cleared-rest = rw clear (record {
+    len = written-length (zeros (n * n)) s (rw zeros-length room);
+    rest = λ p l. written-rest (zeros (n * n)) s p (rw zeros-length l);
+  })
+
   pub spread-begins : Spread n 0 sets t t
   spread-begins = record {
     done = λ a b la lb. absurd (omega arith);
@@ -55,9 +60,9 @@ module _ (n : ℕ) (sets s t : List ℕ) (room : n * n ≤ length s) (clear : t 
 
   -- and all rows are spread
   pub spread-ends : (u : List ℕ) → Spread n n sets t u → Cells n (has sets) u × SameFrom (n * n) s u
-  spread-ends u sp = let same = cleared-rest (n * n) s t room clear in (
+  spread-ends u sp = (
     λ a b la lb. sp.done a b la lb,
-    record { len = sp.same.len ∙ same.len; rest = λ p l. sp.same.rest p l ∙ same.rest p l },
+    record { len = sp.same.len ∙ cleared-rest.len; rest = λ p l. sp.same.rest p l ∙ cleared-rest.rest p l },
   )
 
 -- set i has room in its row of bytes

@@ -1,26 +1,22 @@
--- Tables of containments and their scratch of both kinds, worked by hand (document 02, P2 and P10): one table, and the theorem that the
--- definitions say the same (`scratches-right`). Assumes nothing.
-use Rattle.std.specs.Prelude.{◌≡◌, refl, List, [], ◌∷◌, map, ℕ, ◌+◌, ◌*◌, ◌/◌, replicate}
+-- Tables of containments and their scratch, worked by hand (document 02, P2): one table, and the theorem that the definitions say the
+-- same (`scratches-right`). Assumes nothing.
+use Rattle.std.specs.Prelude.{◌≡◌, refl, List, [], ◌∷◌, map, ℕ, ◌+◌, ◌*◌, replicate}
 use Rattle.std.proofs.Math.Option.{Option, none, some}
 use Rattle.base.specs.Search.{or_else, given, first}
 use Rattle.base.specs.Steps.{bit}
-use Rattle.base.specs.Buffers.{build, grid, written}
+use Rattle.base.specs.Buffers.{build, written}
 use Rattle.tables.specs.Refusals.{in_itself}
 use Rattle.tables.specs.declared.Refusal.{Refusal}
 use Rattle.containment.specs.Contains.{direct, contains, loop_fault}
-use Rattle.bit_rows.specs.Bits.{row_width, number, row_bits}
-use Rattle.scratch.specs.Scratch.{drawn}
-use Rattle.scratch.specs.Kinds.{row_bytes, row_byte, scratch_bytes}
-use Rattle.scratch.specs.declared.Kind.TheVariants.{Large, Small}
+use Rattle.scratch.specs.Scratch.{drawn, scratch_bytes}
 use Rattle.scratch.specs.Steps.{filled}
 
 pub record Case : Type 0 where
   -- so many boxes, and the rows
   pub count : ℕ
   pub rows : List ℕ
-  -- the large scratch at the end, and the small one; each needed place held 9, and so did one beyond them
-  pub large : List ℕ
-  pub small : List ℕ
+  -- the scratch at the end; each needed place held 9, and so did one beyond them
+  pub scratch : List ℕ
   -- 10, if a box contains itself
   pub loop : Option Refusal
 
@@ -30,83 +26,55 @@ scratches =
     record {
       count = 3;
       rows = 0 ∷ 1 ∷ 1 ∷ 2 ∷ 0 ∷ 2 ∷ [];
-      large =
+      scratch =
           0 ∷ 2 ∷ 2
           ∷ 0 ∷ 0 ∷ 2
           ∷ 0 ∷ 0 ∷ 0
           ∷ 9 ∷ [];
-      small = 6 ∷ 4 ∷ 0 ∷ 9 ∷ [];
       loop = none;
     }
     -- through 1 only
     ∷ record {
       count = 3;
       rows = 0 ∷ 1 ∷ 1 ∷ 2 ∷ [];
-      large =
+      scratch =
           0 ∷ 2 ∷ 1
           ∷ 0 ∷ 0 ∷ 2
           ∷ 0 ∷ 0 ∷ 0
           ∷ 9 ∷ [];
-      small = 6 ∷ 4 ∷ 0 ∷ 9 ∷ [];
       loop = none;
     }
     -- a repeated row
     ∷ record {
       count = 2;
       rows = 0 ∷ 1 ∷ 0 ∷ 1 ∷ [];
-      large =
+      scratch =
           0 ∷ 2
           ∷ 0 ∷ 0
           ∷ 9 ∷ [];
-      small = 2 ∷ 0 ∷ 9 ∷ [];
       loop = none;
     }
     -- a box in itself
-    ∷ record { count = 1; rows = 0 ∷ 0 ∷ []; large = 2 ∷ 9 ∷ []; small = 1 ∷ 9 ∷ []; loop = some (in_itself 0) }
+    ∷ record { count = 1; rows = 0 ∷ 0 ∷ []; scratch = 2 ∷ 9 ∷ []; loop = some (in_itself 0) }
     -- two boxes in each other
     ∷ record {
       count = 2;
       rows = 0 ∷ 1 ∷ 1 ∷ 0 ∷ [];
-      large =
+      scratch =
           1 ∷ 2
           ∷ 2 ∷ 1
           ∷ 9 ∷ [];
-      small = 3 ∷ 3 ∷ 9 ∷ [];
       loop = some (in_itself 0);
     }
     -- a box in another and in itself
     ∷ record {
       count = 2;
       rows = 0 ∷ 1 ∷ 1 ∷ 1 ∷ [];
-      large =
+      scratch =
           0 ∷ 2
           ∷ 0 ∷ 2
           ∷ 9 ∷ [];
-      small = 2 ∷ 2 ∷ 9 ∷ [];
       loop = some (in_itself 1);
-    }
-    -- one box
-    ∷ record { count = 1; rows = []; large = 0 ∷ 9 ∷ []; small = 0 ∷ 9 ∷ []; loop = none }
-    -- nine boxes: a row of bits takes two bytes, with seven spare bits
-    ∷ record {
-      count = 9;
-      rows = 0 ∷ 8 ∷ 8 ∷ 7 ∷ [];
-      large =
-          0 ∷ 0 ∷ 0 ∷ 0 ∷ 0 ∷ 0 ∷ 0 ∷ 1 ∷ 2
-          ∷ 0 ∷ 0 ∷ 0 ∷ 0 ∷ 0 ∷ 0 ∷ 0 ∷ 0 ∷ 0
-          ∷ 0 ∷ 0 ∷ 0 ∷ 0 ∷ 0 ∷ 0 ∷ 0 ∷ 0 ∷ 0
-          ∷ 0 ∷ 0 ∷ 0 ∷ 0 ∷ 0 ∷ 0 ∷ 0 ∷ 0 ∷ 0
-          ∷ 0 ∷ 0 ∷ 0 ∷ 0 ∷ 0 ∷ 0 ∷ 0 ∷ 0 ∷ 0
-          ∷ 0 ∷ 0 ∷ 0 ∷ 0 ∷ 0 ∷ 0 ∷ 0 ∷ 0 ∷ 0
-          ∷ 0 ∷ 0 ∷ 0 ∷ 0 ∷ 0 ∷ 0 ∷ 0 ∷ 0 ∷ 0
-          ∷ 0 ∷ 0 ∷ 0 ∷ 0 ∷ 0 ∷ 0 ∷ 0 ∷ 0 ∷ 0
-          ∷ 0 ∷ 0 ∷ 0 ∷ 0 ∷ 0 ∷ 0 ∷ 0 ∷ 2 ∷ 0
-          ∷ 9 ∷ [];
-      small =
-          128 ∷ 1 ∷ 0 ∷ 0 ∷ 0 ∷ 0 ∷ 0 ∷ 0 ∷ 0
-          ∷ 0 ∷ 0 ∷ 0 ∷ 0 ∷ 0 ∷ 0 ∷ 0 ∷ 128 ∷ 0
-          ∷ 9 ∷ [];
-      loop = none;
     }
     -- the rows of picture J
     ∷ record {
@@ -114,7 +82,7 @@ scratches =
       rows =
           2 ∷ 0 ∷ 2 ∷ 5 ∷ 3 ∷ 0 ∷ 4 ∷ 3 ∷ 4 ∷ 1 ∷ 5 ∷ 1
           ∷ 8 ∷ 7 ∷ 9 ∷ 8 ∷ 9 ∷ 6 ∷ 10 ∷ 6 ∷ 11 ∷ 10 ∷ 11 ∷ 7 ∷ [];
-      large =
+      scratch =
           0 ∷ 0 ∷ 0 ∷ 0 ∷ 0 ∷ 0 ∷ 0 ∷ 0 ∷ 0 ∷ 0 ∷ 0 ∷ 0
           ∷ 0 ∷ 0 ∷ 0 ∷ 0 ∷ 0 ∷ 0 ∷ 0 ∷ 0 ∷ 0 ∷ 0 ∷ 0 ∷ 0
           ∷ 2 ∷ 1 ∷ 0 ∷ 0 ∷ 0 ∷ 2 ∷ 0 ∷ 0 ∷ 0 ∷ 0 ∷ 0 ∷ 0
@@ -128,10 +96,6 @@ scratches =
           ∷ 0 ∷ 0 ∷ 0 ∷ 0 ∷ 0 ∷ 0 ∷ 2 ∷ 0 ∷ 0 ∷ 0 ∷ 0 ∷ 0
           ∷ 0 ∷ 0 ∷ 0 ∷ 0 ∷ 0 ∷ 0 ∷ 1 ∷ 2 ∷ 0 ∷ 0 ∷ 2 ∷ 0
           ∷ 9 ∷ [];
-      small =
-          0 ∷ 0 ∷ 0 ∷ 0 ∷ 35 ∷ 0 ∷ 1 ∷ 0 ∷ 11 ∷ 0 ∷ 2 ∷ 0
-          ∷ 0 ∷ 0 ∷ 0 ∷ 0 ∷ 128 ∷ 0 ∷ 192 ∷ 1 ∷ 64 ∷ 0 ∷ 192 ∷ 4
-          ∷ 9 ∷ [];
       loop = none;
     }
     ∷ []
@@ -141,11 +105,10 @@ unfoldable pub compute : Case → Case
 compute c = record {
   count = c.count;
   rows = c.rows;
-  large = filled Large c.count c.rows (replicate {A = ℕ} (c.count * c.count + 1) 9);
-  small = filled Small c.count c.rows (replicate {A = ℕ} (c.count * ((c.count + 7) / 8) + 1) 9);
+  scratch = filled c.count c.rows (replicate {A = ℕ} (c.count * c.count + 1) 9);
   loop = loop_fault (replicate {A = ℕ} c.count 0) c.rows;
 }
 
 pub scratches-right : map compute scratches ≡ scratches
-unfolding compute scratches bit or_else given first build written grid direct contains loop_fault drawn row_width number row_bits row_bytes row_byte scratch_bytes
+unfolding compute scratches bit or_else given first build written direct contains loop_fault drawn scratch_bytes
 scratches-right = refl

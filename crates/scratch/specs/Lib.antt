@@ -1,4 +1,3 @@
 pub mod Scratch
-pub mod Kinds
 pub mod Steps
 pub mod Cases

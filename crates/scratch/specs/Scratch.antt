@@ -1,11 +1,13 @@
--- The bytes of the large scratch (document 01, "What may be asked", with the values of document 02, P2), and the checks up to the one
--- that comes once a scratch is filled (document 01, "Who can cause a refusal"). Assumes nothing.
-use Rattle.std.specs.Prelude.{cond, List, ℕ}
+-- What the scratch holds (document 01, "What may be asked", with the values of document 02, P2), and when it is filled (document 01, "Who
+-- can cause a refusal"). Assumes nothing.
+use Rattle.std.specs.Prelude.{cond, List, ℕ, ◌*◌, ◌/◌, ◌%◌, length}
 use Rattle.std.proofs.Math.Option.{Option}
 use Rattle.base.specs.Search.{or_else}
 use Rattle.base.specs.Steps.{bit}
+use Rattle.base.specs.Buffers.{build}
 use Rattle.tables.specs.Rows.{Picture}
-use Rattle.tables.specs.Faults.{table_fault, mode_fault}
+use Rattle.tables.specs.Refusals.{unless_refused}
+use Rattle.tables.specs.Faults.{table_fault, mode_fault, room_fault}
 use Rattle.tables.specs.declared.Refusal.{Refusal}
 use Rattle.containment.specs.Contains.{Row, Chain, direct, contains, loop_fault}
 
@@ -19,16 +21,26 @@ pub data Drawn (rows : List ℕ) (a b : ℕ) : ℕ → Type 0 where
 unfoldable pub drawn : (rows : List ℕ) (a b : ℕ) → ℕ
 drawn rows a b = cond (direct rows a b) 2 (bit (contains rows a b))
 
--- room is the fault of check 9 for the scratch, if any: the calls read nothing else of it
-module _ (pic : Picture) (room : Option Refusal) where
-  -- checks 1 to 7 of a picture, 9 for the scratch
-  unfoldable pub early_fault : Option Refusal
-  early_fault = or_else (table_fault pic) room
+-- n × n bytes for n boxes: byte a × n + b is that of boxes a and b
+unfoldable pub scratch_bytes : (n : ℕ) (rows : List ℕ) → List ℕ
+scratch_bytes n rows = build (λ p. drawn rows (p / n) (p % n)) (n * n)
 
-  -- checks 1 to 9 of a call for a mode, up to the scratch
-  unfoldable pub mode_early : (mode : ℕ) → Option Refusal
-  mode_early mode = or_else (table_fault pic) (or_else (mode_fault mode) room)
+-- 9 for the scratch of n boxes
+unfoldable pub scratch_fault : (n : ℕ) (s : List ℕ) → Option Refusal
+scratch_fault n s = room_fault 0 (length s) (n * n)
 
-  -- checks 1 to 7 of a picture, 9 for the scratch, 10
-  unfoldable pub picture_fault : Option Refusal
-  picture_fault = or_else early_fault (loop_fault pic.boxes pic.rows)
+-- the scratch is filled whenever checks 1 to 9 pass; else it is as it was
+abbrev pub scratch_after : (early : Option Refusal) (boxes rows s : List ℕ) → List ℕ
+scratch_after early boxes rows s = unless_refused early (scratch_bytes (length boxes) rows) s
+
+-- checks 1 to 7 of a picture, 9 for the scratch
+unfoldable pub early_fault : (pic : Picture) (s : List ℕ) → Option Refusal
+early_fault pic s = or_else (table_fault pic) (scratch_fault (length pic.boxes) s)
+
+-- checks 1 to 9 of a call for a mode, up to the scratch
+unfoldable pub mode_early : (pic : Picture) (s : List ℕ) (mode : ℕ) → Option Refusal
+mode_early pic s mode = or_else (table_fault pic) (or_else (mode_fault mode) (scratch_fault (length pic.boxes) s))
+
+-- checks 1 to 7 of a picture, 9 for the scratch, 10
+unfoldable pub picture_fault : (pic : Picture) (s : List ℕ) → Option Refusal
+picture_fault pic s = or_else (early_fault pic s) (loop_fault pic.boxes pic.rows)

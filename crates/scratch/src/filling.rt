@@ -1,14 +1,10 @@
-// How the scratch is filled, by sets that have what each box contains. The bytes of the large one: 1 where a box contains another, by the
-// sets, and then 2 for each row.
+// How the bytes that the caller lends are written: 1 where a box contains another, by the sets, and then 2 for each row.
 ghost use Rattle.std.specs.Prelude.{◌≡◌, ℕ, ◌*◌, ◌<◌, ◌≤◌, length};
-ghost use Rattle.base.specs.Steps.{SameFrom};
 ghost use Rattle.boxsets.specs.Sets.{is_in, in_word, has};
 ghost use Rattle.containment.specs.Contains.{contains};
 ghost use Rattle.containment.specs.Steps.{RowsBelow, Both};
-ghost use Rattle.scratch.specs.Kinds.{row_bytes};
-ghost use Rattle.scratch.specs.Steps.{filled, Square, Bytes, Cells, over, Ones, Room};
+ghost use Rattle.scratch.specs.Steps.{filled, Square, Bytes, Cells, over, SameFrom, Ones, Room};
 
-use super::Kind;
 use boxsets::Set;
 use tables::Containment;
 
@@ -66,24 +62,12 @@ fn mark_direct(rows: &[u16], n: usize, scratch: &mut [u8])
     }
 }
 
-// Fills a large scratch.
-fn fill_large(rows: &[u16], n: usize, closure: &[u64], scratch: &mut [u8])
+// Fills the scratch from the rows for n boxes, by sets that have what each box contains.
+pub fn fill_scratch(rows: &[u16], n: usize, closure: &[u64], scratch: &mut [u8])
     requires rows_below { RowsBelow n rows.now × (n ≤ 256) × (n * n ≤ length scratch.old) }
     requires both { Both n (contains rows.now) closure.now }
-    ensures { scratch.new ≡ filled Kind.Large n rows.now scratch.old }
+    ensures { scratch.new ≡ filled n rows.now scratch.old }
 {
     spread(closure, n, scratch);
     mark_direct(rows, n, scratch);
-}
-
-// Fills the scratch from the rows for n boxes.
-pub fn fill_scratch(rows: &[u16], n: usize, closure: &[u64], scratch: &mut [u8], kind: Kind)
-    requires rows_below { RowsBelow n rows.now × (n ≤ 256) × (n * row_bytes kind n ≤ length scratch.old) }
-    requires both { Both n (contains rows.now) closure.now }
-    ensures { scratch.new ≡ filled kind n rows.now scratch.old }
-{
-    match kind {
-        Kind::Large => fill_large(rows, n, closure, scratch),
-        Kind::Small => bit_rows::put_rows(closure, n, scratch),
-    }
 }

@@ -1,5 +1,5 @@
-// The scratch that the caller lends: which box contains which, in bytes that say what of it is drawn, or in bits; and the stage that every
-// call shares.
+// The bytes that the caller lends, n × n of them for n boxes: which box contains which, and which of it is drawn; and the stage that
+// every call shares.
 mod filling;
 
 ghost use Rattle.std.specs.Prelude.{◌≡◌, ◌*◌, ◌≤◌, length};
@@ -12,8 +12,7 @@ ghost use Rattle.tables.specs.declared.Refusal.{Refusal};
 ghost use Rattle.tables.specs.Steps.{SoundRows};
 ghost use Rattle.containment.specs.Contains.{loop_fault};
 ghost use Rattle.containment.specs.Steps.{Closure, closure_words};
-ghost use Rattle.scratch.specs.Scratch.{early_fault};
-ghost use Rattle.scratch.specs.Kinds.{row_bytes, scratch_fault, scratch_after};
+ghost use Rattle.scratch.specs.Scratch.{scratch_fault, scratch_after, early_fault};
 ghost use Rattle.scratch.specs.Steps.{filled};
 
 use checks::check_room;
@@ -21,81 +20,44 @@ use containment::{add_selves, check_loops, close, mark_rows};
 use filling::fill_scratch;
 use tables::Verdict;
 
-// How the scratch is laid out: a byte for each pair of boxes, or a bit.
-#[derive(Drop)]
-pub enum Kind {
-    Large,
-    Small,
-}
-
-// What a call for a mode is asked: the mode, and the kind of scratch that it is lent.
-#[derive(Drop)]
-pub struct Ask {
-    pub mode: u16,
-    pub kind: Kind,
-}
-
 // Fills the closure and the scratch, and makes check 10. Each box is added to its own sets only after the check, which looks
 // for a box there.
-pub fn fill_both(
-    boxes: &[u8],
-    rows: &[u16],
-    scratch: &mut [u8],
-    kind: Kind,
-    closure: &mut [u64],
-) -> Verdict
+pub fn fill_both(boxes: &[u8], rows: &[u16], scratch: &mut [u8], closure: &mut [u64]) -> Verdict
     requires sound_rows { SoundRows boxes.now rows.now }
-    requires boxes_in_bounds { length boxes.now * row_bytes kind (length boxes.now) ≤ length scratch.old }
+    requires boxes_in_bounds { length boxes.now * length boxes.now ≤ length scratch.old }
     requires closure_value { closure.old ≡ zeros closure_words }
     ensures value { result ≡ verdict_of (loop_fault boxes.now rows.now) }
-    ensures scratch_after { scratch.new ≡ filled kind (length boxes.now) rows.now scratch.old }
+    ensures scratch_after { scratch.new ≡ filled (length boxes.now) rows.now scratch.old }
     ensures closure { Closure (length boxes.now) rows.now closure.new }
 {
     let n = boxes.len();
     mark_rows(rows, closure);
     close(closure, n);
     let verdict = check_loops(closure, n);
-    fill_scratch(rows, n, closure, scratch, kind);
+    fill_scratch(rows, n, closure, scratch);
     add_selves(closure, n);
     verdict
 }
 
-// The bytes of a row.
-fn row_bytes(n: usize, kind: Kind) -> usize
-    requires { n ≤ 256 }
-    ensures { (result ≡ row_bytes kind n) × (result ≤ 256) }
-{
-    match kind {
-        Kind::Large => n,
-        Kind::Small => bit_rows::row_width(n),
-    }
-}
-
 // Check 9 for the scratch of so many boxes as passed check 2.
-pub fn check_scratch(boxes: &[u8], scratch: &[u8], kind: Kind) -> Verdict
+pub fn check_scratch(boxes: &[u8], scratch: &[u8]) -> Verdict
     requires { length boxes.now ≤ 256 }
-    ensures { result ≡ verdict_of (scratch_fault kind (length boxes.now) scratch.now) }
+    ensures { result ≡ verdict_of (scratch_fault (length boxes.now) scratch.now) }
 {
     let n = boxes.len();
-    check_room(0, scratch.len(), n * row_bytes(n, kind))
+    check_room(0, scratch.len(), n * n)
 }
 
 // What comes before the stage below where a call has no other checks: checks 1 to 7 of a picture, 9 for the scratch.
-pub fn early_picture(
-    boxes: &[u8],
-    rows: &[u16],
-    arrows: &[u16],
-    scratch: &[u8],
-    kind: Kind,
-) -> Verdict
+pub fn early_picture(boxes: &[u8], rows: &[u16], arrows: &[u16], scratch: &[u8]) -> Verdict
     ensures { result ≡ verdict_of (early_fault (picture boxes.now rows.now arrows.now)
-        (scratch_fault kind (length boxes.now) scratch.now)) }
+        scratch.now) }
 {
     let tables = checks::check(boxes, rows, arrows);
     if let Verdict::Refused(r) = tables {
         return Verdict::Refused(r);
     }
-    check_scratch(boxes, scratch, kind)
+    check_scratch(boxes, scratch)
 }
 
 // The stage that every call shares: unless an earlier check refused, the closure and the scratch, and check 10.
@@ -104,19 +66,18 @@ pub fn prepare(
     boxes: &[u8],
     rows: &[u16],
     scratch: &mut [u8],
-    kind: Kind,
     closure: &mut [u64],
 ) -> Verdict
     requires sound_rows { early ≡ Verdict.Passed
-        → SoundRows boxes.now rows.now × (length boxes.now * row_bytes kind (length boxes.now) ≤ length scratch.old) }
+        → SoundRows boxes.now rows.now × (length boxes.now * length boxes.now ≤ length scratch.old) }
     requires closure_value { closure.old ≡ zeros closure_words }
     ensures value { (e : Option Refusal) → early ≡ verdict_of e
         → (result ≡ verdict_of (or_else e (loop_fault boxes.now rows.now)))
-        × (scratch.new ≡ scratch_after kind e boxes.now rows.now scratch.old) }
+        × (scratch.new ≡ scratch_after e boxes.now rows.now scratch.old) }
     ensures closure { result ≡ Verdict.Passed → Closure (length boxes.now) rows.now closure.new }
 {
     if let Verdict::Refused(r) = early {
         return Verdict::Refused(r);
     }
-    fill_both(boxes, rows, scratch, kind, closure)
+    fill_both(boxes, rows, scratch, closure)
 }

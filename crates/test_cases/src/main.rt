@@ -4,8 +4,6 @@
 //   p   a picture: its three tables, how many places of the scratch are lent, a mode, a user and a file, and how many places of
 //       the bytes and of the numbers are lent; for prepare, judge, one_entry and matrix
 //   l   the same for list, whose list is the numbers and whose work is the bytes
-//   s   as p, with small scratch
-//   t   as l, with small scratch
 //   h   the headings of a picture: its boxes and containments, and how many places of the users and of the files are lent; for
 //       atomic_boxes
 //   f   a block file, and how many places of the three tables are lent; for read, and for a block reader that moves on from

@@ -5,14 +5,12 @@ use case_text::{
     show_numbers, show_verdict,
 };
 use libc::STDOUT_FILENO;
-use scratch::{Ask, Kind};
 use tables::Verdict;
 
-// The call that a letter stands for, the kind of scratch, and what it is asked.
+// The call that a letter stands for, and what it is asked.
 #[derive(Drop)]
 struct Question {
     letter: u8,
-    kind: Kind,
     scratch: usize,
     mode: u16,
     user: u16,
@@ -21,7 +19,7 @@ struct Question {
     numbers: usize,
 }
 
-fn ask(letter: u8, kind: Kind) -> Question {
+fn ask(letter: u8) -> Question {
     let scratch = number();
     let mode = number();
     let user = number();
@@ -30,7 +28,6 @@ fn ask(letter: u8, kind: Kind) -> Question {
     let numbers = number();
     Question {
         letter,
-        kind,
         scratch: scratch.value,
         mode: low(mode.value),
         user: low(user.value),
@@ -41,10 +38,10 @@ fn ask(letter: u8, kind: Kind) -> Question {
 }
 
 // Checks 1 to 7, 9 for the scratch and 10.
-fn prepare(boxes: &[u8], rows: &[u16], arrows: &[u16], scratch: &mut [u8], kind: Kind) -> Verdict {
+fn prepare(boxes: &[u8], rows: &[u16], arrows: &[u16], scratch: &mut [u8]) -> Verdict {
     let mut closure = containment::closure_room();
-    let early = scratch::early_picture(boxes, rows, arrows, scratch, kind);
-    scratch::prepare(early, boxes, rows, scratch, kind, &mut closure)
+    let early = scratch::early_picture(boxes, rows, arrows, scratch);
+    scratch::prepare(early, boxes, rows, scratch, &mut closure)
 }
 
 // The call, with the places that are lent.
@@ -63,24 +60,22 @@ fn call(
     let scratch = &mut scratch[..s];
     let bytes = &mut bytes[..b];
     let numbers = &mut numbers[..n];
-    let kind = q.kind;
-    let ask = Ask { mode: q.mode, kind };
     let letter = q.letter;
     match letter {
         b'p' => {
-            show_verdict(prepare(boxes, rows, arrows, scratch, kind));
+            show_verdict(prepare(boxes, rows, arrows, scratch));
         }
         b'j' => {
-            show_verdict(answers::judge(boxes, rows, arrows, scratch, kind));
+            show_verdict(answers::judge(boxes, rows, arrows, scratch));
         }
         b'e' => {
-            show_reply(answers::one_entry(boxes, rows, arrows, scratch, q.user, q.file, ask));
+            show_reply(answers::one_entry(boxes, rows, arrows, scratch, q.user, q.file, q.mode));
         }
         b'm' => {
-            show_verdict(answers::matrix(boxes, rows, arrows, scratch, ask, bytes, numbers));
+            show_verdict(answers::matrix(boxes, rows, arrows, scratch, q.mode, bytes, numbers));
         }
         _ => {
-            show_listed(lists::list(boxes, rows, arrows, scratch, ask, numbers, bytes));
+            show_listed(lists::list(boxes, rows, arrows, scratch, q.mode, numbers, bytes));
         }
     }
 }
@@ -125,12 +120,7 @@ pub fn picture_case(letter: u8) {
     let b = byte_table(&mut boxes);
     let r = number_table(&mut rows);
     let a = number_table(&mut arrows);
-    let q = match letter {
-        b's' => ask(b'p', Kind::Small),
-        b't' => ask(b'l', Kind::Small),
-        _ => ask(letter, Kind::Large),
-    };
-    run_all(&boxes[..b], &rows[..r], &arrows[..a], q);
+    run_all(&boxes[..b], &rows[..r], &arrows[..a], ask(letter));
 }
 
 // Writes the headings into as many places of both buffers as the input says.

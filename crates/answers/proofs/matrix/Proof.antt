@@ -1,13 +1,12 @@
 -- `answers::matrix` meets its contract: the stage that all calls share refuses, or leaves the matrix a drawn picture. Assumes nothing.
-use mathlib.Core.Path.{◌≡◌, refl, sym, ◌∙◌}
+use mathlib.Core.Path.{◌≡◌, sym, ◌∙◌}
 use borrow.Author.Rules.{rules}
-use lib.ListN.{length}
 use Rattle.tables.specs.Rows.{Picture, picture}
 use Rattle.tables.specs.Refusals.{verdict_of}
 use mathlib.Core.Option.{Option}
 use Rattle.tables.specs.declared.Refusal.{Refusal}
 use Rattle.tables.specs.declared.Verdict.TheVariants.{Passed}
-use Rattle.scratch.specs.Kinds.{scratch_fault, scratch_after}
+use Rattle.scratch.specs.Scratch.{scratch_after}
 use Rattle.answers.specs.Calls.{matrix_early}
 use Rattle.answers.proofs.CallLaws.{Early, matrix-early, ready-asks, ready-drawn}
 use Rattle.answers.proofs.CallLaws.{matrix_ready, matrix-stopped, matrix-filled, matrix-rooms}
@@ -19,14 +18,11 @@ use Rattle.answers.proofs.matrix.Tie as tie
 abbrev pic : tie.Start → Picture
 pic start = picture start.args.boxes.now start.args.rows.now start.args.arrows.now
 
-abbrev room : tie.Start → Option Refusal
-room start = let a = start.args in scratch_fault a.ask.kind (length a.boxes.now) a.scratch.now
-
 abbrev early : tie.Start → Option Refusal
-early start = let a = start.args in matrix_early (pic start) (room start) a.ask.mode a.bytes.now a.numbers.now
+early start = let a = start.args in matrix_early (pic start) a.scratch.now a.mode a.bytes.now a.numbers.now
 
 abbrev all : tie.Start → Option Refusal
-all start = let a = start.args in matrix_ready (pic start) (room start) a.ask.mode a.bytes.now a.numbers.now
+all start = let a = start.args in matrix_ready (pic start) a.scratch.now a.mode a.bytes.now a.numbers.now
 
 abbrev start : tie.After-prepare → tie.Start
 start c = c.before.before.before.before.before.before.before.before.before.before.before.before.before.before
@@ -36,15 +32,15 @@ ready c = c.before.before.before.before.before
 
 -- ---- the stage that all calls share
 
-checked : (begin : tie.Start) → Early (pic begin) (room begin) (early begin)
+checked : (begin : tie.Start) → Early (pic begin) begin.args.scratch.now (early begin)
 checked begin =
     let a = begin.args in
-    matrix-early (pic begin) (room begin) a.ask.mode a.bytes.now a.numbers.now
+    matrix-early (pic begin) a.scratch.now a.mode a.bytes.now a.numbers.now
 
 prepare-requires : tie.Need-prepare-requires
 prepare-requires c κs =
     let begin = c.before.before.before.before.before.before.before.before.before.before.before.before.before in (
-      ready-asks (pic begin) (room begin) (early begin) (checked begin) begin.args.ask.kind begin.args.scratch.now refl c.before.before.early-matrix.result
+      ready-asks (pic begin) begin.args.scratch.now (early begin) (checked begin) c.before.before.early-matrix.result
           c.before.before.early-matrix.ensures,
       c.before.before.before.before.before.before.closure-room.ensures,
     )
@@ -54,7 +50,7 @@ prepared : (c : tie.After-prepare) →
     let begin = start c in
     let a = begin.args in
     (c.prepare.result ≡ verdict_of (all begin))
-    × (c.prepare.new.1.1.1.0 ≡ scratch_after a.ask.kind (early begin) a.boxes.now a.rows.now a.scratch.now)
+    × (c.prepare.new.1.1.1.0 ≡ scratch_after (early begin) a.boxes.now a.rows.now a.scratch.now)
 prepared c = c.prepare.ensures.0 (early (start c)) c.before.before.before.early-matrix.ensures
 
 returns : tie.Need-returns
@@ -63,7 +59,7 @@ returns c =
     let begin = start at-prepare in
     let a = begin.args in
     let p = prepared at-prepare in
-    let z = matrix-stopped (pic begin) (room begin) a.ask.mode a.bytes.now a.numbers.now _
+    let z = matrix-stopped (pic begin) a.scratch.now a.mode a.bytes.now a.numbers.now _
     (sym p.0 ∙ c.before.ready.given.1) in
     (z.0, (p.1, (z.1, z.2)))
 
@@ -78,8 +74,8 @@ fill-picture-requires c κs =
     let prepare = (ready told).prepare in
     let begin = start (ready told) in
     let a = begin.args in
-    let rooms = matrix-rooms (pic begin) (room begin) a.ask.mode a.bytes.now a.numbers.now (clear told) in (
-      ready-drawn (pic begin) (room begin) (early begin) (checked begin) prepare.result _ (prepared (ready told)).0
+    let rooms = matrix-rooms (pic begin) a.scratch.now a.mode a.bytes.now a.numbers.now (clear told) in (
+      ready-drawn (pic begin) a.scratch.now (early begin) (checked begin) prepare.result _ (prepared (ready told)).0
           prepare.ensures.1 told.enum_told.given.1,
       rooms.0,
       rooms.1,
@@ -90,7 +86,7 @@ returns-2 c =
     let told = c.before.before.before.before.before.before.before.before in
     let begin = start (ready told) in
     let a = begin.args in
-    let z = matrix-filled (pic begin) (room begin) a.ask.mode a.bytes.now a.numbers.now (clear told) in
+    let z = matrix-filled (pic begin) a.scratch.now a.mode a.bytes.now a.numbers.now (clear told) in
     let filled = c.before.before.before.before.fill-picture.ensures in
     (z.0, ((prepared (ready told)).1, (filled.0 ∙ z.1, filled.1 ∙ z.2)))
 

@@ -1,18 +1,15 @@
 -- `answers::one_entry` meets its contract: the stage that all calls share refuses, or leaves check 11 and the answer a drawn picture.
 -- Assumes nothing.
 use mathlib.Core.Path.{◌≡◌, refl, sym, ap, ap₂, ◌∙◌}
-use mathlib.Core.Option.{Option}
 use borrow.Author.Rules.{rules}
 use Rattle.tables.specs.Rows.{Picture, picture}
 use Rattle.tables.specs.Refusals.{verdict_of}
 use Prim.Native.Nat.{ℕ, ◌<◌}
 use native.Mathlib.Omega.{arith}
 use lib.ListN.{length}
-use Rattle.tables.specs.declared.Refusal.{Refusal}
 use Rattle.tables.specs.declared.Verdict.TheVariants.{Passed}
 use Rattle.tables.proofs.Verdicts.{passed}
-use Rattle.scratch.specs.Scratch.{mode_early}
-use Rattle.scratch.specs.Kinds.{scratch_fault, scratch_after}
+use Rattle.scratch.specs.Scratch.{scratch_after, mode_early}
 use Rattle.meaning.specs.Meaning.{answer}
 use Rattle.meaning.specs.declared.Entry.{Entry}
 use Rattle.certificates.specs.Steps.{Drawn}
@@ -29,11 +26,8 @@ use Rattle.answers.proofs.one_entry.Tie as tie
 abbrev pic : tie.Start → Picture
 pic start = picture start.args.boxes.now start.args.rows.now start.args.arrows.now
 
-abbrev room : tie.Start → Option Refusal
-room start = let a = start.args in scratch_fault a.ask.kind (length a.boxes.now) a.scratch.now
-
 abbrev said : tie.Start → Entry
-said start = answer (pic start) start.args.ask.mode start.args.u start.args.f
+said start = answer (pic start) start.args.mode start.args.u start.args.f
 
 abbrev start : tie.After-prepare → tie.Start
 start c = c.before.before.before.before.before.before.before.before.before.before
@@ -49,9 +43,9 @@ clear c = c.before.before.before
 prepare-requires : tie.Need-prepare-requires
 prepare-requires c κs =
     let begin = c.before.before.before.before.before.before.before.before.before in
-    let r = room begin in
-    let m = begin.args.ask.mode in (
-      ready-asks (pic begin) r (mode_early (pic begin) r m) (mode-early (pic begin) r m) begin.args.ask.kind begin.args.scratch.now refl c.before.before.early-entry.result
+    let s = begin.args.scratch.now in
+    let m = begin.args.mode in (
+      ready-asks (pic begin) s (mode_early (pic begin) s m) (mode-early (pic begin) s m) c.before.before.early-entry.result
           c.before.before.early-entry.ensures,
       c.before.before.before.before.closure-room.ensures,
     )
@@ -60,12 +54,12 @@ prepare-requires c κs =
 prepared : (c : tie.After-prepare) →
     let begin = start c in
     let a = begin.args in
-    (c.prepare.result ≡ verdict_of (entry_ready (pic begin) (room begin) a.ask.mode a.u a.f (said begin)))
+    (c.prepare.result ≡ verdict_of (entry_ready (pic begin) a.scratch.now a.mode a.u a.f (said begin)))
     × (c.prepare.new.1.1.1.0
-    ≡ scratch_after a.ask.kind (mode_early (pic begin) (room begin) a.ask.mode) a.boxes.now a.rows.now a.scratch.now)
+    ≡ scratch_after (mode_early (pic begin) a.scratch.now a.mode) a.boxes.now a.rows.now a.scratch.now)
 prepared c =
     let a = (start c).args in
-    c.prepare.ensures.0 (mode_early (pic (start c)) (room (start c)) a.ask.mode) c.before.before.before.early-entry.ensures
+    c.prepare.ensures.0 (mode_early (pic (start c)) a.scratch.now a.mode) c.before.before.before.early-entry.ensures
 
 returns : tie.Need-returns
 returns c =
@@ -73,17 +67,17 @@ returns c =
     let begin = start at-prepare in
     let a = begin.args in
     let p = prepared at-prepare in (
-      entry-stopped (pic begin) (room begin) a.ask.mode a.u a.f (said begin) _ (sym p.0 ∙ c.before.ready.given.1),
+      entry-stopped (pic begin) a.scratch.now a.mode a.u a.f (said begin) _ (sym p.0 ∙ c.before.ready.given.1),
       p.1,
     )
 
-drawn : (c : tie.After-enum-told) → Drawn (pic (start (ready c))) (ready c).prepare.new.1.1.1.1.1.0
+drawn : (c : tie.After-enum-told) → Drawn (pic (start (ready c))) (ready c).prepare.new.1.1.1.1.0
 drawn c =
     let prepare = (ready c).prepare in
     let begin = start (ready c) in
-    let r = room begin in
-    let m = begin.args.ask.mode in
-    ready-drawn (pic begin) r (mode_early (pic begin) r m) (mode-early (pic begin) r m) prepare.result _ (prepared (ready c)).0
+    let s = begin.args.scratch.now in
+    let m = begin.args.mode in
+    ready-drawn (pic begin) s (mode_early (pic begin) s m) (mode-early (pic begin) s m) prepare.result _ (prepared (ready c)).0
     prepare.ensures.1 c.enum_told.given.1
 
 -- ---- check 11
@@ -102,7 +96,7 @@ returns-2 c =
     let begin = start (ready told) in
     let a = begin.args in
     let p = prepared (ready told) in (
-      entry-not-asked (pic begin) (room begin) a.ask.mode a.u a.f (said begin) (sym p.0 ∙ told.enum_told.given.1) _
+      entry-not-asked (pic begin) a.scratch.now a.mode a.u a.f (said begin) (sym p.0 ∙ told.enum_told.given.1) _
           (sym (asked c.before.before.before) ∙ c.before.asked.given.1),
       p.1,
     )
@@ -143,7 +137,7 @@ returns-3 c =
     let ef = c.before.wide4.ensures in
     let is = c.answer-pair.ensures (pic (begin told)) (drawn passed-early) refl (rw eu (there told).0) (rw ef (there told).1) in (
       ap Answered (is ∙ rw (eu, ef))
-          ∙ entry-answered (pic (begin told)) (room (begin told)) a.ask.mode a.u a.f (said (begin told))
+          ∙ entry-answered (pic (begin told)) a.scratch.now a.mode a.u a.f (said (begin told))
           (sym p.0 ∙ passed-early.enum_told.given.1) (asked-passed told),
       p.1,
     )

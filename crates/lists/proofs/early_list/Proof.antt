@@ -1,12 +1,10 @@
 -- `lists::early_list` meets its contract: checks 1 to 7 refuse, or leave 8 and 9 their facts. Assumes nothing.
 use mathlib.Core.Path.{sym, ◌∙◌}
 use borrow.Author.Rules.{rules}
-use lib.ListN.{length}
 use Rattle.tables.specs.Steps.{SoundRows}
 use Rattle.tables.proofs.TableLaws.{sound-rows}
 use Rattle.tables.proofs.Verdicts.{passed}
 use Rattle.tables.specs.Rows.{picture}
-use Rattle.scratch.specs.Kinds.{scratch_fault}
 use Rattle.list_meaning.proofs.CallLaws.{early-refused, early-passed}
 use Rattle.lists.proofs.early_list.Statement.{statement}
 use Rattle.lists.proofs.early_list.Tie as tie
@@ -14,8 +12,7 @@ use Rattle.lists.proofs.early_list.Tie as tie
 returns : tie.Need-returns
 returns c =
     let a = c.before.before.before.before.before.before.before.before.before.before.args in
-    early-refused (picture a.boxes.now a.rows.now a.arrows.now) a.ask.mode
-    (scratch_fault a.ask.kind (length a.boxes.now) a.scratch.now) a.out.now a.work.now _
+    early-refused (picture a.boxes.now a.rows.now a.arrows.now) a.mode a.scratch.now a.out.now a.work.now _
     (sym c.before.before.before.check.ensures ∙ c.before.tables.given.1)
 
 sound : (c : tie.After-enum-told) →
@@ -48,8 +45,7 @@ returns-2 c =
       at_room.before.before.or_else.ensures,
       at-scratch.check-scratch.ensures,
       at-scratch.before.check-mode.ensures,
-    ) (early-passed (picture a.boxes.now a.rows.now a.arrows.now) a.ask.mode
-    (scratch_fault a.ask.kind (length a.boxes.now) a.scratch.now) a.out.now a.work.now
+    ) (early-passed (picture a.boxes.now a.rows.now a.arrows.now) a.mode a.scratch.now a.out.now a.work.now
     (sym told.before.before.check.ensures ∙ told.enum_told.given.1))
 
 pub early-list-spec : {M : Type 1} → statement M

@@ -1,17 +1,17 @@
--- `scratch::check_scratch` meets its contract: one fault, and the length fits where n is at most 256. Assumes nothing.
+-- `scratch::check_scratch` meets its contract: one fault, and n × n fits where n is at most 256. Assumes nothing.
 use native.Mathlib.Nat.{mul-le-mul}
 use native.Mathlib.Omega.{arith}
 use borrow.Author.Rules.{rules}
-use Rattle.scratch.specs.Kinds.{scratch_fault}
+use Rattle.scratch.specs.Scratch.{scratch_fault}
 use Rattle.scratch.proofs.check_scratch.Statement.{statement}
 use Rattle.scratch.proofs.check_scratch.Tie as tie
 
 mul-check-room : tie.Need-overflow-mul-check-room
-mul-check-room c = omega (arith, mul-le-mul c.before.before.before.requires c.row-bytes.ensures.1)
+mul-check-room c = omega (arith, mul-le-mul c.before.before.requires c.before.before.requires)
 
 returns : tie.Need-returns
 unfolding scratch_fault
-returns c = rw c.before.row-bytes.ensures.0 at c.check-room.ensures
+returns c = c.check-room.ensures
 
 pub check-scratch-spec : {M : Type 1} → statement M
-check-scratch-spec = tie.close (tie.spec (λ c κs. search rules) mul-check-room (λ c κs. search rules) returns)
+check-scratch-spec = tie.close (tie.spec mul-check-room (search rules) returns)

@@ -11,7 +11,7 @@ use Rattle.scratch.proofs.prepare.Tie as tie
 returns : tie.Need-returns
 returns c =
     let a = c.before.before.before.before.before.before.before.args in (
-      ends-refused a.kind a.boxes.now a.rows.now a.scratch.now a.early _ c.before.early.given.1,
+      ends-refused a.boxes.now a.rows.now a.scratch.now a.early _ c.before.early.given.1,
       λ e. let z : ◌≡◌ {A = ℕ} 0 1 = cc in absurd (omega arith),
     )
 
@@ -34,7 +34,7 @@ returns-2 c =
     let done = c.before.before.before.before in
     let told = done.before.before.before in
     let a = (start told).args in (
-      ends-filled a.kind a.boxes.now a.rows.now a.scratch.now a.early (passed told) done.fill-both.result done.fill-both.new.1.1.0
+      ends-filled a.boxes.now a.rows.now a.scratch.now a.early (passed told) done.fill-both.result done.fill-both.new.1.1.0
           done.fill-both.ensures.0 done.fill-both.ensures.1.0,
       λ e. done.fill-both.ensures.1.1,
     )

@@ -2,12 +2,10 @@
 use mathlib.Core.Path.{◌≡◌, sym, ◌∙◌}
 use mathlib.Core.Option.{none}
 use borrow.Author.Rules.{rules}
-use lib.ListN.{length}
 use Rattle.tables.specs.Rows.{picture}
 use Rattle.tables.specs.Faults.{table_fault}
 use Rattle.tables.proofs.TableLaws.{sound-rows}
 use Rattle.tables.proofs.Verdicts.{passed}
-use Rattle.scratch.specs.Kinds.{scratch_fault}
 use Rattle.scratch.proofs.PictureLaws.{mode-refused, mode-passed}
 use Rattle.answers.proofs.early.early_entry.Statement.{statement}
 use Rattle.answers.proofs.early.early_entry.Tie as tie
@@ -15,7 +13,7 @@ use Rattle.answers.proofs.early.early_entry.Tie as tie
 returns : tie.Need-returns
 returns c =
     let a = c.before.before.before.before.before.before.before.before.args in
-    mode-refused (picture a.boxes.now a.rows.now a.arrows.now) (scratch_fault a.ask.kind (length a.boxes.now) a.scratch.now) a.ask.mode _
+    mode-refused (picture a.boxes.now a.rows.now a.arrows.now) a.scratch.now a.mode _
     (sym c.before.before.before.check.ensures ∙ c.before.tables.given.1)
 
 tabled : (c : tie.After-enum-told) →
@@ -33,7 +31,7 @@ returns-2 c =
     let told = c.before.before.before in
     let a = told.before.before.before.before.before.before.before.args in
     rw (c.or_else.ensures, c.before.before.check-mode.ensures, c.before.check-scratch.ensures)
-    (mode-passed (picture a.boxes.now a.rows.now a.arrows.now) (scratch_fault a.ask.kind (length a.boxes.now) a.scratch.now) a.ask.mode
+    (mode-passed (picture a.boxes.now a.rows.now a.arrows.now) a.scratch.now a.mode
     (sym told.before.before.check.ensures ∙ told.enum_told.given.1))
 
 pub early-entry-spec : {M : Type 1} → statement M

@@ -7,7 +7,6 @@ use Rattle.tables.proofs.TableLaws.{sound-rows}
 use Rattle.tables.proofs.Verdicts.{passed}
 use Rattle.tables.specs.Atoms.{pair_count}
 use Rattle.tables.specs.Steps.{SoundRows}
-use Rattle.scratch.specs.Kinds.{scratch_fault}
 use Rattle.scratch.proofs.PictureLaws.{rooms-refused, rooms-passed}
 use Rattle.answers.specs.Calls.{matrix_early}
 use lib.ListN.{length}
@@ -18,7 +17,7 @@ returns : tie.Need-returns
 unfolding matrix_early
 returns c =
     let a = c.before.before.before.before.before.before.before.before.before.before.args in
-    rooms-refused (picture a.boxes.now a.rows.now a.arrows.now) (scratch_fault a.ask.kind (length a.boxes.now) a.scratch.now) a.ask.mode _ _ _
+    rooms-refused (picture a.boxes.now a.rows.now a.arrows.now) a.scratch.now a.mode _ _ _
     (sym c.before.before.before.check.ensures ∙ c.before.tables.given.1)
 
 sound : (c : tie.After-enum-told) →
@@ -51,7 +50,7 @@ returns-2 c =
       c.before.before.before.before.before.check-scratch.ensures,
       at-mode.check-mode.ensures,
       at-mode.before.pair-count.ensures,
-    ) (rooms-passed (picture a.boxes.now a.rows.now a.arrows.now) (scratch_fault a.ask.kind (length a.boxes.now) a.scratch.now) a.ask.mode
+    ) (rooms-passed (picture a.boxes.now a.rows.now a.arrows.now) a.scratch.now a.mode
     (room_fault 1 (length a.bytes.now) pairs) (room_fault 2 (length a.numbers.now) pairs)
     (sym told.before.before.check.ensures ∙ told.enum_told.given.1))
 

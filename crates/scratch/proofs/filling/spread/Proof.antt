@@ -4,12 +4,11 @@ use Prim.Native.Nat.{◌*◌, ◌-◌, ◌≤◌}
 use native.Mathlib.Omega.{arith}
 use borrow.Author.Rules.{rules}
 use lib.ListN.{length}
-use Rattle.base.proofs.GridLaws.{cleared-rest}
 use Rattle.base.proofs.Index.{row_step}
 use Rattle.boxsets.specs.Sets.{is_in}
 use Rattle.boxsets.specs.declared.Set.{Set}
 use Rattle.scratch.specs.Steps.{Ones, Room}
-use Rattle.scratch.proofs.SpreadLaws.{Spread, spread-begins, spread_row, spread-ends, row_room}
+use Rattle.scratch.proofs.SpreadLaws.{Spread, cleared-rest, spread-begins, spread_row, spread-ends, row_room}
 use Rattle.scratch.proofs.filling.spread.Statement.{statement}
 use Rattle.scratch.proofs.filling.spread.Tie as tie
 
@@ -27,7 +26,7 @@ module _ (c : tie.After-clear invariant-loop decreases-loop) where
   len : length c.clear.new.0 ≡ length start.args.scratch.now
   len =
       let a = start.args in
-      (cleared-rest (a.n * a.n) a.scratch.now c.clear.new.0 start.pre.2 c.clear.ensures).len
+      (cleared-rest a.n a.closure.now a.scratch.now c.clear.new.0 start.pre.2 c.clear.ensures).len
 
 loop-holds : tie.Need-loop-init invariant-loop decreases-loop
 loop-holds c =

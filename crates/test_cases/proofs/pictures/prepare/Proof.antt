@@ -1,9 +1,8 @@
 -- `test_cases::pictures::prepare`: where the early checks pass, the tables are sound and the scratch suffices. Assumes nothing.
 use mathlib.Core.Path.{sym, ◌∙◌}
 use borrow.Author.Rules.{rules}
-use Rattle.tables.specs.Rows.{picture}
 use Rattle.tables.proofs.Verdicts.{passed}
-use Rattle.scratch.proofs.PictureLaws.{stage-asks, early-parts}
+use Rattle.scratch.proofs.PictureLaws.{early-prepared}
 use Rattle.test_cases.proofs.pictures.prepare.Statement.{statement}
 use Rattle.test_cases.proofs.pictures.prepare.Tie as tie
 
@@ -12,9 +11,9 @@ prepare-requires c κs =
     let start = c.before.before.before.before.before.before.before.before.before in
     let a = start.args in (
       λ p.
-          let pic = picture a.boxes.now a.rows.now a.arrows.now in
-          let parts = early-parts pic _ (passed _ (sym c.before.before.early-picture.ensures ∙ p)) in
-          stage-asks pic a.kind a.scratch.now parts.0 parts.1,
+          let ready = early-prepared a.boxes.now a.rows.now a.arrows.now a.scratch.now
+          (passed _ (sym c.before.before.early-picture.ensures ∙ p)) in
+          (ready.rows-sound, ready.room),
       c.before.before.before.before.closure-room.ensures,
     )
 

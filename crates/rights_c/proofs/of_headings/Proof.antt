@@ -1,7 +1,7 @@
--- `rights_c::replies::of_headings` meets its contract: both cases. Assumes nothing.
+-- `rights_c::of_headings` meets its contract: both cases. Assumes nothing.
 use borrow.Author.Rules.{rules}
-use Rattle.rights_c.proofs.replies.of_headings.Statement.{statement}
-use Rattle.rights_c.proofs.replies.of_headings.Tie as tie
+use Rattle.rights_c.proofs.of_headings.Statement.{statement}
+use Rattle.rights_c.proofs.of_headings.Tie as tie
 
 returns : tie.Need-returns
 returns c = rw (c.done.ensures, c.before.before.h.given.1)

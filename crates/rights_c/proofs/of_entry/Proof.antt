@@ -1,6 +1,6 @@
 use borrow.Author.Rules.{rules}
-use Rattle.rights_c.proofs.replies.of_entry.Statement.{statement}
-use Rattle.rights_c.proofs.replies.of_entry.Tie as tie
+use Rattle.rights_c.proofs.of_entry.Statement.{statement}
+use Rattle.rights_c.proofs.of_entry.Tie as tie
 
 returns : tie.Need-returns
 returns c = rw (c.shown.ensures, c.before.before.e.given.1)

@@ -1,6 +1,6 @@
 use borrow.Author.Rules.{rules}
-use Rattle.rights_c.proofs.replies.of_reading.Statement.{statement}
-use Rattle.rights_c.proofs.replies.of_reading.Tie as tie
+use Rattle.rights_c.proofs.of_reading.Statement.{statement}
+use Rattle.rights_c.proofs.of_reading.Tie as tie
 
 returns : tie.Need-returns
 returns c = rw (c.done.ensures, c.before.before.x.given.1)

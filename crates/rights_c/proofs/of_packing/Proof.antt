@@ -1,13 +1,13 @@
 use borrow.Author.Rules.{rules}
-use Rattle.rights_c.proofs.replies.of_asked.Statement.{statement}
-use Rattle.rights_c.proofs.replies.of_asked.Tie as tie
+use Rattle.rights_c.proofs.of_packing.Statement.{statement}
+use Rattle.rights_c.proofs.of_packing.Tie as tie
 
 returns : tie.Need-returns
-returns c = rw (c.of_entry.ensures, c.before.before.x.given.1)
+returns c = rw (c.done.ensures, c.before.before.x.given.1)
 
 returns-2 : tie.Need-returns-2
 returns-2 c = rw (c.of-refusal.ensures, c.before.before.x2.given.1)
 
-pub of-asked-spec : {M : Type 1} → statement M
-of-asked-spec =
+pub of-packing-spec : {M : Type 1} → statement M
+of-packing-spec =
     tie.close (tie.spec (search rules) (λ c κs. search rules) (search rules) (λ c κs. search rules) returns returns-2)

@@ -1,6 +1,6 @@
 use borrow.Author.Rules.{rules}
-use Rattle.rights_c.proofs.replies.of_verdict.Statement.{statement}
-use Rattle.rights_c.proofs.replies.of_verdict.Tie as tie
+use Rattle.rights_c.proofs.of_verdict.Statement.{statement}
+use Rattle.rights_c.proofs.of_verdict.Tie as tie
 
 returns : tie.Need-returns
 returns c = rw (c.done.ensures, c.before.enum_told.given.1)

@@ -1,6 +1,6 @@
 use borrow.Author.Rules.{rules}
-use Rattle.rights_c.proofs.replies.of_list.Statement.{statement}
-use Rattle.rights_c.proofs.replies.of_list.Tie as tie
+use Rattle.rights_c.proofs.of_list.Statement.{statement}
+use Rattle.rights_c.proofs.of_list.Tie as tie
 
 returns : tie.Need-returns
 returns c = rw (c.done.ensures, c.before.before.l.given.1)
