@@ -1,5 +1,7 @@
 // The calls on a picture: one entry, the judge, the matrix of a mode. Each makes its early checks, then `scratch::prepare`, which fills
 // the scratch and makes the closure that the answers go by.
+#![tactic(auto)]
+
 mod early;
 mod pair;
 

@@ -1,4 +1,6 @@
 // Which boxes of a picture are atomic, and how many pairs they make.
+#![tactic(auto)]
+
 ghost use Rattle.std.specs.Prelude.{◌≡◌, not, ◌&&◌, [], ℕ, ◌*◌, ◌/◌, ◌%◌, ◌<◌, ◌≤◌, length, get_or};
 ghost use Rattle.base.specs.Search.{select};
 ghost use Rattle.base.specs.Buffers.{written, zeros};

@@ -1,4 +1,6 @@
 // What every crate needs and knows nothing of pictures: numbers of 16 bits, and lent places that are filled.
+#![tactic(auto)]
+
 ghost use Rattle.std.specs.Prelude.{◌≡◌, ◌<◌, ◌≤◌, length, replicate};
 ghost use Rattle.base.specs.Buffers.{written, zeros};
 

@@ -1,4 +1,6 @@
 // Rows of bits in bytes that are lent: a table of sets, one row a set, each row rounded up to bytes.
+#![tactic(auto)]
+
 ghost use Rattle.std.specs.Prelude.{◌≡◌, ◌+◌, ◌*◌, ◌≤◌, length};
 ghost use Rattle.base.specs.Buffers.{grid, written};
 ghost use Rattle.boxsets.specs.Sets.{has};

@@ -1,4 +1,6 @@
 // The parts of a block written into a file: its head, its records, by a walk over the rows of their kind, its filler and its check.
+#![tactic(auto)]
+
 mod put;
 mod records;
 

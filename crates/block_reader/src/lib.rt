@@ -1,4 +1,6 @@
 // The reader of blocks: the caller's bytes together with a place, and what stands there.
+#![tactic(auto)]
+
 mod reader;
 
 use blocks::Head;

@@ -1,4 +1,6 @@
 // Block files: the check of a block, what a block says, and what reading a file answers.
+#![tactic(auto)]
+
 mod bytes;
 mod fnv;
 mod verify;

@@ -1,5 +1,7 @@
 // Sets of numbers below 256, as structs of four words by value. A set's numbers are those of boxes throughout, but nothing here knows
 // of boxes.
+#![tactic(auto)]
+
 ghost use Rattle.std.specs.Prelude.{◌≡◌, false, not, ◌&&◌, ◌||◌, ℕ, ◌<◌, T, eqb, length, get_or};
 ghost use Rattle.std.proofs.Math.Option.{some};
 ghost use Rattle.base.specs.Search.{lowest};

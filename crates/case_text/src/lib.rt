@@ -1,5 +1,7 @@
 // The text of the test program's cases, whatever calls they are for: how numbers and tables are read from standard input, how buffers and
 // refusals are written to standard output, and the buffers that the calls are lent.
+#![tactic(auto)]
+
 mod buffers;
 mod reading;
 mod writing;

@@ -1,4 +1,6 @@
 // The cells of one row of the matrix: the byte and the number of each file.
+#![tactic(auto)]
+
 ghost use Rattle.std.specs.Prelude.{◌≡◌, ◌+◌, ◌<◌, ◌≤◌, length, get_or};
 ghost use Rattle.boxsets.specs.Sets.{Boxes};
 ghost use Rattle.cells.specs.Steps.{byte_in, Emitted};

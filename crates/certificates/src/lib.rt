@@ -2,6 +2,8 @@
 //
 // In what follows `closure` is the table of containment (crate `containment`): set b has the boxes that b is or contains, set 256 + b those
 // that are b or contain it. `heads` is what `mode_sets::take_mode` makes of the arrows of a mode.
+#![tactic(auto)]
+
 ghost use Rattle.std.specs.Prelude.{◌≡◌, Bool, not, ◌&&◌, ℕ, ◌+◌, ◌*◌, ◌<◌, ◌≤◌, T, length};
 ghost use Rattle.base.specs.Steps.{any_below};
 ghost use Rattle.tables.specs.Rows.{Picture};

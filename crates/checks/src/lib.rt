@@ -1,4 +1,6 @@
 // Checks 1 to 7 on the three tables of a picture, 8 of an asked mode, and 9 for one buffer.
+#![tactic(auto)]
+
 ghost use Rattle.std.specs.Prelude.{◌≡◌, ◌&&◌, ◌/◌, ◌%◌, ◌<◌, ◌≤◌};
 ghost use Rattle.tables.specs.Rows.{picture};
 ghost use Rattle.tables.specs.Refusals.{verdict_of};

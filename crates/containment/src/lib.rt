@@ -1,4 +1,6 @@
 // Which box contains which, as sets of boxes for the layers above: how they are filled, and check 10.
+#![tactic(auto)]
+
 mod closing;
 
 ghost use Rattle.std.specs.Prelude.{◌≡◌, ◌≤◌, length};

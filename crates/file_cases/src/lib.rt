@@ -1,4 +1,6 @@
 // The cases of block files for the test program: read, packed, and their check.
+#![tactic(auto)]
+
 mod replies;
 
 use blocks::Check;

@@ -1,4 +1,6 @@
 // The headings of the matrix: the atomic users, which are its rows, and the atomic files, which are its columns.
+#![tactic(auto)]
+
 ghost use Rattle.std.specs.Prelude.{◌≡◌, ◌≤◌, length, take};
 ghost use Rattle.base.specs.Buffers.{written};
 ghost use Rattle.headings.specs.Calls.{headings_of, heading_fault, users_after, files_after};

@@ -1,4 +1,6 @@
 // Judging: the first unclear pair of a mode, and of all modes.
+#![tactic(auto)]
+
 mod atom_sets;
 
 ghost use Rattle.std.specs.Prelude.{◌≡◌, ◌&&◌, ℕ, ◌<◌, length};

@@ -1,4 +1,6 @@
 // A line of the listing (document 01, "The program's listing"), as a value and as bytes.
+#![tactic(auto)]
+
 ghost use Rattle.std.specs.Prelude.{[], ◌∷◌, ◌++◌, ◌+◌, ◌≤◌, length};
 ghost use Rattle.lines.specs.Text.{text, decimal, line};
 ghost use Rattle.lines.specs.Lines.{answer_fields, three_fields, line_text};

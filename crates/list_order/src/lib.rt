@@ -1,6 +1,8 @@
 // How the list of a mode is found, on sets: arrow after arrow, by how each stands to the list so far. For each user `left` has the files
 // that the list does not reach yet, `granted` those that are granted. `closure` is the table of containment, `own` the mode's arrows
 // without repeats: a repeat never reaches anything new.
+#![tactic(auto)]
+
 ghost use Rattle.std.specs.Prelude.{◌≡◌, [], ℕ, ◌≤◌, ◌<◌, length};
 ghost use Rattle.base.specs.Buffers.{zeros};
 ghost use Rattle.tables.specs.Rows.{Picture, arrow_count, arrow_at};

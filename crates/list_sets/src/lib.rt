@@ -1,5 +1,7 @@
 // The sets that the list of a mode is found from: for each user the granted files, by check 12, and all files. And what the list leaves of
 // them at the end, which is check 13.
+#![tactic(auto)]
+
 ghost use Rattle.std.specs.Prelude.{◌≡◌, List, [], ℕ, ◌<◌, ◌≤◌, length, get_or};
 ghost use Rattle.base.specs.Buffers.{written, zeros};
 ghost use Rattle.tables.specs.Refusals.{verdict_of};

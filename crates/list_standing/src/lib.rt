@@ -1,4 +1,6 @@
 // How an arrow stands to the list, on sets: for each user the files that the list does not reach yet (`left`) and those that are granted.
+#![tactic(auto)]
+
 ghost use Rattle.std.specs.Prelude.{◌≡◌, not, cond, ◌&&◌, ℕ, ◌<◌, eqb, length};
 ghost use Rattle.tables.specs.Rows.{arrow_count, arrow_at};
 ghost use Rattle.boxsets.specs.Sets.{is_in, in_word, has, table_words};

@@ -1,5 +1,7 @@
 // The program's listing as bytes (document 01, "The program's listing"): which lines there are, and how they are written into a
 // buffer that the caller lends.
+#![tactic(auto)]
+
 mod row;
 
 ghost use Rattle.std.specs.Prelude.{◌≡◌, ◌+◌, ◌*◌, ◌<◌, ◌≤◌, length};

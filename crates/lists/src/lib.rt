@@ -1,4 +1,6 @@
 // The first-match list of a mode.
+#![tactic(auto)]
+
 mod stages;
 
 ghost use Rattle.std.specs.Prelude.{◌≡◌, ℕ, ◌≤◌, length};

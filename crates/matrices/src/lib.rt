@@ -1,4 +1,6 @@
 // The matrix of a mode, row by row.
+#![tactic(auto)]
+
 ghost use Rattle.std.specs.Prelude.{◌≡◌, ◌*◌, ◌≤◌, length};
 ghost use Rattle.base.specs.Buffers.{written};
 ghost use Rattle.tables.specs.Rows.{Picture, picture, user, file};

@@ -1,4 +1,6 @@
 // What a picture says of a pair: the four answers, and what each is in the matrix.
+#![tactic(auto)]
+
 ghost use Rattle.std.specs.Prelude.{◌≡◌};
 ghost use Rattle.meaning.specs.Steps.{granting_of};
 

@@ -1,5 +1,7 @@
 // The arrows of a mode as sets: set 256 × sign + t of a table has the heads of its arrows of that sign from tail t, set 512 + sign has
 // their tails. An arrow whose ends and sign an earlier one has changes no answer and is passed over.
+#![tactic(auto)]
+
 ghost use Rattle.std.specs.Prelude.{◌≡◌, ◌+◌, ◌<◌, ◌≤◌, length};
 ghost use Rattle.base.specs.Buffers.{written, zeros};
 ghost use Rattle.mode_sets.specs.Mode.{own_arrows};

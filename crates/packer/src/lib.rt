@@ -1,4 +1,6 @@
 // Packs a picture into a block file: blocks of each kind full but the last, none empty but the one of a picture without boxes.
+#![tactic(auto)]
+
 ghost use Rattle.std.specs.Prelude.{◌≡◌, ◌+◌, ◌*◌, ◌^◌, ◌<◌, length};
 ghost use Rattle.std.proofs.lemmas.List.Edits.{sets};
 ghost use Rattle.tables.specs.Rows.{picture};

@@ -1,4 +1,6 @@
 // What it is to pack a picture: the one regular block file, and what the call answers.
+#![tactic(auto)]
+
 use tables::Refusal;
 
 // What packing answers: the file's length, or a refusal.

@@ -1,6 +1,8 @@
 // Reads one block file, from standard input or by its name, and writes its listing (document 01, "The program's listing"). Which
 // bytes these are is promised by `listing`; here they only come in and go out. A failure of reading or writing gives a line on
 // standard error: a failed read gives no listing, and after a failed write nothing more goes out.
+#![tactic(auto)]
+
 ghost use Rattle.std.specs.Prelude.{◌≡◌, ◌*◌, ◌≤◌, length, take};
 ghost use Rattle.base.specs.Buffers.{zeros};
 ghost use Rattle.tables.specs.Rows.{picture};

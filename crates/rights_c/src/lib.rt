@@ -1,5 +1,7 @@
 // The calls across the C boundary (`include/rights.h`): numbers and slices in, one reply out. A slice passes as a pointer and then
 // a length in elements.
+#![tactic(auto)]
+
 ghost use Rattle.std.specs.Prelude.{◌≡◌, ◌*◌, length};
 ghost use Rattle.base.specs.Search.{or_else};
 ghost use Rattle.tables.specs.Rows.{picture, user as user_side, file as file_side};

@@ -1,5 +1,7 @@
 // The bytes that the caller lends, n × n of them for n boxes: which box contains which, and which of it is drawn; and the stage that
 // every call shares.
+#![tactic(auto)]
+
 mod filling;
 
 ghost use Rattle.std.specs.Prelude.{◌≡◌, ◌*◌, ◌≤◌, length};

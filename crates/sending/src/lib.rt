@@ -1,5 +1,7 @@
 // How the listing goes to standard output, a buffer at a time. No contract can speak of what is written. So the one function that writes
 // takes and answers the running check of what went out, and this is promised: unless a write failed, it is the check of the listing.
+#![tactic(auto)]
+
 ghost use Rattle.std.specs.Prelude.{◌≡◌, false};
 ghost use Rattle.tables.specs.Rows.{picture};
 ghost use Rattle.blocks.specs.Fnv.{fnv_fold};

@@ -1,4 +1,6 @@
 // Tables of sets: set r has the four words from place 4 × r on.
+#![tactic(auto)]
+
 ghost use Rattle.std.specs.Prelude.{◌≡◌, ◌&&◌, ◌||◌, ℕ, ◌+◌, ◌*◌, ◌<◌, ◌≤◌, length};
 ghost use Rattle.base.specs.Steps.{any_below};
 ghost use Rattle.boxsets.specs.Sets.{is_in, in_word, set_at, has, Put, Added, Joins};

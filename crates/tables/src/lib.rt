@@ -1,4 +1,6 @@
 // The three lent tables of a picture: their rows, the side of a box, and the one type of refusal.
+#![tactic(auto)]
+
 mod sides;
 
 ghost use Rattle.std.specs.Prelude.{◌≡◌, ◌+◌, ◌*◌, ◌<◌};

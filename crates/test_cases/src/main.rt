@@ -12,6 +12,8 @@
 //   c   bytes, for their check
 // Every buffer has 65,600 places, which hold 170 or 43690 before each call. What is written is the label and a line for each call:
 // what it answers, and then what every place of every buffer holds, as in a table.
+#![tactic(auto)]
+
 mod pictures;
 mod replies;
 

@@ -2,6 +2,8 @@
 // user is answered once, wherever its users stand.
 //
 // `closure` and `heads` are those of crate `user_rows`.
+#![tactic(auto)]
+
 ghost use Rattle.std.specs.Prelude.{◌≡◌, ℕ, ◌+◌, ◌<◌, ◌≤◌, length, get_or};
 ghost use Rattle.base.specs.Buffers.{zeros};
 ghost use Rattle.tables.specs.Rows.{Picture, user};

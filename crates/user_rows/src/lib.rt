@@ -3,6 +3,8 @@
 //
 // In what follows `closure` is the table of containment (crate `containment`): set b has the boxes that b is or contains, set 256 + b those
 // that are b or contain it. `heads` and `own` are what `mode_sets::take_mode` makes of the arrows of a mode.
+#![tactic(auto)]
+
 mod walk;
 
 use boxsets::Set;

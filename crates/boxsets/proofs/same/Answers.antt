@@ -4,8 +4,7 @@ use mathlib.Core.Bool.{Bool, ◌&&◌}
 use lib.Dec.{T, eqb, eqb→eq, eqb_refl}
 use Rattle.base.proofs.Tests.{and_T, T_and}
 use Rattle.boxsets.specs.declared.Set.{Set}
-use Rattle.boxsets.proofs.same.Statement.{statement}
-use Rattle.boxsets.proofs.same.Tie as tie
+use Rattle.boxsets.proofs.same.Goals as goal
 
 abbrev same-words : (x y : Set) → Bool
 same-words x y = ((eqb x.a y.a && eqb x.b y.b) && eqb x.c y.c) && eqb x.d y.d
@@ -29,10 +28,7 @@ same-same x y e =
     (T_and (eqb y.a y.a) (eqb y.b y.b) (eqb_refl y.a) (eqb_refl y.b)) (eqb_refl y.c))
     (eqb_refl y.d))
 
-returns : tie.Need-returns
+pub returns : goal.returns
 returns c =
-    let a = c.before.before.before.before.before.before.before.before.args in
+    let a = c.args in
     (words_same a.x a.y, same-same a.x a.y)
-
-pub same_spec : {M : Type 1} → statement M
-same_spec = tie.close (tie.spec returns)
