@@ -25,7 +25,7 @@ use scratch::{early_picture, prepare};
 use tables::{Refusal, Verdict};
 
 // What the call for one entry answers.
-#[derive(Drop)]
+#[derive(Clone, Copy)]
 pub enum EntryReply {
     Answered(Entry),
     Refused(Refusal),

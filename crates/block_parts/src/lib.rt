@@ -11,7 +11,7 @@ pub use put::{put_check, put_head, put_zeros};
 pub use records::{put_arrows, put_boxes, put_containments};
 
 // A walk over the rows of a kind: a row, its block counted from the kind's first one, and its place in the block.
-#[derive(Drop)]
+#[derive(Clone, Copy)]
 pub struct Walk {
     pub row: usize,
     pub block: usize,

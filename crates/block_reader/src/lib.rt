@@ -7,7 +7,7 @@ use blocks::Head;
 pub use reader::{BlockReader, head_after, head_at, head_of};
 
 // What stands at a block number: a block, of which the head is shown, or none.
-#[derive(Drop)]
+#[derive(Clone, Copy)]
 pub enum Seen {
     Block(Head),
     NoBlock,

@@ -28,7 +28,7 @@ fn next_block(file: &[u8], block: usize) -> usize
 }
 
 // The caller's bytes together with a place among them, a block number.
-#[derive(Drop)]
+#[derive(Clone, Copy)]
 pub struct BlockReader<'a> {
     pub file: &'a [u8],
     pub block: usize,

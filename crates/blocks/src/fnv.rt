@@ -10,7 +10,7 @@ fn wrapping_mul_u32(a: u32, b: u32) -> u32
 }
 
 // The running check of a block.
-#[derive(Drop)]
+#[derive(Clone, Copy)]
 pub struct Check {
     pub state: u32,
 }

@@ -22,7 +22,7 @@ pub use verify::check_block;
 pub const BLOCK_SIZE: usize = 512;
 
 // A record of a box block.
-#[derive(Drop)]
+#[derive(Clone, Copy)]
 pub struct BoxRecord {
     pub side: u8,
 }
@@ -47,7 +47,7 @@ impl BoxRecord {
 }
 
 // A record of a containment block.
-#[derive(Drop)]
+#[derive(Clone, Copy)]
 pub struct ContainmentRecord {
     pub outer: u16,
     pub inner: u16,
@@ -74,7 +74,7 @@ impl ContainmentRecord {
 }
 
 // A record of an arrow block.
-#[derive(Drop)]
+#[derive(Clone, Copy)]
 pub struct ArrowRecord {
     pub tail: u16,
     pub head: u16,
@@ -121,7 +121,7 @@ fn by_kind(kind: u8, boxes: usize, containments: usize, arrows: usize) -> usize
 }
 
 // The first 8 bytes of a block.
-#[derive(Drop)]
+#[derive(Clone, Copy)]
 pub struct Head {
     pub kind: u8,
     pub byte1: u8,
@@ -206,7 +206,7 @@ impl Head {
 }
 
 // The row counts of three tables.
-#[derive(Drop)]
+#[derive(Clone, Copy)]
 pub struct Counts {
     pub boxes: usize,
     pub containments: usize,
@@ -239,7 +239,7 @@ impl Counts {
 }
 
 // What reading a file answers: the row counts of its tables, or a refusal.
-#[derive(Drop)]
+#[derive(Clone, Copy)]
 pub enum Reading {
     Tables(Counts),
     Refused(Refusal),

@@ -9,7 +9,7 @@ ghost use Rattle.boxsets.specs.Words.{bit_at};
 ghost use Rattle.boxsets.specs.Sets.{word_at, is_in, low, among};
 
 // A set of numbers below 256: word q has those from 64 × q on, the lowest bit first.
-#[derive(Drop)]
+#[derive(Clone, Copy)]
 pub struct Set {
     pub a: u64,
     pub b: u64,

@@ -6,7 +6,7 @@ use super::buffers::{bytes_lent, numbers_lent};
 use libc::STDIN_FILENO;
 
 // A number of the input, and the byte after it.
-#[derive(Drop)]
+#[derive(Clone, Copy)]
 pub struct Word {
     pub value: usize,
     pub end: u8,
@@ -48,7 +48,7 @@ pub fn low(x: usize) -> u16
 }
 
 // What the next places of a table hold, and how many they are.
-#[derive(Drop)]
+#[derive(Clone, Copy)]
 struct Same {
     value: usize,
     left: usize,

@@ -19,7 +19,7 @@ use set_tables::{set_at, union_of};
 use tables::Arrow;
 
 // The mode's arrows of a sign around a user: their tails, their heads, and the asked files that they reach.
-#[derive(Drop)]
+#[derive(Clone, Copy)]
 pub struct Near {
     pub sign: usize,
     pub tails: Set,

@@ -10,7 +10,7 @@ use checks::check_room;
 use tables::{BoxRow, Refusal, Verdict};
 
 // What the call answers: how many atomic users and atomic files there are.
-#[derive(Drop)]
+#[derive(Clone, Copy)]
 pub enum Headings {
     Written(usize, usize),
     Refused(Refusal),

@@ -11,7 +11,7 @@ use meaning::Entry;
 use tables::{Refusal, Verdict};
 
 // A line of the listing.
-#[derive(Drop)]
+#[derive(Clone, Copy)]
 pub enum Line {
     // The row counts of the boxes, the containments and the arrows.
     Counts(usize, usize, usize),

@@ -4,7 +4,7 @@
 use tables::Refusal;
 
 // What the call for a list answers.
-#[derive(Drop)]
+#[derive(Clone, Copy)]
 pub enum Listed {
     // So many places of the list are written.
     Written(usize),

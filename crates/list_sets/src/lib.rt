@@ -24,7 +24,7 @@ use user_kinds::{alike, notes_room};
 use user_rows::sort_row;
 
 // What is asked: the mode, the atomic files, and how many pairs there are.
-#[derive(Drop)]
+#[derive(Clone, Copy)]
 pub struct Asked {
     pub mode: u16,
     pub files: Set,
@@ -32,7 +32,7 @@ pub struct Asked {
 }
 
 // How many of the mode's arrows repeat none, and check 12.
-#[derive(Drop)]
+#[derive(Clone, Copy)]
 pub struct Sorted {
     pub own: usize,
     pub unclear: Verdict,

@@ -14,7 +14,7 @@ use set_tables::set_at;
 use tables::Arrow;
 
 // How an arrow stands to a list: it would give a pair the wrong answer, it reaches nothing new, or it may follow.
-#[derive(Drop)]
+#[derive(Clone, Copy)]
 pub enum Standing {
     Blocked,
     Spent,

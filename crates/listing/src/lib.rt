@@ -55,7 +55,7 @@ pub fn stopped(r: Refusal, out: &mut [u8]) -> usize
 
 // A place among the rows: the modes with an arrow, rising, and how many; the next row; and the first unclear pair of the rows before it,
 // so that no pair is answered again for the last line.
-#[derive(Drop)]
+#[derive(Clone, Copy)]
 pub struct Place {
     pub modes: [u16; 8],
     pub used: usize,
@@ -138,14 +138,14 @@ pub fn row_count(users: &[u16], place: Place) -> usize
 }
 
 // The place in the buffer after a row, and the row's first unclear pair.
-#[derive(Drop)]
+#[derive(Clone, Copy)]
 pub struct Told {
     pub next: usize,
     pub unclear: Verdict,
 }
 
 // So many bytes are whole rows, and the place after them.
-#[derive(Drop)]
+#[derive(Clone, Copy)]
 pub struct Chunk {
     pub bytes: usize,
     pub next: Place,

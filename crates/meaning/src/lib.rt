@@ -7,7 +7,7 @@ ghost use Rattle.meaning.specs.Steps.{granting_of};
 use tables::Arrow;
 
 // The answer to one question (document 01, "Meaning").
-#[derive(Drop)]
+#[derive(Clone, Copy)]
 pub enum Entry {
     // Granted, with the lowest positive certificate.
     Granted(u16),

@@ -19,7 +19,7 @@ use tables::Verdict;
 
 // The blocks of a kind: the kind's number, the bytes of a record, how many records a block holds, how many rows there are, and the
 // number of the first block.
-#[derive(Drop)]
+#[derive(Clone, Copy)]
 struct Kind {
     number: u8,
     size: usize,

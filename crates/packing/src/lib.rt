@@ -4,7 +4,7 @@
 use tables::Refusal;
 
 // What packing answers: the file's length, or a refusal.
-#[derive(Drop)]
+#[derive(Clone, Copy)]
 pub enum Packing {
     Packed(usize),
     Refused(Refusal),

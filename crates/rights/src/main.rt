@@ -20,7 +20,7 @@ use tables::{BoxRow, Verdict};
 // ---- Input.
 
 // How many bytes were read, or that a read failed.
-#[derive(Drop)]
+#[derive(Clone, Copy)]
 enum Input {
     Bytes(usize),
     Failed,

@@ -29,7 +29,7 @@ use tables::{Refusal, Verdict};
 
 // What a call answers: its kind, a refusal's number, and three numbers; 0 where nothing is named.
 #[repr(C)]
-#[derive(Drop)]
+#[derive(Clone, Copy)]
 pub struct Reply {
     pub kind: u32,
     pub number: u32,

@@ -16,7 +16,7 @@ use libc::STDOUT_FILENO;
 use tables::Refusal;
 
 // The check of all bytes that went out, in order, unless a write failed.
-#[derive(Drop)]
+#[derive(Clone, Copy)]
 pub struct Sent {
     pub check: Check,
     pub failed: bool,

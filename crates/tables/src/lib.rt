@@ -12,7 +12,7 @@ ghost use Rattle.tables.specs.Steps.{either};
 pub use sides::{is_group, on_side, side_of};
 
 // A row of the boxes: its byte.
-#[derive(Drop)]
+#[derive(Clone, Copy)]
 pub struct BoxRow {
     pub byte: u8,
 }
@@ -34,7 +34,7 @@ impl BoxRow {
 }
 
 // A row of the containments.
-#[derive(Drop)]
+#[derive(Clone, Copy)]
 pub struct Containment {
     pub outer: u16,
     pub inner: u16,
@@ -57,7 +57,7 @@ impl Containment {
 }
 
 // A row of the arrows.
-#[derive(Drop)]
+#[derive(Clone, Copy)]
 pub struct Arrow {
     pub tail: u16,
     pub head: u16,
@@ -87,7 +87,7 @@ impl Arrow {
 }
 
 // A refusal: document 01's number, and three numbers, 0 where nothing is named.
-#[derive(Drop)]
+#[derive(Clone, Copy)]
 pub struct Refusal {
     pub number: u8,
     pub first: usize,
@@ -124,7 +124,7 @@ impl Refusal {
     pub const BAD_FILLER: u8 = 17;
 }
 
-#[derive(Drop)]
+#[derive(Clone, Copy)]
 pub enum Verdict {
     Passed,
     Refused(Refusal),

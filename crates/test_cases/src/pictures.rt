@@ -8,7 +8,7 @@ use libc::STDOUT_FILENO;
 use tables::Verdict;
 
 // The call that a letter stands for, and what it is asked.
-#[derive(Drop)]
+#[derive(Clone, Copy)]
 struct Question {
     letter: u8,
     scratch: usize,

@@ -12,7 +12,7 @@ use certificates::Near;
 pub use walk::{answer_row, entry_of, row_room, sort_row};
 
 // The mode's arrows of both signs around a user.
-#[derive(Drop)]
+#[derive(Clone, Copy)]
 pub struct Around {
     pub user: usize,
     pub negative: Near,
@@ -20,7 +20,7 @@ pub struct Around {
 }
 
 // What is found for a user: of the asked files those that are granted, and those that are unclear.
-#[derive(Drop)]
+#[derive(Clone, Copy)]
 pub struct Row {
     pub granted: Set,
     pub unclear: Set,

@@ -6,14 +6,9 @@ use borrow.Author.Rules.{rules}
 use lib.ListN.{get_or}
 use Rattle.boxsets.proofs.WordLaws.{low-shifted}
 use Rattle.boxsets.proofs.TableLaws.{has_word}
-use Rattle.set_tables.proofs.has.Statement.{statement}
-use Rattle.set_tables.proofs.has.Tie as tie
+use Rattle.set_tables.proofs.has.Goals as goal
 
-returns : tie.Need-returns
+pub returns : goal.returns
 returns c =
-    let a = c.before.args in
+    let a = c.args in
     low-shifted (a.k % 64) (get_or a.t.now (4 * a.r + a.k / 64) 0) ∙ sym (has_word a.t.now a.r a.k (omega arith))
-
-pub has-spec : {M : Type 1} → statement M
-has-spec =
-    tie.close (tie.spec (search rules) (search rules) (search rules) (search rules) (search rules) returns)

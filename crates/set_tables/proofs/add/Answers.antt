@@ -5,18 +5,12 @@ use borrow.Author.Rules.{rules}
 use lib.ListN.{length-set}
 use Rattle.boxsets.proofs.WordLaws.{one_shifted}
 use Rattle.boxsets.proofs.TableLaws.{add-has}
-use Rattle.set_tables.proofs.add.Statement.{statement}
-use Rattle.set_tables.proofs.add.Tie as tie
+use Rattle.set_tables.proofs.add.Goals as goal
 
-returns : tie.Need-returns
+pub returns : goal.returns
 returns c =
-    let a = c.before.args in
+    let a = c.args in
     record {
       len = simp length-set;
       each = λ i b. rw (one_shifted (a.k % 64) (omega arith)) (add-has a.t.now a.r a.k (omega arith) (omega arith) i b);
     }
-
-pub add_spec : {M : Type 1} → statement M
-add_spec =
-    tie.close (tie.spec (search rules) (search rules) (search rules) (search rules) (search rules) (search rules) (search rules)
-    (search rules) returns)
