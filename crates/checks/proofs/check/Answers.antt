@@ -14,8 +14,8 @@ use Rattle.base.specs.Search.{or_else}
 use Rattle.tables.specs.declared.Refusal.{Refusal}
 use Rattle.tables.proofs.Verdicts.{either-verdict, refuses, passes}
 use Rattle.base.proofs.Options.{or_else-assoc}
-use Rattle.checks.proofs.check.Statement.{statement}
-use Rattle.checks.proofs.check.Tie as tie
+use Rattle.checks.proofs.check.Goals.{After-or_else-shape}
+use Rattle.checks.proofs.check.Goals as goal
 
 -- checks 1 and 2, and checks 3 to 7
 shape_fault : List ℕ → List ℕ → List ℕ → Option Refusal
@@ -32,31 +32,22 @@ stages : (boxes rows arrows : List ℕ) → or_else (shape_fault boxes rows arro
 unfolding shape_fault rows_fault
 stages boxes rows arrows = table-stages boxes rows arrows
 
-shape_is : (c : tie.After-or-else) → let a = c.before.before.before.before.before.before.args in
-    c.or_else.result ≡ verdict_of (shape_fault a.boxes.now a.rows.now a.arrows.now)
+shape_is : (c : After-or_else-shape) → let a = c.args in
+    c.or_else-shape.result ≡ verdict_of (shape_fault a.boxes.now a.rows.now a.arrows.now)
 unfolding shape_fault
-shape_is c = rw (c.or_else.ensures, c.before.check-counts.ensures, c.before.before.check-ragged.ensures) (simp either-verdict)
+shape_is c = rw (c.or_else-shape.ensures, c.check_counts.ensures, c.check_ragged.ensures) (simp either-verdict)
 
-returns : tie.Need-returns
-returns c = let a = c.before.before.before.before.before.before.before.before.before.args in
+pub returns-in-Refused : goal.returns-in-Refused
+returns-in-Refused c = let a = c.args in
     refuses (shape_fault a.boxes.now a.rows.now a.arrows.now) (rows_fault a.boxes.now a.rows.now a.arrows.now) _
-    (sym (shape_is c.before.before.before) ∙ c.before.shape.given.1)
+    (sym (shape_is (goal.at.returns-in-Refused c).After-or_else-shape) ∙ c.in-Refused.is)
     ∙ ap verdict_of (stages a.boxes.now a.rows.now a.arrows.now)
 
-returns-2 : tie.Need-returns-2
+pub returns : goal.returns
 unfolding rows_fault
-returns-2 c = let r4 = c.before in
-    let r3 = r4.before.before in
-    let r2 = r3.before.before in
-    let r1 = r2.before.before in
-    let told = r1.before.before in
-    let a = told.before.before.before.before.before.before.before.before.args in
-    rw (c.or-else5.ensures, r4.check-rows4.ensures, r4.before.or-else4.ensures, r3.check-rows3.ensures, r3.before.or-else3.ensures, r2.check-rows2.ensures, r2.before.or-else2.ensures, r1.check-rows.ensures, r1.before.check-bytes.ensures)
+returns c =
+    let a = c.args in
+    rw (c.or_else-4.ensures, c.check_rows-4.ensures, c.or_else-3.ensures, c.check_rows-3.ensures, c.or_else-2.ensures, c.check_rows-2.ensures, c.or_else.ensures, c.check_rows.ensures, c.check_bytes.ensures)
     (simp (either-verdict, or_else-assoc)
-    (passes (shape_fault a.boxes.now a.rows.now a.arrows.now) (rows_fault a.boxes.now a.rows.now a.arrows.now) (sym (shape_is told.before.before) ∙ told.enum_told.given.1)
+    (passes (shape_fault a.boxes.now a.rows.now a.arrows.now) (rows_fault a.boxes.now a.rows.now a.arrows.now) (sym (shape_is (goal.at.returns c).After-or_else-shape) ∙ c.in_default.is)
     ∙ ap verdict_of (stages a.boxes.now a.rows.now a.arrows.now)))
-
-pub check-spec : {M : Type 1} → statement M
-check-spec =
-    tie.close (tie.spec (search rules) (search rules) (search rules) (search rules) returns (search rules) (search rules) (search rules)
-    (search rules) (search rules) (search rules) (search rules) (search rules) (search rules) (search rules) returns-2)

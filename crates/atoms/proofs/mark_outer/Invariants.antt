@@ -1,0 +1,17 @@
+use mathlib.Core.Path.{◌≡◌, refl}
+use Prim.Native.Nat.{◌*◌, ◌-◌, ◌≤◌, ◌<◌}
+use native.Mathlib.Omega.{arith}
+use borrow.Author.Rules.{rules}
+use lib.ListN.{length, drop, length-set}
+use Rattle.tables.specs.Rows.{row_count, row_at}
+use Rattle.tables.specs.Atoms.{outer}
+use Rattle.atoms.specs.Steps.{Marks}
+use Rattle.tables.proofs.RowLaws.{rows_end}
+use Rattle.atoms.proofs.MarkLaws.{marked}
+use Rattle.atoms.proofs.mark_outer.Given as goal
+
+abbrev pub invariant-loop-k : goal.invariant-loop-k
+invariant-loop-k l = (l.k ≤ row_count l.rows) × (length l.marks ≡ length l.initial.marks) × Marks (outer (drop (2 * l.k) l.rows)) l.marks
+
+abbrev pub decreases-loop-k : goal.decreases-loop-k
+decreases-loop-k l = l.k

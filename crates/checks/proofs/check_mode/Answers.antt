@@ -1,0 +1,7 @@
+-- `checks::check_mode` meets its contract: one fault. Assumes nothing.
+use borrow.Author.Rules.{rules}
+use Rattle.tables.proofs.FaultLaws.{mode_fault-is}
+use Rattle.checks.proofs.check_mode.Goals as goal
+
+pub returns : goal.returns
+returns c = rw (mode_fault-is, c.refused_if.ensures, c.wide.ensures)

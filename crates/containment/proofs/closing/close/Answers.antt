@@ -1,0 +1,26 @@
+-- `containment::closing::close` meets its contract: the sets say which ways there are through boxes below k. Assumes nothing.
+use mathlib.Core.Path.{◌≡◌}
+use Prim.Native.Nat.{◌-◌, ◌≤◌}
+use native.Mathlib.Omega.{arith}
+use borrow.Author.Rules.{rules}
+use Rattle.containment.specs.Steps.{rounds, Turns}
+use Rattle.containment.proofs.ClosingLaws.{rounds-none, rounds-more}
+use Rattle.containment.proofs.closing.close.Goals as goal
+
+pub loop-k-init : goal.loop-k-init
+loop-k-init c = (search rules, rounds-none _)
+
+pub round-requires : goal.round-requires
+round-requires c =
+    let len = c.loop-k.invariant.1.len in
+    (omega arith, omega arith)
+
+pub loop-k-preserved : goal.loop-k-preserved
+loop-k-preserved c =
+    let first = c.args.closure.now in
+    (search rules, rounds-more c.loop-k.k first c.loop-k.closure c.round.new.closure c.loop-k.invariant.1 c.round.ensures)
+
+pub returns : goal.returns
+returns c =
+    let e : c.loop-k.k ≡ c.args.n = omega arith in
+    rw e at c.loop-k.invariant.1

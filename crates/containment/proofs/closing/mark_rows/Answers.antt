@@ -1,0 +1,56 @@
+-- `containment::closing::mark_rows` meets its contract: the sets say which boxes the rows from k on join. Assumes nothing.
+use mathlib.Core.Path.{◌≡◌, sym, ap, ◌∙◌}
+use Prim.Native.Nat.{◌*◌, ◌≤◌}
+use native.Mathlib.Omega.{arith}
+use borrow.Author.Rules.{rules}
+use lib.ListN.{length, drop}
+use Rattle.base.proofs.BufferLaws.{zeros-length}
+use Rattle.tables.specs.Rows.{row_count}
+use Rattle.tables.proofs.RowLaws.{rows_end}
+use Rattle.containment.specs.Contains.{direct}
+use Rattle.containment.specs.Steps.{Both, closure_words}
+use Rattle.containment.proofs.RowBoxes.{RowBoxes, row-boxes}
+use Rattle.containment.proofs.ClosingLaws.{marked-none, mark-row}
+use Rattle.containment.proofs.closing.mark_rows.Goals.{After-wide-i}
+use Rattle.containment.proofs.closing.mark_rows.Goals as goal
+
+-- the row's boxes
+module _ (c : After-wide-i) where
+  row : RowBoxes 256 c.args.rows.now c.loop-k.k c.wide-o.result c.wide-i.result
+  row =
+      row-boxes c.requires.rows_below (omega arith) (omega arith) c.at-row.ensures c.wide-o.ensures c.wide-i.ensures
+
+pub loop-k-init : goal.loop-k-init
+loop-k-init c =
+    (search rules, rw (rows_end c.args.rows.now c.requires.rows_below.whole) (marked-none c.args.closure.now c.requires.closure_value))
+
+pub add-requires : goal.add-requires
+add-requires c =
+    let len = c.loop-k.invariant.1.len in
+    let o = (row (goal.at.add-requires c).After-wide-i).o-below in
+    let i = (row (goal.at.add-requires c).After-wide-i).i-below in
+    (omega arith, omega arith)
+
+pub add-requires-in-loop-k : goal.add-requires-in-loop-k
+add-requires-in-loop-k c =
+    let len = c.loop-k.invariant.1.len in
+    let len₁ = c.add.ensures.len in
+    let o = (row (goal.at.add-requires-in-loop-k c).After-wide-i).o-below in
+    let i = (row (goal.at.add-requires-in-loop-k c).After-wide-i).i-below in
+    (omega arith, omega arith)
+
+pub loop-k-preserved : goal.loop-k-preserved
+loop-k-preserved c =
+    (
+      search rules,
+      mark-row (row (goal.at.loop-k-preserved c).After-wide-i) c.add.ensures c.add-in-loop-k.ensures c.loop-k.invariant.1,
+    )
+
+pub shape_of-closure : goal.shape_of-closure
+shape_of-closure c =
+    c.loop-k.invariant.1.len ∙ sym (ap length c.requires.closure_value ∙ zeros-length closure_words)
+
+pub returns : goal.returns
+returns c =
+    let e : c.loop-k.k ≡ 0 = omega arith in
+    rw e at c.loop-k.invariant.1
