@@ -9,10 +9,9 @@ put_boxes-requires c =
 
 pub returns-then-kind-eq-KIND : goal.returns-then-kind-eq-KIND
 returns-then-kind-eq-KIND c =
-    let asked = c.requires in record {
-      value = (boxes-done asked c.block_byte-at.ensures c.if-kind-eq-KIND.true _ c.put_boxes.ensures.value c.put_boxes.ensures.file_after).0;
-      file_after = (boxes-done asked c.block_byte-at.ensures c.if-kind-eq-KIND.true _ c.put_boxes.ensures.value c.put_boxes.ensures.file_after).1;
-    }
+    let asked = c.requires in
+    let w = boxes-done asked c.block_byte-at.ensures c.if-kind-eq-KIND.true _ c.put_boxes.ensures.value c.put_boxes.ensures.file_after in
+    record { value = w.0; file_after = w.1 }
 
 pub put_containments-requires : goal.put_containments-requires
 put_containments-requires c =
@@ -21,12 +20,10 @@ put_containments-requires c =
 
 pub returns-then-kind-eq-KIND-2 : goal.returns-then-kind-eq-KIND-2
 returns-then-kind-eq-KIND-2 c =
-    let asked = c.requires in record {
-      value = (containments-done asked c.block_byte-at.ensures c.if-kind-eq-KIND-2.true
-          _ c.put_containments.ensures.value c.put_containments.ensures.file_after).0;
-      file_after = (containments-done asked c.block_byte-at.ensures c.if-kind-eq-KIND-2.true
-          _ c.put_containments.ensures.value c.put_containments.ensures.file_after).1;
-    }
+    let asked = c.requires in
+    let w = containments-done asked c.block_byte-at.ensures c.if-kind-eq-KIND-2.true
+    _ c.put_containments.ensures.value c.put_containments.ensures.file_after in
+    record { value = w.0; file_after = w.1 }
 
 pub put_arrows-requires : goal.put_arrows-requires
 put_arrows-requires c =
@@ -35,9 +32,7 @@ put_arrows-requires c =
 
 pub returns : goal.returns
 returns c =
-    let asked = c.requires in record {
-      value = (arrows-done asked c.block_byte-at.ensures c.if-kind-eq-KIND.false c.if-kind-eq-KIND-2.false
-          _ c.put_arrows.ensures.value c.put_arrows.ensures.file_after).0;
-      file_after = (arrows-done asked c.block_byte-at.ensures c.if-kind-eq-KIND.false c.if-kind-eq-KIND-2.false
-          _ c.put_arrows.ensures.value c.put_arrows.ensures.file_after).1;
-    }
+    let asked = c.requires in
+    let w = arrows-done asked c.block_byte-at.ensures c.if-kind-eq-KIND.false c.if-kind-eq-KIND-2.false
+    _ c.put_arrows.ensures.value c.put_arrows.ensures.file_after in
+    record { value = w.0; file_after = w.1 }
