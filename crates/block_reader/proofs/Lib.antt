@@ -1,4 +1,2 @@
 -- Laws for the proofs of this crate.
-mod Held
-mod ReaderCalls
 mod SeenLaws

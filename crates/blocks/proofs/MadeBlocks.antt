@@ -72,7 +72,7 @@ check-more a b = fold_more 2166136261 a b
 fold_small : (state : ℕ) (bytes : List ℕ) → state < 4294967296 → fnv_fold state bytes < 4294967296
 unfolding fnv_fold
 fold_small state [] h = h
-fold_small state (byte ∷ bytes) h = fold_small _ bytes (omega arith)
+fold_small state (byte ∷ bytes) h = fold_small (bit_xor state byte * 16777619 % 2 ^ 32) bytes (omega arith)
 
 pub check-small : (bytes : List ℕ) → fnv1a bytes < 4294967296
 unfolding fnv1a

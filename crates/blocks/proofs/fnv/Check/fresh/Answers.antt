@@ -1,0 +1,8 @@
+-- The fresh check holds the start value. Assumes nothing.
+use mathlib.Core.Path.{refl}
+use Rattle.blocks.specs.Fnv.{fnv_fold, fnv1a}
+use Rattle.blocks.proofs.fnv.Check.fresh.Goals as goal
+
+pub returns : goal.returns
+unfolding fnv_fold fnv1a
+returns c = refl
