@@ -1,0 +1,54 @@
+-- `certificates::certified` meets its contract. Assumes nothing.
+use mathlib.Core.Path.{◌≡◌, sym, ap, ap₂, ◌∙◌}
+use mathlib.Core.Bool.{Bool, ◌&&◌, ◌||◌}
+use Prim.Native.Nat.{ℕ, ◌<◌}
+use borrow.Author.Rules.{rules}
+use lib.ListN.{length}
+use Rattle.tables.specs.Rows.{Picture}
+use Rattle.containment.specs.Contains.{around}
+use Rattle.boxsets.specs.Sets.{is_in, has}
+use Rattle.boxsets.specs.declared.Set.{Set}
+use Rattle.boxsets.proofs.TableLaws.{has_in}
+use Rattle.boxsets.proofs.WalkLaws.{empty-none}
+use Rattle.certificates.specs.Blocks.{reached_by}
+use Rattle.certificates.specs.Steps.{Drawn, NearBy}
+use Rattle.certificates.proofs.BlockLaws.{certified-met, certified-unmet}
+use Rattle.certificates.proofs.certified.Goals.{After-shared-hit, After-shared-met}
+use Rattle.certificates.proofs.certified.Goals as goal
+
+-- the files left that are in the arrow's head
+hit-is : (c : After-shared-hit) (pic : Picture) → Drawn pic c.args.closure.now → c.args.a.head < length pic.boxes
+    → (f : ℕ) → is_in c.shared-hit.result f ≡ (around pic.rows c.args.a.head f && is_in c.args.left f)
+hit-is c pic d there f =
+    let a = c.args in
+    let in_head : is_in c.set_at.result f ≡ around pic.rows a.a.head f
+    = ap (λ (x : Set). is_in x f) c.set_at.ensures
+    ∙ sym (has_in a.closure.now c.wide.result f)
+    ∙ ap (λ (b : ℕ). has a.closure.now b f) c.wide.ensures
+    ∙ d.closed.down a.a.head f there in
+    c.shared-hit.ensures f ∙ ap (λ (b : Bool). b && is_in a.left f) in_head
+
+-- and of them those that an opposite arrow reaches
+met-is : (c : After-shared-met) (pic : Picture) (m u : ℕ) (asked : ℕ → Bool)
+    → NearBy pic m c.args.near.sign u asked c.args.near
+    → (f : ℕ) → is_in c.shared-met.result f
+    ≡ (is_in c.shared-hit.result f && (asked f && reached_by pic m c.args.near.sign u f))
+met-is c pic m u asked near f =
+    c.shared-met.ensures f ∙ ap (λ (b : Bool). is_in c.shared-hit.result f && b) (near.files-are f)
+
+pub returns-then-is_empty : goal.returns-then-is_empty
+returns-then-is_empty c pic m u asked d sets near there within f =
+    let a = c.args in
+    certified-unmet pic m a.near.sign u a.a d.arrows-sound f (is_in a.left f) (asked f)
+    (is_in c.shared-hit.result f) (is_in c.shared-met.result f) (within f)
+    (hit-is (goal.at.returns-then-is_empty c).After-shared-hit pic d there.1 f) (met-is (goal.at.returns-then-is_empty c).After-shared-met pic m u asked near f)
+    (empty-none c.shared-met.result (sym c.is_empty.ensures ∙ c.if-is_empty.true) f)
+
+pub returns : goal.returns
+returns c pic m u asked d sets near there within f =
+    let a = c.args in
+    certified-met pic m a.near.sign u a.a d.arrows-sound f (is_in a.left f) (asked f)
+    (is_in c.shared-hit.result f) (is_in c.shared-met.result f) (within f)
+    (hit-is (goal.at.returns c).After-shared-hit pic d there.1 f) (met-is (goal.at.returns c).After-shared-met pic m u asked near f)
+    (is_in c.joined.result f)
+    (c.joined.ensures f ∙ ap₂ ◌||◌ (c.minus.ensures f) (c.unblocked.ensures pic m u asked d sets near there f))

@@ -1,0 +1,99 @@
+-- `mode_sets::take_mode` meets its contract: of the arrows before k the sets are made, and those that repeat no lower one are
+-- written and counted. Assumes nothing.
+use mathlib.Core.Logic.{⊎_elim}
+use mathlib.Core.Path.{◌≡◌, sym, ap, ◌∙◌}
+use Prim.Native.Nat.{◌-◌, ◌≤◌, ◌<◌}
+use native.Mathlib.Omega.{arith}
+use borrow.Author.Rules.{rules}
+use lib.ListN.{length}
+use Rattle.base.proofs.BufferLaws.{zeros-length, selected-none, selected-length, selected-most}
+use Rattle.tables.specs.Rows.{arrow_count}
+use Rattle.mode_sets.specs.Mode.{is_own, own_arrows}
+use Rattle.mode_sets.proofs.ModeLaws.{sets-none, Turned, turn-other, turn-repeat, turn-own}
+use Rattle.mode_sets.specs.Steps.{heads_words}
+use Rattle.mode_sets.proofs.take_mode.Goals.{After-narrow, then-a-mode+then-take_arrow, else-a-mode, else-a-mode-via-then-a-mode+else-take_arrow, else-a-mode-via-else-a-mode}
+use Rattle.mode_sets.proofs.take_mode.Goals as goal
+
+-- there is a place for the number
+room : (c : After-narrow) →
+    (c.loop-k.count < length c.loop-k.own) × (c.loop-k.count ≤ 512)
+room c =
+    let a = c.args in
+    let l = c.loop-k in
+    let p = is_own a.arrows.now a.mode in
+    let most = selected-most p a.own.now l.k l.count l.own l.invariant.1.0 in
+    let len = selected-length p a.own.now l.k l.count l.own (omega arith) l.invariant.1.0 in
+    (omega arith, omega arith)
+
+pub loop-k-init : goal.loop-k-init
+loop-k-init c =
+    let a = c.args in (
+      search rules,
+      (selected-none (is_own a.arrows.now a.mode) a.own.now, rw c.requires.2 (sets-none a.arrows.now a.mode)),
+    )
+
+pub take_arrow-requires : goal.take_arrow-requires
+take_arrow-requires c =
+    let small = c.requires.0 in
+    let k = c.loop-k.k in (
+      c.loop-k.invariant.1.1.len,
+      rw c.at-a.ensures (small.tail-small k (omega arith)),
+      rw c.at-a.ensures (small.head_small k (omega arith)),
+      rw c.at-a.ensures (small.sign_small k (omega arith)),
+    )
+
+pub offset_bounds-own-count : goal.offset_bounds-own-count
+offset_bounds-own-count c = omega (arith, room c)
+
+pub bounds-own-count : goal.bounds-own-count
+bounds-own-count c = (room c).0
+
+pub overflow_add-count : goal.overflow_add-count
+overflow_add-count c = omega (arith, room c)
+
+pub loop-k-preserved : goal.loop-k-preserved
+loop-k-preserved c =
+    let a = c.args in
+    let l = c.loop-k in
+    let arrow = c.at-a.result in
+    let is = c.at-a.ensures in
+    let tail = c.requires.0.tail-small l.k (omega arith) in
+    let sign = c.requires.0.sign_small l.k (omega arith) in
+    elim c.if-a-mode.branch [
+      then-a-mode+then-take_arrow w ↦ rw (w.own-is, w.heads-is, w.count-is) (
+        search rules,
+        turn-own a.arrows.now a.mode a.own.now l.k l.count l.own l.heads arrow is l.invariant.1 w.take_arrow.new.heads
+            w.take_arrow.result w.if-a-mode.true tail sign w.take_arrow.ensures w.narrow.result w.if-take_arrow.true w.narrow.ensures (omega arith),
+      )
+    | else-a-mode w ↦ rw (w.own-is, w.heads-is, w.count-is)
+      (elim w.else-a-mode.branch [
+        else-a-mode-via-then-a-mode+else-take_arrow v ↦ rw v.heads-is (
+          search rules,
+          turn-repeat a.arrows.now a.mode a.own.now l.k l.count l.own l.heads arrow is l.invariant.1 v.take_arrow.new.heads
+              v.take_arrow.result v.if-a-mode.true tail sign v.take_arrow.ensures v.if-take_arrow.false,
+        )
+      | else-a-mode-via-else-a-mode v ↦ rw v.heads-is
+        (search rules, turn-other a.arrows.now a.mode a.own.now l.k l.count l.own l.heads arrow is l.invariant.1 v.if-a-mode.false)
+      ])
+    ]
+
+pub shape_of-own : goal.shape_of-own
+shape_of-own c =
+    let a = c.args in
+    let l = c.loop-k in
+    selected-length (is_own a.arrows.now a.mode) a.own.now l.k l.count l.own (omega arith) l.invariant.1.0
+
+pub shape_of-heads : goal.shape_of-heads
+shape_of-heads c =
+    c.loop-k.invariant.1.1.len ∙ sym (ap length c.requires.2 ∙ zeros-length heads_words)
+
+pub returns : goal.returns
+unfolding own_arrows
+returns c =
+    let a = c.args in
+    let e : c.loop-k.k ≡ arrow_count a.arrows.now = omega arith in
+    record {
+      value = rw e at c.loop-k.invariant.1.0.0;
+      own_after = rw e at c.loop-k.invariant.1.0.1;
+      mode_sets = rw e at c.loop-k.invariant.1.1;
+    }

@@ -1,0 +1,12 @@
+-- `user_kinds::tails_near` meets its contract. Assumes nothing.
+use borrow.Author.Rules.{rules}
+use Rattle.user_kinds.proofs.AlikeLaws.{near-made}
+use Rattle.user_kinds.proofs.tails_near.Goals as goal
+
+pub returns : goal.returns
+returns c =
+    let a = c.args in
+    λ pic m d sets there.
+    near-made pic m a.closure.now a.heads.now d sets a.user there c.set_at-3.result c.set_at.result c.set_at-2.result
+    c.joined-tails.result c.shared.result c.set_at-3.ensures c.set_at.ensures c.set_at-2.ensures c.joined-tails.ensures
+    c.shared.ensures
