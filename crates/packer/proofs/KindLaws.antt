@@ -43,7 +43,7 @@ module _ {pic : Picture} {kind : Kind} {len : ℕ} {w : Walk} {count : ℕ}
   run_of size capacity n s c r =
       let few = asked.0.few in
       let left = asked.1.rows_left in
-      let small = asked.1.TheBlock in
+      let small = asked.1.the_block in
       let room = asked.1.room in
       let used : size * count ≤ 500 = rw (← s) (used-most asked) in
       record {

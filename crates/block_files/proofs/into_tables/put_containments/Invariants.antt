@@ -1,0 +1,10 @@
+use mathlib.Core.Path.{◌≡◌}
+use Prim.Native.Nat.{◌≤◌, ◌*◌}
+use lib.Seq.{sets}
+use lib.ListN.{length}
+use Rattle.blocks.specs.Blocks.{row_of, joined}
+use Rattle.blocks.specs.Files.{block_at}
+use Rattle.block_files.proofs.into_tables.put_containments.Given as goal
+
+abbrev pub invariant-loop-j : goal.invariant-loop-j
+invariant-loop-j l = (l.j ≤ l.count) × (length l.rows ≡ length l.initial.rows) × (l.rows ≡ sets l.initial.rows (2 * l.at) (joined (row_of 2 (block_at l.file l.block)) l.j))
