@@ -1,5 +1,5 @@
-// The text of the test program's cases, whatever calls they are for: how numbers and tables are read from standard input, how buffers and
-// refusals are written to standard output, and the buffers that the calls are lent.
+// The text of the test program's cases, whatever calls they are for: how numbers and tables are read from the input, how buffers and
+// refusals are written to the output, and the buffers that the calls are lent.
 #![tactic(auto)]
 
 mod buffers;
@@ -8,4 +8,6 @@ mod writing;
 
 pub use buffers::{bytes, bytes_lent, numbers, numbers_lent};
 pub use reading::{byte_table, low, number, number_table};
-pub use writing::{print, show_bytes, show_numbers, show_refusal, show_verdict};
+pub use writing::{
+    print, print_hex, print_text, show_bytes, show_numbers, show_refusal, show_verdict,
+};

@@ -1,9 +1,9 @@
-// How numbers and tables are read from standard input.
+// How numbers and tables are read from the input.
 ghost use Rattle.std.specs.Prelude.{◌≡◌, ◌%◌, ◌<◌};
 ghost use Rattle.io.specs.Counts.{IsPrefixLen};
 
 use super::buffers::{bytes_lent, numbers_lent};
-use libc::STDIN_FILENO;
+use std::io::Read;
 
 // A number of the input, and the byte after it.
 #[derive(Clone, Copy)]
@@ -12,10 +12,10 @@ pub struct Word {
     pub end: u8,
 }
 
-// The next byte, or 0 at the end.
-fn next_byte() -> u8 {
+// The next byte, or 0 at the end or where a read fails.
+fn next_byte<R: Read>(input: &mut R) -> u8 {
     let mut b = [0u8; 1];
-    io::read_full(STDIN_FILENO, &mut b);
+    let _ = input.read(&mut b);
     b[0]
 }
 
@@ -26,12 +26,12 @@ fn digit(c: u8) -> usize
 }
 
 // The next number, of at most five digits. What ends one comes before the digits in ASCII.
-pub fn number() -> Word
+pub fn number<R: Read>(input: &mut R) -> Word
     ensures { result.value < 100000 }
 {
     let mut value = 0;
     for i in 0..6usize {
-        let c = next_byte();
+        let c = next_byte(input);
         if c < b'0' {
             return Word { value, end: c };
         }
@@ -56,16 +56,16 @@ struct Same {
 
 impl Same {
     // The same, one place on.
-    fn next(self) -> Self {
+    fn next<R: Read>(self, input: &mut R) -> Self {
         if 1 < self.left {
             return Self {
                 value: self.value,
                 left: self.left - 1,
             };
         }
-        let n = number();
+        let n = number(input);
         if n.end == b'*' {
-            let times = number();
+            let times = number(input);
             return Self {
                 value: n.value,
                 left: times.value,
@@ -79,28 +79,28 @@ impl Same {
 }
 
 // A table of bytes or of numbers: the other slice is empty.
-fn table(bytes: &mut [u8], numbers: &mut [u16]) -> usize {
-    let count = number().value;
+fn table<R: Read>(input: &mut R, bytes: &mut [u8], numbers: &mut [u16]) -> usize {
+    let count = number(input).value;
     let mut run = Same { value: 0, left: 0 };
     for i in 0..count {
-        run = run.next();
+        run = run.next(input);
         put(bytes, numbers, i, low(run.value));
     }
     count
 }
 
 // Reads a table into the first places, and answers how many it has of them.
-pub fn byte_table(out: &mut [u8]) -> usize
+pub fn byte_table<R: Read>(input: &mut R, out: &mut [u8]) -> usize
     ensures { IsPrefixLen result out.new }
 {
-    let n = table(out, &mut []);
+    let n = table(input, out, &mut []);
     bytes_lent(out, n)
 }
 
-pub fn number_table(out: &mut [u16]) -> usize
+pub fn number_table<R: Read>(input: &mut R, out: &mut [u16]) -> usize
     ensures { IsPrefixLen result out.new }
 {
-    let n = table(&mut [], out);
+    let n = table(input, &mut [], out);
     numbers_lent(out, n)
 }
 

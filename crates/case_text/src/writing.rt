@@ -1,14 +1,32 @@
-// How buffers and refusals are written to standard output.
+// How buffers and refusals are written to the output. A write that fails is passed over, and the next is tried.
 ghost use Rattle.std.specs.Prelude.{◌≡◌, ◌≤◌};
 
 use super::buffers::PLACES;
-use libc::STDOUT_FILENO;
+use std::io::Write;
 use tables::{Refusal, Verdict};
 
+// Bytes as they are.
+pub fn print_text<W: Write>(out: &mut W, text: &[u8]) {
+    let _ = out.write_all(text);
+}
+
+fn print_decimal<W: Write>(out: &mut W, n: usize) {
+    let mut digits = [0u8; 20];
+    let k = io::decimal(n as u64, &mut digits);
+    print_text(out, &digits[..k]);
+}
+
+// 32 bits as eight hexadecimal digits.
+pub fn print_hex<W: Write>(out: &mut W, n: u32) {
+    let mut digits = [0u8; 16];
+    let k = io::hex(n as u64, 8, &mut digits);
+    print_text(out, &digits[..k]);
+}
+
 // A number, after a space.
-pub fn print(n: usize) {
-    io::write_all(STDOUT_FILENO, b" ");
-    io::print_decimal(STDOUT_FILENO, n as u64);
+pub fn print<W: Write>(out: &mut W, n: usize) {
+    print_text(out, b" ");
+    print_decimal(out, n);
 }
 
 fn wide(x: u8) -> usize
@@ -29,11 +47,12 @@ fn place(bytes: &[u8], numbers: &[u16], i: usize) -> usize {
 }
 
 // All places of bytes or of numbers: the other slice is empty.
-fn show(bytes: &[u8], numbers: &[u16]) {
-    io::write_all(STDOUT_FILENO, b" :");
+fn show<W: Write>(out: &mut W, bytes: &[u8], numbers: &[u16]) {
+    print_text(out, b" :");
     let mut run = 0;
     for i in 0..PLACES {
         run = show_run(
+            out,
             place(bytes, numbers, i),
             place(bytes, numbers, i + 1),
             run + 1,
@@ -42,45 +61,45 @@ fn show(bytes: &[u8], numbers: &[u16]) {
 }
 
 // Writes a run if the next place holds something else; answers how long it then is.
-fn show_run(value: usize, next: usize, run: usize) -> usize
+fn show_run<W: Write>(out: &mut W, value: usize, next: usize, run: usize) -> usize
     ensures { result ≤ run }
 {
     if value == next {
         return run;
     }
-    print(value);
+    print(out, value);
     if 1 < run {
-        io::write_all(STDOUT_FILENO, b"*");
-        io::print_decimal(STDOUT_FILENO, run as u64);
+        print_text(out, b"*");
+        print_decimal(out, run);
     }
     0
 }
 
 // A buffer.
-pub fn show_bytes(s: &[u8]) {
-    show(s, &[]);
+pub fn show_bytes<W: Write>(out: &mut W, s: &[u8]) {
+    show(out, s, &[]);
 }
 
-pub fn show_numbers(s: &[u16]) {
-    show(&[], s);
+pub fn show_numbers<W: Write>(out: &mut W, s: &[u16]) {
+    show(out, &[], s);
 }
 
 // A refusal: its number, and its three numbers.
-pub fn show_refusal(r: Refusal) {
-    io::write_all(STDOUT_FILENO, b"refused");
-    print(r.number as usize);
-    print(r.first);
-    print(r.second);
-    print(r.third);
+pub fn show_refusal<W: Write>(out: &mut W, r: Refusal) {
+    print_text(out, b"refused");
+    print(out, r.number as usize);
+    print(out, r.first);
+    print(out, r.second);
+    print(out, r.third);
 }
 
-pub fn show_verdict(v: Verdict) {
+pub fn show_verdict<W: Write>(out: &mut W, v: Verdict) {
     match v {
         Verdict::Passed => {
-            io::write_all(STDOUT_FILENO, b"passed");
+            print_text(out, b"passed");
         }
         Verdict::Refused(r) => {
-            show_refusal(r);
+            show_refusal(out, r);
         }
     }
 }

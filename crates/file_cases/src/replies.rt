@@ -1,50 +1,50 @@
-// How the answers about files are written to standard output.
+// How the answers about files are written to the output.
 use block_reader::Seen;
 use blocks::Reading;
-use case_text::{print, show_refusal};
-use libc::STDOUT_FILENO;
+use case_text::{print, print_text, show_refusal};
 use packing::Packing;
+use std::io::Write;
 
-pub fn show_reading(reading: Reading) {
+pub fn show_reading<W: Write>(out: &mut W, reading: Reading) {
     match reading {
         Reading::Tables(counts) => {
-            io::write_all(STDOUT_FILENO, b"counts");
-            print(counts.boxes);
-            print(counts.containments);
-            print(counts.arrows);
+            print_text(out, b"counts");
+            print(out, counts.boxes);
+            print(out, counts.containments);
+            print(out, counts.arrows);
         }
         Reading::Refused(r) => {
-            show_refusal(r);
+            show_refusal(out, r);
         }
     }
 }
 
-pub fn show_packing(p: Packing) {
+pub fn show_packing<W: Write>(out: &mut W, p: Packing) {
     match p {
         Packing::Packed(n) => {
-            io::write_all(STDOUT_FILENO, b"packed");
-            print(n);
+            print_text(out, b"packed");
+            print(out, n);
         }
         Packing::Refused(r) => {
-            show_refusal(r);
+            show_refusal(out, r);
         }
     }
 }
 
 // The head of the block that a reader sees, if any.
-pub fn show_seen(seen: Seen) {
+pub fn show_seen<W: Write>(out: &mut W, seen: Seen) {
     match seen {
         Seen::Block(head) => {
-            io::write_all(STDOUT_FILENO, b"block");
-            print(head.kind as usize);
-            print(head.byte1 as usize);
-            print(base::wide(head.number));
-            print(base::wide(head.count));
-            print(head.byte6 as usize);
-            print(head.byte7 as usize);
+            print_text(out, b"block");
+            print(out, head.kind as usize);
+            print(out, head.byte1 as usize);
+            print(out, base::wide(head.number));
+            print(out, base::wide(head.count));
+            print(out, head.byte6 as usize);
+            print(out, head.byte7 as usize);
         }
         Seen::NoBlock => {
-            io::write_all(STDOUT_FILENO, b"none");
+            print_text(out, b"none");
         }
     }
 }

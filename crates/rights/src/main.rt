@@ -3,6 +3,9 @@
 // standard error: a failed read gives no listing, and after a failed write nothing more goes out.
 #![tactic(auto)]
 
+mod messages;
+mod watched;
+
 ghost use Rattle.std.specs.Prelude.{◌≡◌, ◌*◌, ◌≤◌, length, take};
 ghost use Rattle.base.specs.Buffers.{zeros};
 ghost use Rattle.tables.specs.Rows.{picture};
@@ -13,9 +16,14 @@ ghost use Rattle.sending.specs.Steps.{SentAll};
 ghost use Rattle.rights.specs.Steps.{GotMost};
 
 use blocks::{Counts, Reading};
-use libc::{STDERR_FILENO, STDIN_FILENO};
+use messages::{fail, usage};
 use sending::{Sent, send_picture, send_stopped};
+use std::env::{Env, FillError};
+use std::fs;
+use std::fs::Files;
+use std::io::{Error, Read, Write};
 use tables::{BoxRow, Verdict};
+use watched::Watched;
 
 // ---- Input.
 
@@ -27,16 +35,14 @@ enum Input {
 }
 
 // Reads until the buffer is full, the input ends or a read fails.
-fn read_all(fd: i32, file: &mut [u8]) -> Input
+fn read_all<R: Read>(from: &mut R, file: &mut [u8]) -> Input
     ensures { GotMost (length file.new) result }
 {
     let mut at = 0;
     while at < file.len() {
-        let got = libc::read(fd, &mut file[at..]);
-        if got < 0 {
+        let Ok(n) = from.read(&mut file[at..]) else {
             return Input::Failed;
-        }
-        let n = io::count(got, &file[at..]);
+        };
         if n == 0 {
             return Input::Bytes(at);
         }
@@ -48,7 +54,13 @@ fn read_all(fd: i32, file: &mut [u8]) -> Input
 // ---- The listing goes out: unless a write failed, what went out has the check of the listing.
 
 // Of a picture without faults.
-fn list_picture(boxes: &[u8], rows: &[u16], arrows: &[u16], closure: &[u64]) -> Sent
+fn list_picture<W: Write>(
+    to: &mut W,
+    boxes: &[u8],
+    rows: &[u16],
+    arrows: &[u16],
+    closure: &[u64],
+) -> Sent
     requires { Drawn (picture boxes.now rows.now arrows.now) closure.now }
     ensures { SentAll (picture_listing (picture boxes.now rows.now arrows.now)) result }
 {
@@ -57,6 +69,7 @@ fn list_picture(boxes: &[u8], rows: &[u16], arrows: &[u16], closure: &[u64]) -> 
     let user_count = atoms::atoms_of(boxes, rows, BoxRow::USER, &mut users);
     let file_count = atoms::atoms_of(boxes, rows, BoxRow::FILE, &mut files);
     send_picture(
+        to,
         boxes,
         rows,
         arrows,
@@ -67,7 +80,7 @@ fn list_picture(boxes: &[u8], rows: &[u16], arrows: &[u16], closure: &[u64]) -> 
 }
 
 // Of any picture.
-fn list_tables(boxes: &[u8], rows: &[u16], arrows: &[u16]) -> Sent
+fn list_tables<W: Write>(to: &mut W, boxes: &[u8], rows: &[u16], arrows: &[u16]) -> Sent
     ensures { let pic = picture boxes.now rows.now arrows.now in
         SentAll (listing_of pic (zeros 65536)) result }
 {
@@ -76,13 +89,13 @@ fn list_tables(boxes: &[u8], rows: &[u16], arrows: &[u16]) -> Sent
     let early = scratch::early_picture(boxes, rows, arrows, &scratch);
     let v = scratch::prepare(early, boxes, rows, &mut scratch, &mut closure);
     if let Verdict::Refused(r) = v {
-        return send_stopped(r);
+        return send_stopped(to, r);
     }
-    list_picture(boxes, rows, arrows, &closure)
+    list_picture(to, boxes, rows, arrows, &closure)
 }
 
 // Of tables that were read, by their row counts.
-fn list_counted(c: Counts, boxes: &[u8], rows: &[u16], arrows: &[u16]) -> Sent
+fn list_counted<W: Write>(to: &mut W, c: Counts, boxes: &[u8], rows: &[u16], arrows: &[u16]) -> Sent
     requires { (c.boxes ≤ length boxes.now) × (2 * c.containments ≤ length rows.now)
         × (4 * c.arrows ≤ length arrows.now) }
     ensures { let pic = picture (take c.boxes boxes.now)
@@ -92,7 +105,7 @@ fn list_counted(c: Counts, boxes: &[u8], rows: &[u16], arrows: &[u16]) -> Sent
     let nb = c.boxes;
     let nr = 2 * c.containments;
     let na = 4 * c.arrows;
-    list_tables(&boxes[..nb], &rows[..nr], &arrows[..na])
+    list_tables(to, &boxes[..nb], &rows[..nr], &arrows[..na])
 }
 
 // Room for the tables, and for the file with a byte more than the longest.
@@ -115,7 +128,7 @@ fn file_bytes() -> [u8; 32769]
 }
 
 // Of a file that was read.
-fn list(file: &[u8]) -> Sent
+fn list<W: Write>(to: &mut W, file: &[u8]) -> Sent
     ensures { SentAll (file_listing file.now) result }
 {
     let mut boxes = box_bytes();
@@ -123,68 +136,66 @@ fn list(file: &[u8]) -> Sent
     let mut arrows = table_numbers();
     let reading = block_files::read(file, &mut boxes, &mut rows, &mut arrows);
     match reading {
-        Reading::Refused(r) => send_stopped(r),
-        Reading::Tables(c) => list_counted(c, &boxes, &rows, &arrows),
+        Reading::Refused(r) => send_stopped(to, r),
+        Reading::Tables(c) => list_counted(to, c, &boxes, &rows, &arrows),
     }
 }
 
 // ---- Which file is read.
 
-fn list_from(fd: i32) {
+fn list_from<R: Read + Drop, W: Write + Drop, E: Write>(from: R, to: W, err: &mut E) {
+    let mut from = Watched::new(from);
+    let mut to = Watched::new(to);
     let mut file = file_bytes();
-    let input = read_all(fd, &mut file);
+    let input = read_all(&mut from, &mut file);
     let Input::Bytes(n) = input else {
-        os::fail(b"rights: cannot read the file");
+        fail(err, b"cannot read the file", from.why);
         return;
     };
-    let sent = list(&file[..n]);
+    let sent = list(&mut to, &file[..n]);
     if sent.failed {
-        os::fail(b"rights: cannot write the listing");
+        fail(err, b"cannot write the listing", to.why);
     }
 }
 
-fn list_named(name: &[u8]) {
-    let fd = os::open_read(name);
-    if fd < 0 {
-        io::write_all(STDERR_FILENO, b"rights: ");
-        os::fail(name);
+// A name that is not UTF-8 is the name of no file that std can open.
+fn list_named<F: Files, W: Write + Drop, E: Write>(files: &F, name: &[u8], to: W, err: &mut E) {
+    let Ok(path) = std::str::from_utf8(name) else {
+        fail(err, name, Some(Error::from_raw_os_error(NO_SUCH_FILE)));
         return;
+    };
+    match fs::open(files, path) {
+        Ok(file) => list_from(file, to, err),
+        Err(e) => fail(err, name, Some(e)),
     }
-    list_from(fd);
-    libc::close(fd);
 }
 
-fn usage() {
-    io::write_all(STDERR_FILENO, b"usage: rights [FILE]\n");
-    io::write_all(
-        STDERR_FILENO,
-        b"Lists the rights of the picture in a block file: FILE, or standard input.\n",
-    );
-    io::write_all(
-        STDERR_FILENO,
-        b"A listing is whole if its last line is accepted, ambiguous .. or refused ..\n",
-    );
-}
+// Linux's numbers of two errors.
+const NO_SUCH_FILE: i32 = 2;
 
-fn main() {
-    let count = os::arg_count();
-    if 2 < count {
-        usage();
-        return;
-    }
-    if count < 2 {
-        list_from(STDIN_FILENO);
+const NAME_TOO_LONG: i32 = 36;
+
+fn main(rt: HostRuntime) {
+    let mut err = rt.stderr();
+    if !matches!(rt.arg(2, &mut []), Err(FillError::NotPresent)) {
+        usage(&mut err);
         return;
     }
     let mut name = io::buffer();
-    let n = os::arg(1, &mut name);
-    if os::errno() != 0 {
-        os::fail(b"rights: argument");
-        return;
+    match rt.arg(1, &mut name) {
+        Err(FillError::NotPresent) => list_from(rt.stdin(), rt.stdout(), &mut err),
+        Err(FillError::TooLong) => fail(
+            &mut err,
+            b"argument",
+            Some(Error::from_raw_os_error(NAME_TOO_LONG)),
+        ),
+        Ok(n) => {
+            let name = &name[..n];
+            if name == b"--help".as_slice() {
+                usage(&mut err);
+            } else {
+                list_named(&rt, name, rt.stdout(), &mut err);
+            }
+        }
     }
-    if check::same(&name[..n], b"--help") {
-        usage();
-        return;
-    }
-    list_named(&name[..n]);
 }

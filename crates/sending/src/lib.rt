@@ -1,4 +1,4 @@
-// How the listing goes to standard output, a buffer at a time. No contract can speak of what is written. So the one function that writes
+// How the listing goes out, a buffer at a time. No contract can speak of what standard output takes. So the one function that writes
 // takes and answers the running check of what went out, and this is promised: unless a write failed, it is the check of the listing.
 #![tactic(auto)]
 
@@ -12,7 +12,7 @@ ghost use Rattle.listing.specs.Steps.{Prepared};
 ghost use Rattle.sending.specs.Steps.{SentAll};
 
 use blocks::Check;
-use libc::STDOUT_FILENO;
+use std::io::Write;
 use tables::Refusal;
 
 // The check of all bytes that went out, in order, unless a write failed.
@@ -23,10 +23,10 @@ pub struct Sent {
 }
 
 // The only place where bytes go to standard output.
-fn send(before: Check, bytes: &[u8]) -> Sent
+fn send<W: Write>(to: &mut W, before: Check, bytes: &[u8]) -> Sent
     ensures { result.failed ≡ false → result.check.state ≡ fnv_fold before.state bytes.now }
 {
-    let done = io::write_all(STDOUT_FILENO, bytes);
+    let done = to.write_all(bytes).is_ok();
     Sent {
         check: before.part(bytes),
         failed: !done,
@@ -34,16 +34,17 @@ fn send(before: Check, bytes: &[u8]) -> Sent
 }
 
 // The line of a refused file or picture.
-pub fn send_stopped(r: Refusal) -> Sent
+pub fn send_stopped<W: Write>(to: &mut W, r: Refusal) -> Sent
     ensures { SentAll (line_text (Stopped r)) result }
 {
     let mut out = io::buffer();
     let n = listing::stopped(r, &mut out);
-    send(Check::fresh(), &out[..n])
+    send(to, Check::fresh(), &out[..n])
 }
 
 // The listing of a picture: the counts, the pair lines, a buffer of whole rows at a time, and the last line.
-pub fn send_picture(
+pub fn send_picture<W: Write>(
+    to: &mut W,
     boxes: &[u8],
     rows: &[u16],
     arrows: &[u16],
@@ -56,14 +57,14 @@ pub fn send_picture(
 {
     let mut out = io::large_buffer();
     let first = listing::counts_line(boxes.len(), rows.len() / 2, arrows.len() / 4, &mut out);
-    let mut sent = send(Check::fresh(), &out[..first]);
+    let mut sent = send(to, Check::fresh(), &out[..first]);
     let mut place = listing::start(arrows);
     let count = listing::row_count(users, place);
     while !sent.failed & (place.row < count) {
         let chunk = listing::fill(closure, arrows, users, files, place, &mut out);
         let before = sent.check;
         let n = chunk.bytes;
-        sent = send(before, &out[..n]);
+        sent = send(to, before, &out[..n]);
         place = chunk.next;
     }
     if sent.failed {
@@ -72,5 +73,5 @@ pub fn send_picture(
     let seen = place.seen;
     let last = listing::last_line(seen, &mut out);
     let before = sent.check;
-    send(before, &out[..last])
+    send(to, before, &out[..last])
 }

@@ -17,38 +17,41 @@
 mod pictures;
 mod replies;
 
+use case_text::print_text;
 use file_cases::{check_case, file_case, pack_case};
-use libc::{STDIN_FILENO, STDOUT_FILENO};
 use pictures::{heading_case, picture_case};
+use std::io::{Read, Write};
 
-fn case() {
+fn case<R: Read, W: Write>(input: &mut R, out: &mut W) {
     let mut label = [0u8; 25];
-    if io::read_full(STDIN_FILENO, &mut label) < 25 {
+    if input.read_exact(&mut label).is_err() {
         return;
     }
-    io::write_all(STDOUT_FILENO, &label);
+    print_text(out, &label);
     match label[0] {
         b'b' => {
-            pack_case();
+            pack_case(input, out);
         }
         b'c' => {
-            check_case();
+            check_case(input, out);
         }
         b'f' => {
-            file_case();
+            file_case(input, out);
         }
         b'h' => {
-            heading_case();
+            heading_case(input, out);
         }
         _ => {
-            picture_case(label[0]);
+            picture_case(input, out, label[0]);
         }
     }
 }
 
 // At most 1,000 cases.
-fn main() {
-    for i in 0..1000usize {
-        case();
+fn main(rt: HostRuntime) {
+    let mut input = rt.stdin();
+    let mut out = rt.stdout();
+    for _ in 0..1000usize {
+        case(&mut input, &mut out);
     }
 }

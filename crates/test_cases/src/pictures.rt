@@ -1,10 +1,10 @@
 // The cases of a picture's calls, and those of its headings.
 use super::replies::{show_headings, show_listed, show_reply};
 use case_text::{
-    byte_table, bytes, bytes_lent, low, number, number_table, numbers, numbers_lent, show_bytes,
-    show_numbers, show_verdict,
+    byte_table, bytes, bytes_lent, low, number, number_table, numbers, numbers_lent, print_text,
+    show_bytes, show_numbers, show_verdict,
 };
-use libc::STDOUT_FILENO;
+use std::io::{Read, Write};
 use tables::Verdict;
 
 // The call that a letter stands for, and what it is asked.
@@ -19,13 +19,13 @@ struct Question {
     numbers: usize,
 }
 
-fn ask(letter: u8) -> Question {
-    let scratch = number();
-    let mode = number();
-    let user = number();
-    let file = number();
-    let bytes = number();
-    let numbers = number();
+fn ask<R: Read>(input: &mut R, letter: u8) -> Question {
+    let scratch = number(input);
+    let mode = number(input);
+    let user = number(input);
+    let file = number(input);
+    let bytes = number(input);
+    let numbers = number(input);
     Question {
         letter,
         scratch: scratch.value,
@@ -45,7 +45,8 @@ fn prepare(boxes: &[u8], rows: &[u16], arrows: &[u16], scratch: &mut [u8]) -> Ve
 }
 
 // The call, with the places that are lent.
-fn call(
+fn call<W: Write>(
+    out: &mut W,
     boxes: &[u8],
     rows: &[u16],
     arrows: &[u16],
@@ -63,29 +64,39 @@ fn call(
     let letter = q.letter;
     match letter {
         b'p' => {
-            show_verdict(prepare(boxes, rows, arrows, scratch));
+            show_verdict(out, prepare(boxes, rows, arrows, scratch));
         }
         b'j' => {
-            show_verdict(answers::judge(boxes, rows, arrows, scratch));
+            show_verdict(out, answers::judge(boxes, rows, arrows, scratch));
         }
         b'e' => {
-            show_reply(answers::one_entry(boxes, rows, arrows, scratch, q.user, q.file, q.mode));
+            show_reply(
+                out,
+                answers::one_entry(boxes, rows, arrows, scratch, q.user, q.file, q.mode),
+            );
         }
         b'm' => {
-            show_verdict(answers::matrix(boxes, rows, arrows, scratch, q.mode, bytes, numbers));
+            show_verdict(
+                out,
+                answers::matrix(boxes, rows, arrows, scratch, q.mode, bytes, numbers),
+            );
         }
         _ => {
-            show_listed(lists::list(boxes, rows, arrows, scratch, q.mode, numbers, bytes));
+            show_listed(
+                out,
+                lists::list(boxes, rows, arrows, scratch, q.mode, numbers, bytes),
+            );
         }
     }
 }
 
 // The line of a call, on fresh buffers.
-fn run(boxes: &[u8], rows: &[u16], arrows: &[u16], q: Question) {
+fn run<W: Write>(out: &mut W, boxes: &[u8], rows: &[u16], arrows: &[u16], q: Question) {
     let mut scratch = bytes();
     let mut bytes = bytes();
     let mut numbers = numbers();
     call(
+        out,
         boxes,
         rows,
         arrows,
@@ -94,56 +105,67 @@ fn run(boxes: &[u8], rows: &[u16], arrows: &[u16], q: Question) {
         &mut bytes,
         &mut numbers,
     );
-    show_bytes(&scratch);
-    show_bytes(&bytes);
-    show_numbers(&numbers);
-    io::write_all(STDOUT_FILENO, b"\n");
+    show_bytes(out, &scratch);
+    show_bytes(out, &bytes);
+    show_numbers(out, &numbers);
+    print_text(out, b"\n");
 }
 
-fn run_all(boxes: &[u8], rows: &[u16], arrows: &[u16], q: Question) {
-    run(boxes, rows, arrows, q);
+fn run_all<W: Write>(out: &mut W, boxes: &[u8], rows: &[u16], arrows: &[u16], q: Question) {
+    run(out, boxes, rows, arrows, q);
     if q.letter == b'p' {
         let mut next = q;
         next.letter = b'j';
-        run(boxes, rows, arrows, next);
+        run(out, boxes, rows, arrows, next);
         next.letter = b'e';
-        run(boxes, rows, arrows, next);
+        run(out, boxes, rows, arrows, next);
         next.letter = b'm';
-        run(boxes, rows, arrows, next);
+        run(out, boxes, rows, arrows, next);
     }
 }
 
-pub fn picture_case(letter: u8) {
+pub fn picture_case<R: Read, W: Write>(input: &mut R, out: &mut W, letter: u8) {
     let mut boxes = bytes();
     let mut rows = numbers();
     let mut arrows = numbers();
-    let b = byte_table(&mut boxes);
-    let r = number_table(&mut rows);
-    let a = number_table(&mut arrows);
-    run_all(&boxes[..b], &rows[..r], &arrows[..a], ask(letter));
+    let b = byte_table(input, &mut boxes);
+    let r = number_table(input, &mut rows);
+    let a = number_table(input, &mut arrows);
+    let question = ask(input, letter);
+    run_all(out, &boxes[..b], &rows[..r], &arrows[..a], question);
 }
 
 // Writes the headings into as many places of both buffers as the input says.
-fn show_atoms(boxes: &[u8], rows: &[u16], users: &mut [u16], files: &mut [u16]) {
-    let user_room = numbers_lent(users, number().value);
-    let file_room = numbers_lent(files, number().value);
-    show_headings(headings::atomic_boxes(
-        boxes,
-        rows,
-        &mut users[..user_room],
-        &mut files[..file_room],
-    ));
-    show_numbers(users);
-    show_numbers(files);
-    io::write_all(STDOUT_FILENO, b"\n");
+fn show_atoms<R: Read, W: Write>(
+    input: &mut R,
+    out: &mut W,
+    boxes: &[u8],
+    rows: &[u16],
+    users: &mut [u16],
+    files: &mut [u16],
+) {
+    let user_room = numbers_lent(users, number(input).value);
+    let file_room = numbers_lent(files, number(input).value);
+    show_headings(
+        out,
+        headings::atomic_boxes(
+            boxes,
+            rows,
+            &mut users[..user_room],
+            &mut files[..file_room],
+        ),
+    );
+    show_numbers(out, users);
+    show_numbers(out, files);
+    print_text(out, b"\n");
 }
 
-pub fn heading_case() {
+pub fn heading_case<R: Read, W: Write>(input: &mut R, out: &mut W) {
     let mut boxes = bytes();
     let mut rows = numbers();
     let mut users = numbers();
     let mut files = numbers();
-    let b = byte_table(&mut boxes);
-    let r = number_table(&mut rows);
-    show_atoms(&boxes[..b], &rows[..r], &mut users, &mut files);
+    let b = byte_table(input, &mut boxes);
+    let r = number_table(input, &mut rows);
+    show_atoms(input, out, &boxes[..b], &rows[..r], &mut users, &mut files);
 }

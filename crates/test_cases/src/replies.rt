@@ -1,64 +1,64 @@
-// How the answers of the calls are written to standard output.
+// How the answers of the calls are written to the output.
 use answers::EntryReply;
-use case_text::{print, show_refusal};
+use case_text::{print, print_text, show_refusal};
 use headings::Headings;
-use libc::STDOUT_FILENO;
 use list_meaning::Listed;
 use meaning::Entry;
+use std::io::Write;
 
-fn show_entry(e: Entry) {
+fn show_entry<W: Write>(out: &mut W, e: Entry) {
     match e {
         Entry::Granted(k) => {
-            io::write_all(STDOUT_FILENO, b"granted");
-            print(base::wide(k));
+            print_text(out, b"granted");
+            print(out, base::wide(k));
         }
         Entry::Denied(k) => {
-            io::write_all(STDOUT_FILENO, b"denied");
-            print(base::wide(k));
+            print_text(out, b"denied");
+            print(out, base::wide(k));
         }
         Entry::Default => {
-            io::write_all(STDOUT_FILENO, b"default");
+            print_text(out, b"default");
         }
         Entry::Unclear(p, n) => {
-            io::write_all(STDOUT_FILENO, b"unclear");
-            print(base::wide(p));
-            print(base::wide(n));
+            print_text(out, b"unclear");
+            print(out, base::wide(p));
+            print(out, base::wide(n));
         }
     }
 }
 
-pub fn show_reply(r: EntryReply) {
+pub fn show_reply<W: Write>(out: &mut W, r: EntryReply) {
     match r {
         EntryReply::Answered(e) => {
-            show_entry(e);
+            show_entry(out, e);
         }
         EntryReply::Refused(refusal) => {
-            show_refusal(refusal);
+            show_refusal(out, refusal);
         }
     }
 }
 
-pub fn show_listed(l: Listed) {
+pub fn show_listed<W: Write>(out: &mut W, l: Listed) {
     match l {
         Listed::Written(n) => {
-            io::write_all(STDOUT_FILENO, b"written");
-            print(n);
+            print_text(out, b"written");
+            print(out, n);
         }
         Listed::Refused(r) => {
-            show_refusal(r);
+            show_refusal(out, r);
         }
     }
 }
 
-pub fn show_headings(h: Headings) {
+pub fn show_headings<W: Write>(out: &mut W, h: Headings) {
     match h {
         Headings::Written(users, files) => {
-            io::write_all(STDOUT_FILENO, b"written");
-            print(users);
-            print(files);
+            print_text(out, b"written");
+            print(out, users);
+            print(out, files);
         }
         Headings::Refused(r) => {
-            show_refusal(r);
+            show_refusal(out, r);
         }
     }
 }
