@@ -1,11 +1,10 @@
 -- `base::fill` meets its contract: the places before p hold the value. Assumes nothing.
 use mathlib.Core.List.{List}
 use mathlib.Core.Path.{◌≡◌, refl, sym, ap, ◌∙◌}
-use Prim.Native.Nat.{ℕ, ◌-◌, ◌≤◌}
+use Prim.Native.Nat.{ℕ}
 use native.Mathlib.Omega.{arith}
 use borrow.Author.Rules.{rules}
-use lib.ListN.{length, replicate, set, length-set}
-use Rattle.base.specs.Buffers.{written}
+use lib.ListN.{set, length-set}
 use Rattle.base.proofs.BufferLaws.{written_none, written_same}
 use Rattle.base.proofs.fill.Goals as goal
 

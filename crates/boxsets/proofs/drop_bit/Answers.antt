@@ -1,7 +1,6 @@
 -- `boxsets::drop_bit` meets its contract: 1 less has the same bits above the lowest. Assumes nothing.
 use Prim.Native.Nat.{◌-◌}
 use native.Mathlib.Omega.{arith}
-use borrow.Author.Rules.{rules}
 use lib.Bits.{and_le_r}
 use Rattle.boxsets.proofs.LowBitLaws.{drop-bit}
 use Rattle.boxsets.proofs.drop_bit.Goals as goal

@@ -1,6 +1,5 @@
 -- `boxsets::is_in` meets its contract: the bit is shifted down to the lowest place. Assumes nothing.
 use Prim.Native.Nat.{◌%◌}
-use borrow.Author.Rules.{rules}
 use Rattle.boxsets.specs.Sets.{is_in}
 use Rattle.boxsets.proofs.WordLaws.{low-shifted}
 use Rattle.boxsets.proofs.is_in.Goals as goal

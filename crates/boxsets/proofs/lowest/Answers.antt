@@ -1,7 +1,6 @@
 -- `boxsets::lowest` meets its contract: by the first word that is not 0. Assumes nothing.
 use mathlib.Core.Path.{sym}
 use native.Mathlib.Omega.{arith}
-use borrow.Author.Rules.{rules}
 use Rattle.base.proofs.SearchLaws.{lowest-some}
 use Rattle.boxsets.specs.Words.{bit_at}
 use Rattle.boxsets.specs.Sets.{word_at}

@@ -1,10 +1,9 @@
 -- `boxsets::set_of` meets its contract: r has the numbers before place i. Assumes nothing.
 use mathlib.Core.Path.{◌≡◌}
-use Prim.Native.Nat.{◌-◌, ◌≤◌}
 use native.Mathlib.Omega.{arith}
 use borrow.Author.Rules.{rules}
 use lib.ListN.{length}
-use Rattle.boxsets.proofs.AmongLaws.{Taken, taken_none, taken_more, taken-all}
+use Rattle.boxsets.proofs.AmongLaws.{taken_none, taken_more, taken-all}
 use Rattle.boxsets.proofs.set_of.Goals as goal
 
 pub loop-i-init : goal.loop-i-init

@@ -1,7 +1,6 @@
 -- `boxsets::single` meets its contract: by the word that has the number. Assumes nothing.
 use Prim.Native.Nat.{◌%◌}
 use native.Mathlib.Omega.{arith}
-use borrow.Author.Rules.{rules}
 use Rattle.boxsets.proofs.WordLaws.{one_shifted}
 use Rattle.boxsets.proofs.MemberLaws.{single-in}
 use Rattle.boxsets.proofs.single.Goals as goal

@@ -1,7 +1,6 @@
 -- `set_tables::table::add` meets its contract: one bit more. Assumes nothing.
 use Prim.Native.Nat.{◌%◌}
 use native.Mathlib.Omega.{arith}
-use borrow.Author.Rules.{rules}
 use lib.ListN.{length-set}
 use Rattle.boxsets.proofs.WordLaws.{one_shifted}
 use Rattle.boxsets.proofs.TableLaws.{add-has}

@@ -1,5 +1,4 @@
 -- `set_tables::table::join_each` meets its contract: a set's numbers are those of its four words. Assumes nothing.
-use borrow.Author.Rules.{rules}
 use Rattle.boxsets.proofs.JoinLaws.{joins-words}
 use Rattle.set_tables.proofs.join_each.Goals as goal
 

@@ -4,12 +4,11 @@ use mathlib.Core.Bool.{◌||◌}
 use mathlib.Core.Path.{◌≡◌, subst}
 use Prim.Native.Nat.{ℕ, ◌<◌}
 use native.Mathlib.Omega.{arith}
-use borrow.Author.Rules.{rules}
 use Rattle.base.proofs.SearchLaws.{lowest-some}
 use Rattle.boxsets.specs.Words.{bit_at}
 use Rattle.boxsets.specs.Sets.{is_in}
 use Rattle.boxsets.specs.declared.Set.{Set}
-use Rattle.boxsets.proofs.JoinLaws.{Left, left-none, left-next, left_end}
+use Rattle.boxsets.proofs.JoinLaws.{left-none, left-next, left_end}
 use Rattle.set_tables.proofs.join_word.Goals.{After-low_bit}
 use Rattle.set_tables.proofs.join_word.Goals as goal
 

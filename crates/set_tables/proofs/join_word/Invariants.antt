@@ -1,13 +1,4 @@
-use mathlib.Core.Bool.{◌||◌}
-use mathlib.Core.Path.{◌≡◌, subst}
-use Prim.Native.Nat.{ℕ, ◌<◌}
-use native.Mathlib.Omega.{arith}
-use borrow.Author.Rules.{rules}
-use Rattle.base.proofs.SearchLaws.{lowest-some}
-use Rattle.boxsets.specs.Words.{bit_at}
-use Rattle.boxsets.specs.Sets.{is_in}
-use Rattle.boxsets.specs.declared.Set.{Set}
-use Rattle.boxsets.proofs.JoinLaws.{Left, left-none, left-next, left_end}
+use Rattle.boxsets.proofs.JoinLaws.{Left}
 use Rattle.set_tables.proofs.join_word.Given as goal
 
 abbrev pub invariant-loop-rest : goal.invariant-loop-rest

@@ -1,6 +1,5 @@
 -- `set_tables::table::put_set` meets its contract: four places are written. Assumes nothing.
 use native.Mathlib.Omega.{arith}
-use borrow.Author.Rules.{rules}
 use lib.ListN.{length-set}
 use Rattle.boxsets.proofs.TableLaws.{put_is}
 use Rattle.set_tables.proofs.put_set.Goals as goal

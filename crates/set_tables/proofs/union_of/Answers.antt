@@ -1,5 +1,4 @@
 -- `set_tables::table::union_of` meets its contract: a set's numbers are those of its four words. Assumes nothing.
-use borrow.Author.Rules.{rules}
 use Rattle.boxsets.proofs.UnionLaws.{union-words}
 use Rattle.set_tables.proofs.union_of.Goals as goal
 

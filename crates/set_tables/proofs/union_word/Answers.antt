@@ -3,10 +3,9 @@
 use mathlib.Core.Path.{◌≡◌, refl}
 use Prim.Native.Nat.{◌<◌}
 use native.Mathlib.Omega.{arith}
-use borrow.Author.Rules.{rules}
 use Rattle.base.proofs.SearchLaws.{lowest-some}
 use Rattle.boxsets.specs.Words.{bit_at}
-use Rattle.boxsets.proofs.UnionLaws.{Found, found-next, found-end}
+use Rattle.boxsets.proofs.UnionLaws.{found-next, found-end}
 use Rattle.set_tables.proofs.union_word.Goals.{After-low_bit}
 use Rattle.set_tables.proofs.union_word.Goals as goal
 

@@ -1,10 +1,4 @@
-use mathlib.Core.Path.{◌≡◌, refl}
-use Prim.Native.Nat.{◌<◌}
-use native.Mathlib.Omega.{arith}
-use borrow.Author.Rules.{rules}
-use Rattle.base.proofs.SearchLaws.{lowest-some}
-use Rattle.boxsets.specs.Words.{bit_at}
-use Rattle.boxsets.proofs.UnionLaws.{Found, found-next, found-end}
+use Rattle.boxsets.proofs.UnionLaws.{Found}
 use Rattle.set_tables.proofs.union_word.Given as goal
 
 abbrev pub invariant-loop-rest : goal.invariant-loop-rest

@@ -1,0 +1,14 @@
+use mathlib.Core.Path.{◌≡◌, sym, ◌∙◌}
+use Prim.Native.Nat.{◌-◌}
+use native.Mathlib.Omega.{arith}
+use borrow.Author.Rules.{rules}
+use lib.ListN.{length, length-set}
+use Rattle.list_order.proofs.TurnLaws.{Ordering, ordering-none, ordering-next, ordering-done, ordering-full}
+use Rattle.list_order.proofs.order.Given as goal
+
+abbrev pub invariant-loop-count : goal.invariant-loop-count
+invariant-loop-count l =
+    Ordering l.closure l.arrows l.own l.granted l.initial.left l.initial.out l.left l.out l.done l.count l.from
+
+abbrev pub decreases-loop-count : goal.decreases-loop-count
+decreases-loop-count l = length l.own - l.count

@@ -1,0 +1,28 @@
+-- `list_order::take_arrow` meets its contract: the sets of the arrow's ends. Assumes nothing.
+use Prim.Native.Nat.{◌<◌}
+use native.Mathlib.Omega.{arith}
+use borrow.Author.Rules.{rules}
+use Rattle.list_order.proofs.take_arrow.Goals as goal
+
+pub set_at-users-requires : goal.set_at-users-requires
+set_at-users-requires c =
+    let small : c.wide.result < 256 =
+    rw (c.wide.ensures, c.at-a.ensures) (c.requires.2.tail-small c.args.k c.requires.3) in
+    omega (arith, c.requires.0)
+
+pub set_at-files-requires : goal.set_at-files-requires
+set_at-files-requires c =
+    let small : c.wide-2.result < 256 =
+    rw (c.wide-2.ensures, c.at-a.ensures) (c.requires.2.head_small c.args.k c.requires.3) in
+    omega (arith, c.requires.0)
+
+pub returns : goal.returns
+returns c =
+    rw (
+      c.set_at-files.ensures,
+      c.wide-2.ensures,
+      c.set_at-users.ensures,
+      c.wide.ensures,
+      c.at-a.ensures,
+    )
+    at c.take_files.ensures
