@@ -1,8 +1,6 @@
 -- `list_order::first_open` meets its contract: the places from `from` on are marked up to i. Assumes nothing.
-use Prim.Native.Nat.{◌-◌}
 use native.Mathlib.Omega.{arith}
 use borrow.Author.Rules.{rules}
-use Rattle.list_order.specs.Steps.{MarkedTo}
 use Rattle.list_order.proofs.FreeLaws.{marked-none, marked_more}
 use Rattle.list_order.proofs.first_open.Goals as goal
 

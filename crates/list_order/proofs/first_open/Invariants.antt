@@ -1,8 +1,4 @@
-use Prim.Native.Nat.{◌-◌}
-use native.Mathlib.Omega.{arith}
-use borrow.Author.Rules.{rules}
 use Rattle.list_order.specs.Steps.{MarkedTo}
-use Rattle.list_order.proofs.FreeLaws.{marked-none, marked_more}
 use Rattle.list_order.proofs.first_open.Given as goal
 
 abbrev pub invariant-loop-i : goal.invariant-loop-i

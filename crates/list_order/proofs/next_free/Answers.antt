@@ -1,12 +1,11 @@
 -- `list_order::next_free` meets its contract: no place before i is free, and what is marked is spent. Assumes nothing.
 use mathlib.Core.Path.{◌≡◌, ◌∙◌}
-use Prim.Native.Nat.{◌-◌, ◌<◌}
+use Prim.Native.Nat.{◌<◌}
 use native.Mathlib.Omega.{arith}
-use borrow.Author.Rules.{rules}
 use lib.ListN.{length, get_or}
 use Rattle.tables.specs.Rows.{arrow_at}
 use Rattle.list_standing.specs.Steps.{standing_by, mark_of}
-use Rattle.list_order.proofs.FreeLaws.{Looked, looked-from, looked-skip, looked-found, looked-more, looked-end}
+use Rattle.list_order.proofs.FreeLaws.{looked-from, looked-skip, looked-found, looked-more, looked-end}
 use Rattle.list_order.proofs.next_free.Goals.{After-look-mark}
 use Rattle.list_order.proofs.next_free.Goals as goal
 

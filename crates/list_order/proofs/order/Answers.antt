@@ -1,11 +1,9 @@
 -- `list_order::order` meets its contract: the first places of the list stand, what is left is what they do not reach, and the arrows
 -- before `from` are spent. Assumes nothing.
 use mathlib.Core.Path.{◌≡◌, sym, ◌∙◌}
-use Prim.Native.Nat.{◌-◌}
 use native.Mathlib.Omega.{arith}
-use borrow.Author.Rules.{rules}
 use lib.ListN.{length, length-set}
-use Rattle.list_order.proofs.TurnLaws.{Ordering, ordering-none, ordering-next, ordering-done, ordering-full}
+use Rattle.list_order.proofs.TurnLaws.{ordering-none, ordering-next, ordering-done, ordering-full}
 use Rattle.list_order.proofs.order.Goals.{After-next_free-i}
 use Rattle.list_order.proofs.order.Goals as goal
 

@@ -1,9 +1,6 @@
-use mathlib.Core.Path.{◌≡◌, sym, ◌∙◌}
 use Prim.Native.Nat.{◌-◌}
-use native.Mathlib.Omega.{arith}
-use borrow.Author.Rules.{rules}
-use lib.ListN.{length, length-set}
-use Rattle.list_order.proofs.TurnLaws.{Ordering, ordering-none, ordering-next, ordering-done, ordering-full}
+use lib.ListN.{length}
+use Rattle.list_order.proofs.TurnLaws.{Ordering}
 use Rattle.list_order.proofs.order.Given as goal
 
 abbrev pub invariant-loop-count : goal.invariant-loop-count

@@ -1,7 +1,6 @@
 -- `list_order::take_arrow` meets its contract: the sets of the arrow's ends. Assumes nothing.
 use Prim.Native.Nat.{◌<◌}
 use native.Mathlib.Omega.{arith}
-use borrow.Author.Rules.{rules}
 use Rattle.list_order.proofs.take_arrow.Goals as goal
 
 pub set_at-users-requires : goal.set_at-users-requires

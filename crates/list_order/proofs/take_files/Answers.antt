@@ -1,5 +1,4 @@
 -- `list_order::take_files` meets its contract: a set's numbers are those of its four words. Assumes nothing.
-use borrow.Author.Rules.{rules}
 use Rattle.list_order.proofs.TakeLaws.{takes-words}
 use Rattle.list_order.proofs.take_files.Goals as goal
 

@@ -3,11 +3,10 @@
 use mathlib.Core.Path.{◌≡◌, ◌∙◌}
 use Prim.Native.Nat.{◌<◌}
 use native.Mathlib.Omega.{arith}
-use borrow.Author.Rules.{rules}
 use Rattle.base.proofs.SearchLaws.{lowest-some}
 use Rattle.boxsets.specs.Words.{bit_at}
 use Rattle.boxsets.proofs.TableLaws.{has_in}
-use Rattle.list_order.proofs.TakeLaws.{Taking, taking-none, taking-more, taking-end}
+use Rattle.list_order.proofs.TakeLaws.{taking-none, taking-more, taking-end}
 use Rattle.list_order.proofs.take_word.Goals.{After-low_bit}
 use Rattle.list_order.proofs.take_word.Goals as goal
 
