@@ -1,11 +1,8 @@
 -- `list_sets::check_left` meets its contract: no file of the first i users is both left and granted. Assumes nothing.
 use mathlib.Core.Path.{sym, ◌∙◌}
-use Prim.Native.Nat.{◌-◌, ◌≤◌}
 use native.Mathlib.Omega.{arith}
-use borrow.Author.Tests.{not-true, not-false}
 use borrow.Author.Rules.{rules}
-use lib.ListN.{length}
-use Rattle.list_sets.proofs.LeftLaws.{NoneMissed, missed_more, missed-none, missed-found}
+use Rattle.list_sets.proofs.LeftLaws.{missed_more, missed-none, missed-found}
 use Rattle.list_sets.proofs.check_left.Goals as goal
 
 pub loop-i-init : goal.loop-i-init

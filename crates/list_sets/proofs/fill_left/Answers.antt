@@ -1,12 +1,10 @@
 -- `list_sets::fill_left` meets its contract: each of the first i users has all files. Assumes nothing.
-use mathlib.Core.Path.{◌≡◌, refl, ap, ◌∙◌}
-use Prim.Native.Nat.{◌-◌, ◌≤◌}
+use mathlib.Core.Path.{refl, ap, ◌∙◌}
 use native.Mathlib.Omega.{arith}
 use borrow.Author.Rules.{rules}
 use lib.ListN.{length}
 use Rattle.base.proofs.BufferLaws.{zeros-length}
-use Rattle.boxsets.specs.Sets.{is_in, table_words}
-use Rattle.list_sets.proofs.LeftLaws.{Filled, filled_none, filled_more, filled-files}
+use Rattle.list_sets.proofs.LeftLaws.{filled_none, filled_more, filled-files}
 use Rattle.list_sets.proofs.fill_left.Goals as goal
 
 pub loop-i-init : goal.loop-i-init

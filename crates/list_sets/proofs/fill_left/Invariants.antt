@@ -1,11 +1,8 @@
-use mathlib.Core.Path.{◌≡◌, refl, ap, ◌∙◌}
-use Prim.Native.Nat.{◌-◌, ◌≤◌}
-use native.Mathlib.Omega.{arith}
-use borrow.Author.Rules.{rules}
+use mathlib.Core.Path.{◌≡◌}
+use Prim.Native.Nat.{◌≤◌}
 use lib.ListN.{length}
-use Rattle.base.proofs.BufferLaws.{zeros-length}
 use Rattle.boxsets.specs.Sets.{is_in, table_words}
-use Rattle.list_sets.proofs.LeftLaws.{Filled, filled_none, filled_more, filled-files}
+use Rattle.list_sets.proofs.LeftLaws.{Filled}
 use Rattle.list_sets.proofs.fill_left.Given as goal
 
 abbrev pub invariant-loop-i : goal.invariant-loop-i

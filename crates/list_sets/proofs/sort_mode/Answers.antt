@@ -1,5 +1,4 @@
 -- `list_sets::sort_mode` meets its contract: the mode's arrows, and the rows. Assumes nothing.
-use borrow.Author.Rules.{rules}
 use Rattle.user_kinds.proofs.TakenLaws.{Taken, taken_in}
 use Rattle.list_sets.proofs.sort_mode.Goals.{After-take_mode-count}
 use Rattle.list_sets.proofs.sort_mode.Goals as goal

@@ -1,18 +1,12 @@
 -- `list_sets::sort_rows` meets its contract: no pair of the first i users is unclear, and each of them has her granted files. Assumes
 -- nothing.
-use mathlib.Core.Path.{◌≡◌, sym, ap, ◌∙◌}
-use Prim.Native.Nat.{◌-◌, ◌≤◌}
+use mathlib.Core.Path.{sym, ap, ◌∙◌}
 use native.Mathlib.Omega.{arith}
-use borrow.Author.Tests.{not-true, not-false}
 use borrow.Author.Rules.{rules}
 use lib.ListN.{length}
 use Rattle.base.proofs.BufferLaws.{zeros-length}
-use Rattle.tables.specs.Rows.{Picture}
-use Rattle.boxsets.specs.Sets.{table_words}
-use Rattle.user_rows.specs.Steps.{Ready, Moded}
-use Rattle.user_kinds.specs.Steps.{Noted}
 use Rattle.user_kinds.proofs.AlikeLaws.{noted-none}
-use Rattle.list_sets.proofs.SortLaws.{Sorting, sorting-none, sorting-alike, sorting-more, sorting-found, sorting-end}
+use Rattle.list_sets.proofs.SortLaws.{sorting-none, sorting-alike, sorting-more, sorting-found, sorting-end}
 use Rattle.list_sets.proofs.sort_rows.Goals as goal
 
 pub loop-i-init : goal.loop-i-init

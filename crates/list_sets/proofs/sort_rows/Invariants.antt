@@ -1,16 +1,11 @@
-use mathlib.Core.Path.{◌≡◌, sym, ap, ◌∙◌}
-use Prim.Native.Nat.{◌-◌, ◌≤◌}
-use native.Mathlib.Omega.{arith}
-use borrow.Author.Tests.{not-true, not-false}
-use borrow.Author.Rules.{rules}
+use mathlib.Core.Path.{◌≡◌}
+use Prim.Native.Nat.{◌≤◌}
 use lib.ListN.{length}
-use Rattle.base.proofs.BufferLaws.{zeros-length}
 use Rattle.tables.specs.Rows.{Picture}
 use Rattle.boxsets.specs.Sets.{table_words}
 use Rattle.user_rows.specs.Steps.{Ready, Moded}
 use Rattle.user_kinds.specs.Steps.{Noted}
-use Rattle.user_kinds.proofs.AlikeLaws.{noted-none}
-use Rattle.list_sets.proofs.SortLaws.{Sorting, sorting-none, sorting-alike, sorting-more, sorting-found, sorting-end}
+use Rattle.list_sets.proofs.SortLaws.{Sorting}
 use Rattle.list_sets.proofs.sort_rows.Given as goal
 
 abbrev pub invariant-loop-i : goal.invariant-loop-i

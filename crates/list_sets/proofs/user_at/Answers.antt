@@ -1,5 +1,4 @@
 -- `list_sets::user_at` meets its contract: the number at the place, which is one of a box. Assumes nothing.
-use borrow.Author.Rules.{rules}
 use Rattle.list_sets.proofs.user_at.Goals as goal
 
 pub returns : goal.returns
