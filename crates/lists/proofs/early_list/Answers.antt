@@ -1,6 +1,5 @@
 -- `lists::early_list` meets its contract: checks 1 to 7 refuse, or leave 8 and 9 their facts. Assumes nothing.
 use mathlib.Core.Path.{sym, ◌∙◌}
-use borrow.Author.Rules.{rules}
 use Rattle.tables.specs.Steps.{SoundRows}
 use Rattle.tables.proofs.TableLaws.{sound-rows}
 use Rattle.tables.proofs.Verdicts.{passed}

@@ -1,7 +1,6 @@
 -- `lists::list` meets its contract: each stage refuses, or leaves the next one its facts. Assumes nothing.
 use mathlib.Core.Path.{◌≡◌, sym, ◌∙◌}
 use mathlib.Core.Option.{none}
-use borrow.Author.Rules.{rules}
 use Rattle.tables.specs.Rows.{picture}
 use Rattle.tables.specs.Refusals.{verdict_of}
 use Rattle.tables.proofs.TableLaws.{sound-rows, sound-arrows}
@@ -43,13 +42,13 @@ returns-in-Refused c =
     let a = c.args in
     let p = prepared (goal.at.returns-in-Refused c).After-prepare-verdict in record {
       result_value = (end_refused (picture a.boxes.now a.rows.now a.arrows.now) a.mode a.scratch.now a.out.now a.work.now _
-    (refused _ _ (sym p.0 ∙ c.in-Refused.is)) _ p.1).0;
+          (refused _ _ (sym p.0 ∙ c.in-Refused.is)) _ p.1).0;
       scratch_after = (end_refused (picture a.boxes.now a.rows.now a.arrows.now) a.mode a.scratch.now a.out.now a.work.now _
-    (refused _ _ (sym p.0 ∙ c.in-Refused.is)) _ p.1).1.0;
+          (refused _ _ (sym p.0 ∙ c.in-Refused.is)) _ p.1).1.0;
       out_after = (end_refused (picture a.boxes.now a.rows.now a.arrows.now) a.mode a.scratch.now a.out.now a.work.now _
-    (refused _ _ (sym p.0 ∙ c.in-Refused.is)) _ p.1).1.1.0;
+          (refused _ _ (sym p.0 ∙ c.in-Refused.is)) _ p.1).1.1.0;
       work_after = (end_refused (picture a.boxes.now a.rows.now a.arrows.now) a.mode a.scratch.now a.out.now a.work.now _
-    (refused _ _ (sym p.0 ∙ c.in-Refused.is)) _ p.1).1.1.1;
+          (refused _ _ (sym p.0 ∙ c.in-Refused.is)) _ p.1).1.1.1;
     }
 
 pub write_list-requires : goal.write_list-requires
@@ -70,11 +69,11 @@ pub returns : goal.returns
 returns c =
     let a = c.args in record {
       result_value = (end-listing (picture a.boxes.now a.rows.now a.arrows.now) a.mode a.scratch.now a.out.now a.work.now (ten (goal.at.returns c).In_default) _
-    (prepared (goal.at.returns c).After-prepare-verdict).1 _ _ _ c.write_list.ensures).0;
+          (prepared (goal.at.returns c).After-prepare-verdict).1 _ _ _ c.write_list.ensures).0;
       scratch_after = (end-listing (picture a.boxes.now a.rows.now a.arrows.now) a.mode a.scratch.now a.out.now a.work.now (ten (goal.at.returns c).In_default) _
-    (prepared (goal.at.returns c).After-prepare-verdict).1 _ _ _ c.write_list.ensures).1.0;
+          (prepared (goal.at.returns c).After-prepare-verdict).1 _ _ _ c.write_list.ensures).1.0;
       out_after = (end-listing (picture a.boxes.now a.rows.now a.arrows.now) a.mode a.scratch.now a.out.now a.work.now (ten (goal.at.returns c).In_default) _
-    (prepared (goal.at.returns c).After-prepare-verdict).1 _ _ _ c.write_list.ensures).1.1.0;
+          (prepared (goal.at.returns c).After-prepare-verdict).1 _ _ _ c.write_list.ensures).1.1.0;
       work_after = (end-listing (picture a.boxes.now a.rows.now a.arrows.now) a.mode a.scratch.now a.out.now a.work.now (ten (goal.at.returns c).In_default) _
-    (prepared (goal.at.returns c).After-prepare-verdict).1 _ _ _ c.write_list.ensures).1.1.1;
+          (prepared (goal.at.returns c).After-prepare-verdict).1 _ _ _ c.write_list.ensures).1.1.1;
     }

@@ -1,6 +1,5 @@
 -- `lists::write_list` meets its contract: what the list of the mode is found from. Assumes nothing.
 use mathlib.Core.Path.{refl}
-use borrow.Author.Rules.{rules}
 use Rattle.tables.specs.Rows.{picture, user}
 use Rattle.mode_sets.proofs.CallerLaws.{small-arrows}
 use Rattle.user_kinds.proofs.AtomLaws.{Listed, listed}

@@ -1,6 +1,5 @@
 -- `lists::stages::finish` meets its contract, by what check 13 found. Assumes nothing.
 use mathlib.Core.Path.{sym, ◌∙◌}
-use borrow.Author.Rules.{rules}
 use Rattle.tables.proofs.Verdicts.{passed, refused}
 use Rattle.list_meaning.specs.Greedy.{order_fault}
 use Rattle.list_meaning.proofs.CallLaws.{finish-written, finish-refused}

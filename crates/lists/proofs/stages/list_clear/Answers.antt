@@ -1,7 +1,6 @@
 -- `lists::stages::list_clear` meets its contract: the list is ordered, checked and finished. Assumes nothing.
 use mathlib.Core.Path.{ap, ◌∙◌}
 use mathlib.Core.List.{List}
-use borrow.Author.Rules.{rules}
 use lib.ListN.{length}
 use Rattle.meaning.specs.Meaning.{mode_arrows}
 use Rattle.lists.proofs.stages.list_clear.Goals as goal

@@ -1,12 +1,9 @@
 -- `lists::stages::mode_count` meets its contract: the count is that of the mode's arrows below k. Assumes nothing.
 use mathlib.Core.Path.{◌≡◌, sym, ap, ◌∙◌}
-use mathlib.Core.Logic.{⊎_elim}
-use Prim.Native.Nat.{◌-◌, ◌≤◌}
 use native.Mathlib.Omega.{arith}
 use borrow.Author.Rules.{rules}
 use borrow.Author.Tests.{eq-eqb, ne_eqb}
 use lib.ListN.{length}
-use Rattle.base.specs.Search.{select}
 use Rattle.base.proofs.BufferLaws.{select-most}
 use Rattle.tables.specs.Rows.{arrow_count}
 use Rattle.tables.specs.declared.Arrow.{Arrow}
@@ -29,12 +26,12 @@ loop-k-preserved c =
     let a = c.args in
     let mode-is = ap (λ (x : Arrow). x.mode) c.at-a.ensures in
     elim c.if-a-mode.branch [
-      then-a-mode w ↦ (
+      | then-a-mode w ↦ (
         search rules,
         w.count-is ∙ select-one (has_mode a.arrows.now a.mode) c.loop-k.k c.loop-k.count
             (has_mode-is _ _ _ ∙ eq-eqb _ a.mode (sym mode-is ∙ w.if-a-mode.true)) c.loop-k.invariant.1,
       )
-    | else-a-mode w ↦ (
+      | else-a-mode w ↦ (
         search rules,
         w.count-is ∙ select-skip (has_mode a.arrows.now a.mode) c.loop-k.k c.loop-k.count
             (has_mode-is _ _ _ ∙ ne_eqb _ a.mode (λ e. w.if-a-mode.false (mode-is ∙ e))) c.loop-k.invariant.1,
