@@ -1,4 +1,3 @@
-use borrow.Author.Rules.{rules}
 use Rattle.rights_c.proofs.of_asked.Goals as goal
 
 pub returns-in-Answered : goal.returns-in-Answered

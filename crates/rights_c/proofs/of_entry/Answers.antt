@@ -1,4 +1,3 @@
-use borrow.Author.Rules.{rules}
 use Rattle.rights_c.proofs.of_entry.Goals as goal
 
 pub returns-in-Granted : goal.returns-in-Granted

@@ -1,5 +1,4 @@
 -- `rights_c::of_headings` meets its contract: both cases. Assumes nothing.
-use borrow.Author.Rules.{rules}
 use Rattle.rights_c.proofs.of_headings.Goals as goal
 
 pub returns-in-Written : goal.returns-in-Written

@@ -1,4 +1,3 @@
-use borrow.Author.Rules.{rules}
 use Rattle.rights_c.proofs.of_list.Goals as goal
 
 pub returns-in-Written : goal.returns-in-Written

@@ -1,4 +1,3 @@
-use borrow.Author.Rules.{rules}
 use Rattle.rights_c.proofs.of_packing.Goals as goal
 
 pub returns-in-Packed : goal.returns-in-Packed

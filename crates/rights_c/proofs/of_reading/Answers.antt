@@ -1,4 +1,3 @@
-use borrow.Author.Rules.{rules}
 use Rattle.rights_c.proofs.of_reading.Goals as goal
 
 pub returns-in-Tables : goal.returns-in-Tables

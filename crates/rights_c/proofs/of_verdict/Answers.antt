@@ -1,4 +1,3 @@
-use borrow.Author.Rules.{rules}
 use Rattle.rights_c.proofs.of_verdict.Goals as goal
 
 pub returns-in-Passed : goal.returns-in-Passed

@@ -1,6 +1,5 @@
 -- `rights_c::rights_atoms` meets its contract: the reply of the call beneath. Assumes nothing.
 use mathlib.Core.Path.{ap, ◌∙◌}
-use borrow.Author.Rules.{rules}
 use Rattle.rights_c.specs.Steps.{heading_reply}
 use Rattle.rights_c.proofs.ReplyLaws.{heading-reply}
 use Rattle.rights_c.proofs.rights_atoms.Goals as goal

@@ -1,5 +1,4 @@
 use mathlib.Core.Path.{ap, ◌∙◌}
-use borrow.Author.Rules.{rules}
 use Rattle.rights_c.specs.Steps.{asked_reply}
 use Rattle.rights_c.proofs.ReplyLaws.{asked-reply}
 use Rattle.rights_c.proofs.rights_entry.Goals as goal

@@ -1,6 +1,5 @@
 -- `rights_c::rights_list` meets its contract: the reply of the call beneath. Assumes nothing.
 use mathlib.Core.Path.{ap, ◌∙◌}
-use borrow.Author.Rules.{rules}
 use Rattle.rights_c.specs.Steps.{list_reply}
 use Rattle.rights_c.proofs.ReplyLaws.{list-reply}
 use Rattle.rights_c.proofs.rights_list.Goals as goal

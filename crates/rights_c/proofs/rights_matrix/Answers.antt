@@ -1,6 +1,5 @@
 -- `rights_c::rights_matrix` meets its contract: the reply of the call beneath. Assumes nothing.
 use mathlib.Core.Path.{ap, ◌∙◌}
-use borrow.Author.Rules.{rules}
 use Rattle.tables.specs.Rows.{picture}
 use Rattle.answers.specs.Calls.{matrix_fault}
 use Rattle.rights_c.specs.Steps.{verdict_reply}

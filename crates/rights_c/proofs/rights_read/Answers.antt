@@ -1,6 +1,5 @@
 -- `rights_c::rights_read` meets its contract: the reply of the call beneath. Assumes nothing.
 use mathlib.Core.Path.{ap, ◌∙◌}
-use borrow.Author.Rules.{rules}
 use Rattle.blocks.specs.Files.{picture_of}
 use Rattle.blocks.specs.Reads.{row_counts, read_fault}
 use Rattle.rights_c.specs.Steps.{read_reply}
