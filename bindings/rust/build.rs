@@ -25,7 +25,7 @@ fn given(folder: &Path) -> PathBuf {
         }
         _ => fail(&format!(
             "RIGHTS_LIB_DIR is {}, where there is no {ARCHIVE}. Name the folder that holds it, as an \
-             absolute path, or unset the variable to have the archive made by `rt`.",
+             absolute path, or unset the variable to have the archive made by `tools/build`.",
             folder.display()
         )),
     }
@@ -39,22 +39,22 @@ fn made_by_the_kit() -> PathBuf {
     println!("cargo:rerun-if-changed={}", root.join("crates").display());
     let advice = format!(
         "Set RIGHTS_LIB_DIR to the folder that holds {ARCHIVE}, or install Rattle's kit and try \
-         `rt staticlib rights_c` in the repository's root."
+         `tools/build library` in the repository's root."
     );
-    let mut kit = Command::new("rt");
-    kit.args(["staticlib", "rights_c"]).current_dir(&root);
+    let mut kit = Command::new("tools/build");
+    kit.arg("library").current_dir(&root);
     match kit.output() {
-        Err(why) => fail(&format!("`rt` can't be run: {why}. {advice}")),
+        Err(why) => fail(&format!("`tools/build` can't be run: {why}. {advice}")),
         Ok(end) if !end.status.success() => {
             let said = String::from_utf8_lossy(&end.stderr);
-            fail(&format!("`rt staticlib rights_c` failed. {advice}\n{said}"))
+            fail(&format!("`tools/build library` failed. {advice}\n{said}"))
         }
         Ok(_) => {}
     }
     match fs::canonicalize(root.join("target/staticlib")) {
         Ok(folder) if folder.join(ARCHIVE).is_file() => folder,
         _ => fail(&format!(
-            "`rt staticlib rights_c` left no {ARCHIVE}. {advice}"
+            "`tools/build library` left no {ARCHIVE}. {advice}"
         )),
     }
 }

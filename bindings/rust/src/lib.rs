@@ -53,7 +53,7 @@
 //! # Building
 //!
 //! The build script links `librights_c.a`. `RIGHTS_LIB_DIR` names the folder that holds it; without
-//! that variable, `rt staticlib rights_c` is run in the repository. A dependency is one line,
+//! that variable, `tools/build library` is run in the repository. A dependency is one line,
 //! `rights = { path = "../../bindings/rust" }`; there are no others. The archive is for x86-64 Linux.
 //!
 //! # Panics

@@ -9,4 +9,3 @@ pub mod Bits
 pub mod BufferLaws
 pub mod PartLaws
 pub mod Index
-pub mod GridLaws

@@ -1,14 +1,10 @@
 -- What lent places hold at the end. Assumes nothing.
-use Rattle.std.specs.Prelude.{List, [], ◌∷◌, ◌++◌, ℕ, zero, suc, ◌*◌, ◌/◌, ◌%◌, length, drop, replicate}
+use Rattle.std.specs.Prelude.{List, [], ◌∷◌, ◌++◌, ℕ, zero, suc, length, drop, replicate}
 
 -- g 0, g 1, .., n of them
 unfoldable pub build : (g : ℕ → ℕ) (n : ℕ) → List ℕ
 build g zero = []
 build g (suc n) = build g n ++ (g n ∷ [])
-
--- m rows of w places: place a × w + q is g a q
-unfoldable pub grid : (g : ℕ → ℕ → ℕ) (m w : ℕ) → List ℕ
-grid g m w = build (λ p. g (p / w) (p % w)) (m * w)
 
 -- the first places hold the new values; places beyond them are as they were
 unfoldable pub written : (new old : List ℕ) → List ℕ

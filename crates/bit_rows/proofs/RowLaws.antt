@@ -5,9 +5,9 @@ use Prim.Native.Nat.{ℕ, ◌+◌, ◌*◌, ◌<◌, ◌≤◌}
 use native.Mathlib.Decide.{ℕ_discrete}
 use native.Mathlib.Omega.{arith}
 use lib.ListN.{length, get_or}
-use Rattle.base.specs.Buffers.{grid, written}
-use Rattle.base.specs.Steps.{SameFrom}
-use Rattle.base.proofs.GridLaws.{is-laid}
+use Rattle.base.specs.Buffers.{written}
+use Rattle.bit_rows.specs.Grid.{grid, SameFrom}
+use Rattle.bit_rows.proofs.GridLaws.{is-laid}
 use Rattle.base.proofs.Index.{row_step}
 use Rattle.boxsets.specs.Sets.{has}
 use Rattle.bit_rows.specs.Bits.{row_width, row_bits}

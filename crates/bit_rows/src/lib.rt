@@ -2,7 +2,8 @@
 #![tactic(auto)]
 
 ghost use Rattle.std.specs.Prelude.{◌≡◌, ◌+◌, ◌*◌, ◌≤◌, length};
-ghost use Rattle.base.specs.Buffers.{grid, written};
+ghost use Rattle.base.specs.Buffers.{written};
+ghost use Rattle.bit_rows.specs.Grid.{grid};
 ghost use Rattle.boxsets.specs.Sets.{has};
 ghost use Rattle.bit_rows.specs.Bits.{row_width, row_bits};
 ghost use Rattle.bit_rows.specs.Steps.{word_byte, set_byte, Laid};

@@ -5,7 +5,7 @@ use mathlib.Core.Bool.{Bool, true, false, not, ◌&&◌, and-true, and-false}
 use mathlib.Core.List.{List}
 use Prim.Native.Nat.{ℕ, zero, suc, ◌<◌, ◌≤◌}
 use native.Mathlib.Omega.{arith}
-use lib.Dec.{T, T_not, not_T, eqb, ltb, eqb→eq, ltb→lt}
+use lib.Dec.{T, T_not, not_T, ltb, eqb→eq, ltb→lt}
 use lib.ListN.{length, get_or}
 use Rattle.base.specs.Search.{select}
 use Rattle.tables.specs.Rows.{picture, user, file, side_of, is_group, on_side}

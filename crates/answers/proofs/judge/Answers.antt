@@ -1,6 +1,5 @@
 -- `answers::judge` meets its contract: the stage that all calls share refuses, or leaves the modes a drawn picture. Assumes nothing.
 use mathlib.Core.Path.{◌≡◌, sym, ap, ◌∙◌}
-use borrow.Author.Rules.{rules}
 use Rattle.base.specs.Search.{or_else}
 use Rattle.tables.specs.Rows.{Picture, picture}
 use Rattle.tables.specs.Refusals.{verdict_of}

@@ -1,6 +1,5 @@
 -- `answers::matrix` meets its contract: the stage that all calls share refuses, or leaves the matrix a drawn picture. Assumes nothing.
 use mathlib.Core.Path.{◌≡◌, sym, ◌∙◌}
-use borrow.Author.Rules.{rules}
 use Rattle.tables.specs.Rows.{Picture, picture}
 use Rattle.tables.specs.Refusals.{verdict_of}
 use mathlib.Core.Option.{Option}

@@ -1,7 +1,6 @@
 -- `answers::one_entry` meets its contract: the stage that all calls share refuses, or leaves check 11 and the answer a drawn picture.
 -- Assumes nothing.
 use mathlib.Core.Path.{◌≡◌, refl, sym, ap, ap₂, ◌∙◌}
-use borrow.Author.Rules.{rules}
 use Rattle.tables.specs.Rows.{Picture, picture}
 use Rattle.tables.specs.Refusals.{verdict_of}
 use Prim.Native.Nat.{ℕ, ◌<◌}

@@ -1,7 +1,6 @@
 -- `atoms::atoms_of` meets its contract: the marks are those of the outer boxes. Assumes nothing.
 use mathlib.Core.Path.{◌≡◌, ap, ◌∙◌}
 use native.Mathlib.Omega.{arith}
-use borrow.Author.Rules.{rules}
 use lib.ListN.{length}
 use Rattle.base.proofs.Bits.{bit_is}
 use Rattle.base.proofs.BufferLaws.{zeros-length, zeros-at}

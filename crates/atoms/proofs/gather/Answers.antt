@@ -1,12 +1,11 @@
 -- `atoms::gather` meets its contract: the unmarked boxes below b are written and counted. Assumes nothing.
-use mathlib.Core.Logic.{⊎_elim}
 use mathlib.Core.Path.{◌≡◌, sym, ◌∙◌}
-use Prim.Native.Nat.{◌-◌, ◌≤◌, ◌<◌}
+use Prim.Native.Nat.{◌≤◌, ◌<◌}
 use native.Mathlib.Omega.{arith}
 use borrow.Author.Rules.{rules}
 use lib.ListN.{length}
 use Rattle.atoms.specs.Steps.{unmarked}
-use Rattle.base.proofs.BufferLaws.{Selected, selected-none, selected-length, selected-most, selected-yes, selected-no}
+use Rattle.base.proofs.BufferLaws.{selected-none, selected-length, selected-most, selected-yes, selected-no}
 use Rattle.atoms.proofs.gather.Goals.{After-narrow}
 use Rattle.atoms.proofs.gather.Goals.{then-is_unmarked, else-is_unmarked}
 use Rattle.atoms.proofs.gather.Goals as goal
@@ -43,8 +42,8 @@ loop-b-preserved c =
     let is = c.is_unmarked.ensures in (
       search rules,
       elim c.if-is_unmarked.branch [
-        then-is_unmarked w ↦ rw (w.out-is, w.count-is) (selected-yes p a.out.now c.loop-b.b c.loop-b.count c.loop-b.out w.narrow.result (omega arith) (sym is ∙ w.if-is_unmarked.true) w.narrow.ensures c.loop-b.invariant.1)
-      | else-is_unmarked w ↦ rw (w.out-is, w.count-is) (selected-no p a.out.now c.loop-b.b c.loop-b.count c.loop-b.out (sym is ∙ w.if-is_unmarked.false) c.loop-b.invariant.1)
+        | then-is_unmarked w ↦ rw (w.out-is, w.count-is) (selected-yes p a.out.now c.loop-b.b c.loop-b.count c.loop-b.out w.narrow.result (omega arith) (sym is ∙ w.if-is_unmarked.true) w.narrow.ensures c.loop-b.invariant.1)
+        | else-is_unmarked w ↦ rw (w.out-is, w.count-is) (selected-no p a.out.now c.loop-b.b c.loop-b.count c.loop-b.out (sym is ∙ w.if-is_unmarked.false) c.loop-b.invariant.1)
       ],
     )
 

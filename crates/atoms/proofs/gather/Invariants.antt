@@ -1,11 +1,7 @@
-use mathlib.Core.Logic.{⊎_elim}
-use mathlib.Core.Path.{◌≡◌, sym, ◌∙◌}
-use Prim.Native.Nat.{◌-◌, ◌≤◌, ◌<◌}
-use native.Mathlib.Omega.{arith}
-use borrow.Author.Rules.{rules}
+use Prim.Native.Nat.{◌≤◌}
 use lib.ListN.{length}
 use Rattle.atoms.specs.Steps.{unmarked}
-use Rattle.base.proofs.BufferLaws.{Selected, selected-none, selected-length, selected-most, selected-yes, selected-no}
+use Rattle.base.proofs.BufferLaws.{Selected}
 use Rattle.atoms.proofs.gather.Given as goal
 
 abbrev pub invariant-loop-b : goal.invariant-loop-b

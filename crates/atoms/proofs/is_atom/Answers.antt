@@ -1,5 +1,4 @@
 -- `atoms::is_atom` meets its contract: by the byte and the rows. Assumes nothing.
-use borrow.Author.Rules.{rules}
 use Rattle.tables.proofs.AtomPlaces.{atom-is}
 use Rattle.atoms.proofs.is_atom.Goals as goal
 

@@ -1,12 +1,10 @@
 -- `atoms::is_outer` meets its contract: found says whether a row from k on has the outer box b. Assumes nothing.
 use mathlib.Core.Path.{◌≡◌}
-use Prim.Native.Nat.{◌*◌, ◌-◌, ◌≤◌}
+use Prim.Native.Nat.{◌-◌}
 use native.Mathlib.Omega.{arith}
 use borrow.Author.Tests.{eq-eqb, ne_eqb}
 use borrow.Author.Rules.{rules}
-use lib.ListN.{drop}
-use Rattle.tables.specs.Rows.{row_at, row_count}
-use Rattle.tables.specs.Atoms.{outer}
+use Rattle.tables.specs.Rows.{row_at}
 use Rattle.tables.proofs.RowLaws.{rows_end, outer-none}
 use Rattle.atoms.proofs.MarkLaws.{outer-from}
 use Rattle.atoms.proofs.is_outer.Goals as goal

@@ -1,13 +1,8 @@
 use mathlib.Core.Path.{◌≡◌}
-use Prim.Native.Nat.{◌*◌, ◌-◌, ◌≤◌}
-use native.Mathlib.Omega.{arith}
-use borrow.Author.Tests.{eq-eqb, ne_eqb}
-use borrow.Author.Rules.{rules}
+use Prim.Native.Nat.{◌*◌, ◌≤◌}
 use lib.ListN.{drop}
-use Rattle.tables.specs.Rows.{row_at, row_count}
+use Rattle.tables.specs.Rows.{row_count}
 use Rattle.tables.specs.Atoms.{outer}
-use Rattle.tables.proofs.RowLaws.{rows_end, outer-none}
-use Rattle.atoms.proofs.MarkLaws.{outer-from}
 use Rattle.atoms.proofs.is_outer.Given as goal
 
 abbrev pub invariant-loop-k : goal.invariant-loop-k

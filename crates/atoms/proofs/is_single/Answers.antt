@@ -1,6 +1,5 @@
 -- `atoms::is_single` meets its contract: a box that is on the side is there, so that its byte can be read. Assumes nothing.
 use mathlib.Core.Path.{sym, ◌∙◌}
-use borrow.Author.Rules.{rules}
 use Rattle.base.proofs.Tests.{true-T}
 use Rattle.tables.proofs.GroupLaws.{on_side-there}
 use Rattle.atoms.proofs.is_single.Goals as goal

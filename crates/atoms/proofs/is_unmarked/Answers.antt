@@ -1,5 +1,4 @@
 -- `atoms::is_unmarked` meets its contract. Assumes nothing.
-use borrow.Author.Rules.{rules}
 use Rattle.atoms.specs.Steps.{unmarked}
 use Rattle.atoms.proofs.is_unmarked.Goals as goal
 

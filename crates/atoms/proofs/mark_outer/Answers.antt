@@ -1,12 +1,10 @@
 -- `atoms::mark_outer` meets its contract: the marks say which boxes are outer boxes of the rows from k on. Assumes nothing.
 use mathlib.Core.Path.{◌≡◌, refl}
-use Prim.Native.Nat.{◌*◌, ◌-◌, ◌≤◌, ◌<◌}
+use Prim.Native.Nat.{◌-◌, ◌<◌}
 use native.Mathlib.Omega.{arith}
 use borrow.Author.Rules.{rules}
-use lib.ListN.{length, drop, length-set}
-use Rattle.tables.specs.Rows.{row_count, row_at}
-use Rattle.tables.specs.Atoms.{outer}
-use Rattle.atoms.specs.Steps.{Marks}
+use lib.ListN.{length, length-set}
+use Rattle.tables.specs.Rows.{row_at}
 use Rattle.tables.proofs.RowLaws.{rows_end}
 use Rattle.atoms.proofs.MarkLaws.{marked}
 use Rattle.atoms.proofs.mark_outer.Goals.{After-wide-b}
@@ -26,13 +24,12 @@ pub bounds-marks-b : goal.bounds-marks-b
 bounds-marks-b c = there c
 
 pub loop-k-preserved : goal.loop-k-preserved
-loop-k-preserved c =
-    (
-      search rules,
-      simp length-set c.loop-k.invariant.1,
-      marked c.args.rows.now c.loop-k.k (omega arith) (omega arith) c.loop-k.marks c.wide-b.result
-          (rw (c.wide-b.ensures, c.at-row.ensures)) (there c) c.loop-k.invariant.2,
-    )
+loop-k-preserved c = (
+  search rules,
+  simp length-set c.loop-k.invariant.1,
+  marked c.args.rows.now c.loop-k.k (omega arith) (omega arith) c.loop-k.marks c.wide-b.result
+      (rw (c.wide-b.ensures, c.at-row.ensures)) (there c) c.loop-k.invariant.2,
+)
 
 pub returns : goal.returns
 returns c =

@@ -1,13 +1,9 @@
-use mathlib.Core.Path.{◌≡◌, refl}
-use Prim.Native.Nat.{◌*◌, ◌-◌, ◌≤◌, ◌<◌}
-use native.Mathlib.Omega.{arith}
-use borrow.Author.Rules.{rules}
-use lib.ListN.{length, drop, length-set}
-use Rattle.tables.specs.Rows.{row_count, row_at}
+use mathlib.Core.Path.{◌≡◌}
+use Prim.Native.Nat.{◌*◌, ◌≤◌}
+use lib.ListN.{length, drop}
+use Rattle.tables.specs.Rows.{row_count}
 use Rattle.tables.specs.Atoms.{outer}
 use Rattle.atoms.specs.Steps.{Marks}
-use Rattle.tables.proofs.RowLaws.{rows_end}
-use Rattle.atoms.proofs.MarkLaws.{marked}
 use Rattle.atoms.proofs.mark_outer.Given as goal
 
 abbrev pub invariant-loop-k : goal.invariant-loop-k

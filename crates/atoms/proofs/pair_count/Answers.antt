@@ -1,6 +1,5 @@
 -- `atoms::pair_count` meets its contract: the counts of both sides. Assumes nothing.
 use native.Mathlib.Omega.{arith}
-use borrow.Author.Rules.{rules}
 use Rattle.tables.proofs.AtomPlaces.{pair_count-is, few-pairs}
 use Rattle.atoms.proofs.pair_count.Goals as goal
 

@@ -1,7 +1,5 @@
 -- `cells::byte_in` meets its contract, by the two sets. Assumes nothing.
-use mathlib.Core.Logic.{⊎_elim}
 use mathlib.Core.Path.{◌∙◌}
-use borrow.Author.Rules.{rules}
 use Rattle.cells.specs.Steps.{byte_in}
 use Rattle.cells.proofs.byte_in.Goals.{then-is_in, else-is_in}
 use Rattle.cells.proofs.byte_in.Goals as goal

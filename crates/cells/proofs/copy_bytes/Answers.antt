@@ -1,10 +1,8 @@
 -- `cells::copy_bytes` meets its contract: the places before j are written, and what is copied stands before them all. Assumes nothing.
 use mathlib.Core.Path.{◌≡◌}
-use mathlib.Core.Logic.{inl}
-use Prim.Native.Nat.{◌+◌, ◌-◌, ◌≤◌}
 use native.Mathlib.Omega.{arith}
 use borrow.Author.Rules.{rules}
-use Rattle.cells.proofs.CellLaws.{Copied, copied_none, copied_more}
+use Rattle.cells.proofs.CellLaws.{copied_none, copied_more}
 use Rattle.cells.proofs.copy_bytes.Goals as goal
 
 pub loop-j-init : goal.loop-j-init

@@ -1,9 +1,5 @@
-use mathlib.Core.Path.{◌≡◌}
-use mathlib.Core.Logic.{inl}
-use Prim.Native.Nat.{◌+◌, ◌-◌, ◌≤◌}
-use native.Mathlib.Omega.{arith}
-use borrow.Author.Rules.{rules}
-use Rattle.cells.proofs.CellLaws.{Copied, copied_none, copied_more}
+use Prim.Native.Nat.{◌≤◌}
+use Rattle.cells.proofs.CellLaws.{Copied}
 use Rattle.cells.proofs.copy_numbers.Given as goal
 
 abbrev pub invariant-loop-j : goal.invariant-loop-j

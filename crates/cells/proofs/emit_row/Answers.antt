@@ -1,10 +1,10 @@
 -- `cells::emit_row` meets its contract: the places of the files before j are written. Assumes nothing.
 use mathlib.Core.Path.{◌≡◌, ◌∙◌}
-use Prim.Native.Nat.{◌-◌, ◌≤◌, ◌<◌}
+use Prim.Native.Nat.{◌<◌}
 use native.Mathlib.Omega.{arith}
 use borrow.Author.Rules.{rules}
 use lib.ListN.{length, get_or}
-use Rattle.cells.specs.Steps.{byte_in, Emitted}
+use Rattle.cells.specs.Steps.{byte_in}
 use Rattle.cells.proofs.CellLaws.{emitted-none, emitted-more}
 use Rattle.cells.proofs.emit_row.Goals.{After-wide-f}
 use Rattle.cells.proofs.emit_row.Goals as goal

@@ -1,10 +1,6 @@
-use mathlib.Core.Path.{◌≡◌, ◌∙◌}
-use Prim.Native.Nat.{◌-◌, ◌≤◌, ◌<◌}
-use native.Mathlib.Omega.{arith}
-use borrow.Author.Rules.{rules}
+use Prim.Native.Nat.{◌≤◌}
 use lib.ListN.{length, get_or}
 use Rattle.cells.specs.Steps.{byte_in, Emitted}
-use Rattle.cells.proofs.CellLaws.{emitted-none, emitted-more}
 use Rattle.cells.proofs.emit_row.Given as goal
 
 abbrev pub invariant-loop-j : goal.invariant-loop-j

@@ -1,14 +1,8 @@
-use mathlib.Core.Path.{◌≡◌, sym, ap, ◌∙◌}
-use mathlib.Core.Bool.{Bool, ◌&&◌, ◌||◌}
-use Prim.Native.Nat.{ℕ, ◌+◌, ◌*◌, ◌-◌, ◌<◌}
-use native.Mathlib.Omega.{arith}
-use borrow.Author.Rules.{rules}
+use mathlib.Core.Path.{◌≡◌}
+use mathlib.Core.Bool.{◌&&◌, ◌||◌}
+use Prim.Native.Nat.{ℕ, ◌+◌, ◌*◌, ◌-◌}
 use Rattle.base.specs.Steps.{any_below}
 use Rattle.boxsets.specs.Sets.{is_in, has, low}
-use Rattle.boxsets.specs.declared.Set.{Set}
-use Rattle.boxsets.proofs.TableLaws.{has_in}
-use Rattle.boxsets.proofs.WalkLaws.{walk-less}
-use Rattle.certificates.proofs.FewLaws.{not-empty, is-empty, walk_any, walk_end}
 use Rattle.certificates.proofs.few_heads.Given as goal
 
 abbrev pub invariant-loop-rest : goal.invariant-loop-rest

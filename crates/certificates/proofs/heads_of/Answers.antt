@@ -1,6 +1,5 @@
 -- `certificates::heads_of` meets its contract: the sets of a sign's tails follow each other. Assumes nothing.
 use native.Mathlib.Omega.{arith}
-use borrow.Author.Rules.{rules}
 use Rattle.certificates.proofs.heads_of.Goals as goal
 
 pub union_of-requires : goal.union_of-requires

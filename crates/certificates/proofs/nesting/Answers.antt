@@ -1,6 +1,5 @@
 -- `certificates::nesting` meets its contract. Assumes nothing.
 use mathlib.Core.Path.{◌∙◌}
-use borrow.Author.Rules.{rules}
 use Rattle.boxsets.proofs.TableLaws.{has_in}
 use Rattle.certificates.proofs.nesting.Goals as goal
 

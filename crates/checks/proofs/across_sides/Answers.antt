@@ -1,7 +1,5 @@
 -- `checks::across_sides` meets its contract: by the bytes, where both boxes are there. Assumes nothing.
 use mathlib.Core.Path.{sym, ◌∙◌}
-use borrow.Author.Rules.{rules}
-use borrow.Author.Tests.{not-true}
 use Rattle.tables.proofs.FaultLaws.{across_sides-is}
 use Rattle.tables.proofs.TableLaws.{boxes-there}
 use Rattle.checks.proofs.across_sides.Goals as goal

@@ -3,7 +3,6 @@ use mathlib.Core.Option.{Option}
 use mathlib.Core.List.{List}
 use mathlib.Core.Path.{◌≡◌, sym, ap, ◌∙◌}
 use Prim.Native.Nat.{ℕ}
-use borrow.Author.Rules.{rules}
 use lib.ListN.{length}
 use Rattle.tables.specs.Faults.{ragged_fault, count_fault, byte_fault, row_fault, table_fault}
 use Rattle.tables.proofs.FaultLaws.{table-stages}

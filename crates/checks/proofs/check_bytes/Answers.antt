@@ -1,16 +1,12 @@
 -- `checks::check_bytes` meets its contract: no byte before b is above 3. Assumes nothing.
 use mathlib.Core.Path.{◌≡◌, sym, ap, ◌∙◌}
-use mathlib.Core.Bool.{Bool}
-use mathlib.Core.List.{List}
-use Prim.Native.Nat.{ℕ, ◌-◌, ◌≤◌}
 use native.Mathlib.Omega.{arith}
 use borrow.Author.Rules.{rules}
 use borrow.Author.Tests.{lt-ltb, le-ltb}
-use lib.Dec.{ltb}
-use lib.ListN.{length, get_or}
+use lib.ListN.{length}
 use Rattle.tables.proofs.FaultLaws.{byte_fault-is}
 use Rattle.tables.specs.Refusals.{bad_byte, verdict_of}
-use Rattle.base.proofs.SearchLaws.{Searched, search-none, search-more, search-here}
+use Rattle.base.proofs.SearchLaws.{search-none, search-more, search-here}
 use Rattle.checks.proofs.check_bytes.Invariants.{bad}
 use Rattle.checks.proofs.check_bytes.Goals as goal
 

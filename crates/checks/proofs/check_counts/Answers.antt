@@ -1,5 +1,4 @@
 -- `checks::check_counts` meets its contract: three faults, the lower table first. Assumes nothing.
-use borrow.Author.Rules.{rules}
 use Rattle.tables.proofs.FaultLaws.{count_fault-is}
 use Rattle.tables.proofs.Verdicts.{either-three}
 use Rattle.checks.proofs.check_counts.Goals as goal

@@ -1,5 +1,4 @@
 -- `checks::check_mode` meets its contract: one fault. Assumes nothing.
-use borrow.Author.Rules.{rules}
 use Rattle.tables.proofs.FaultLaws.{mode_fault-is}
 use Rattle.checks.proofs.check_mode.Goals as goal
 

@@ -1,5 +1,4 @@
 -- `checks::check_ragged` meets its contract: two faults, the lower table first. Assumes nothing.
-use borrow.Author.Rules.{rules}
 use Rattle.tables.proofs.FaultLaws.{ragged_fault-is}
 use Rattle.tables.proofs.Verdicts.{either-verdict}
 use Rattle.checks.proofs.check_ragged.Goals as goal

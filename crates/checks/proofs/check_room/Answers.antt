@@ -1,5 +1,4 @@
 -- `checks::check_room` meets its contract: one fault. Assumes nothing.
-use borrow.Author.Rules.{rules}
 use Rattle.tables.proofs.FaultLaws.{room_fault-is}
 use Rattle.checks.proofs.check_room.Goals as goal
 

@@ -1,13 +1,12 @@
 -- `checks::check_rows` meets its contract: no row before k fails the check. Assumes nothing.
 use mathlib.Core.Path.{◌≡◌, sym, ap, ◌∙◌}
-use Prim.Native.Nat.{◌-◌, ◌≤◌}
 use native.Mathlib.Nat.{lt_of_lt_of_le}
 use native.Mathlib.Omega.{arith}
 use borrow.Author.Rules.{rules}
 use Rattle.tables.proofs.FaultLaws.{row_fault-is}
 use Rattle.checks.specs.Steps.{fails}
 use Rattle.tables.specs.Refusals.{bad_row, verdict_of}
-use Rattle.base.proofs.SearchLaws.{Searched, search-none, search-more, search-here}
+use Rattle.base.proofs.SearchLaws.{search-none, search-more, search-here}
 use Rattle.checks.proofs.check_rows.Goals as goal
 
 pub loop-k-init : goal.loop-k-init

@@ -1,6 +1,5 @@
 -- `checks::names_no_box` meets its contract: by its two tests. Assumes nothing.
 use borrow.Author.Tests.{le-leb, lt-leb}
-use borrow.Author.Rules.{rules}
 use Rattle.tables.proofs.FaultLaws.{names_no_box-is}
 use Rattle.checks.proofs.names_no_box.Goals as goal
 

@@ -1,5 +1,4 @@
 -- `checks::wrong_ends` meets its contract: by the two ends. Assumes nothing.
-use borrow.Author.Rules.{rules}
 use Rattle.tables.proofs.FaultLaws.{wrong_ends-is}
 use Rattle.checks.proofs.wrong_ends.Goals as goal
 

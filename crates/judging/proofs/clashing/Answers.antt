@@ -1,13 +1,12 @@
 -- `judging::clashing` meets its contract: the modes of the arrows before k are in the set of their sign. Assumes nothing.
 use mathlib.Core.Path.{◌≡◌, ap, ◌∙◌}
-use Prim.Native.Nat.{◌-◌, ◌≤◌}
 use native.Mathlib.Omega.{arith}
 use borrow.Author.Rules.{rules}
 use lib.ListN.{length}
 use Rattle.base.proofs.BufferLaws.{zeros-length}
 use Rattle.tables.specs.Rows.{arrow_count}
 use Rattle.tables.specs.declared.Arrow.{Arrow}
-use Rattle.judging.proofs.SignLaws.{SignsBelow, signs-none, signs-more, clashing-is}
+use Rattle.judging.proofs.SignLaws.{signs-none, signs-more, clashing-is}
 use Rattle.judging.proofs.clashing.Goals as goal
 
 pub loop-k-init : goal.loop-k-init

@@ -1,7 +1,5 @@
 -- `judging::judge_mode` meets its contract: a mode that lacks a sign, or the rows. Assumes nothing.
 use mathlib.Core.Path.{sym, ap, ◌∙◌}
-use borrow.Author.Rules.{rules}
-use borrow.Author.Tests.{not-true}
 use Rattle.tables.specs.Refusals.{verdict_of}
 use Rattle.user_kinds.proofs.TakenLaws.{Taken, taken}
 use Rattle.judging.proofs.SignLaws.{one-sign-clear}

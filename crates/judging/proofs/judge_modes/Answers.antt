@@ -1,10 +1,8 @@
 -- `judging::judge_modes` meets its contract: no mode before m has an unclear pair. Assumes nothing.
-use mathlib.Core.Option.{none}
 use mathlib.Core.Path.{◌≡◌, sym, ap, ◌∙◌}
-use Prim.Native.Nat.{ℕ, ◌-◌, ◌≤◌}
+use Prim.Native.Nat.{ℕ}
 use native.Mathlib.Omega.{arith}
 use borrow.Author.Rules.{rules}
-use Rattle.base.specs.Search.{first}
 use Rattle.base.proofs.SearchLaws.{first-zero, first_more, first-here}
 use Rattle.tables.specs.Rows.{Picture, user, file}
 use Rattle.tables.specs.Atoms.{atom, atoms}

@@ -1,6 +1,5 @@
 -- `judging::judge_picture` meets its contract: the local array holds the atomic users. Assumes nothing.
 use mathlib.Core.Path.{refl}
-use borrow.Author.Rules.{rules}
 use Rattle.tables.specs.Rows.{picture, user}
 use Rattle.mode_sets.proofs.CallerLaws.{small-arrows}
 use Rattle.user_kinds.proofs.TakenLaws.{room}

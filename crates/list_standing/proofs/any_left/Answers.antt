@@ -1,6 +1,5 @@
 -- `list_standing::any_left` meets its contract: a set's numbers are those of its four words. Assumes nothing.
 use mathlib.Core.Path.{sym, ◌∙◌}
-use borrow.Author.Rules.{rules}
 use Rattle.boxsets.specs.Sets.{has}
 use Rattle.list_standing.proofs.SomeLaws.{some_words}
 use Rattle.list_standing.proofs.any_left.Goals as goal

@@ -1,6 +1,5 @@
 -- `list_standing::any_wrong` meets its contract: a set's numbers are those of its four words. Assumes nothing.
 use mathlib.Core.Path.{sym, ◌∙◌}
-use borrow.Author.Rules.{rules}
 use Rattle.list_standing.specs.Steps.{wrong_at}
 use Rattle.list_standing.proofs.SomeLaws.{some_words}
 use Rattle.list_standing.proofs.any_wrong.Goals as goal

@@ -1,5 +1,4 @@
 -- `list_standing::look` meets its contract, by the standing. Assumes nothing.
-use borrow.Author.Rules.{rules}
 use Rattle.list_standing.specs.Steps.{mark_of}
 use Rattle.list_standing.proofs.look.Goals as goal
 

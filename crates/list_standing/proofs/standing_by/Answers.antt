@@ -2,7 +2,6 @@
 use mathlib.Core.Path.{◌∙◌}
 use Prim.Native.Nat.{◌<◌}
 use native.Mathlib.Omega.{arith}
-use borrow.Author.Rules.{rules}
 use Rattle.list_standing.specs.Steps.{standing_by}
 use Rattle.list_standing.proofs.standing_by.Goals as goal
 

@@ -1,7 +1,5 @@
 -- `list_standing::standing_of` meets its contract, by what was found. Assumes nothing.
 use mathlib.Core.Path.{sym, ◌∙◌}
-use borrow.Author.Tests.{not-true, not-false}
-use borrow.Author.Rules.{rules}
 use Rattle.list_standing.proofs.StandLaws.{stands-spent, stands-blocked, stands-free}
 use Rattle.list_standing.proofs.standing_of.Goals as goal
 

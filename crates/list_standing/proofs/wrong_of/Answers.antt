@@ -1,5 +1,4 @@
 -- `list_standing::wrong_of` meets its contract, by the sign. Assumes nothing.
-use borrow.Author.Rules.{rules}
 use borrow.Author.Tests.{eq-eqb, ne_eqb}
 use Rattle.list_standing.proofs.wrong_of.Goals as goal
 

@@ -1,14 +1,12 @@
 -- `matrices::fill_matrix` meets its contract: the rows of the users before i are written. Assumes nothing.
 use mathlib.Core.Path.{◌≡◌, sym, ap, ◌∙◌}
-use mathlib.Core.Logic.{⊎_elim}
-use Prim.Native.Nat.{◌-◌}
 use native.Mathlib.Omega.{arith}
 use borrow.Author.Rules.{rules}
 use lib.ListN.{length}
 use Rattle.base.proofs.Index.{row_step}
 use Rattle.user_rows.proofs.BlankLaws.{blank-length}
 use Rattle.user_kinds.proofs.TakenLaws.{Taken, taken}
-use Rattle.matrices.proofs.FillLaws.{Room, Rows, rows_none, rows_all, alike-cells, own-cells, row_room, rows_more}
+use Rattle.matrices.proofs.FillLaws.{Room, rows_none, rows_all, alike-cells, own-cells, row_room, rows_more}
 use Rattle.matrices.proofs.fill_matrix.Goals.{After-answer_row-row, In-loop-i}
 use Rattle.matrices.proofs.fill_matrix.Goals.{then-j-i, else-j-i}
 use Rattle.matrices.proofs.fill_matrix.Goals as goal
@@ -84,12 +82,12 @@ loop-i-preserved c =
     let noted = c.alike-j.ensures.upper_bound.1 in
     let turn = (goal.at.loop-i-preserved c).In-loop-i in
     elim c.if-j-i.branch [
-      then-j-i w ↦
-        rw (w.bytes-is, w.numbers-is)
-        (rows_more rows l (room turn) noted (alike-cells rows (mode turn) w.if-j-i.true c.alike-j.ensures.alike) (w.copy_row.ensures.emitted, w.copy_row.ensures.emitted_2))
-    | else-j-i w ↦
-        let cells = own-cells rows l c.set_of-asked.result w.answer_row-row.new.numbers (mode turn) w.wide-u.ensures c.set_of-asked.ensures w.answer_row-row.ensures in
-        rw (w.bytes-is, w.numbers-is) (rows_more rows l (room turn) noted cells (w.emit_row.ensures.emitted, w.emit_row.ensures.emitted_2))
+      | then-j-i w ↦
+          rw (w.bytes-is, w.numbers-is)
+          (rows_more rows l (room turn) noted (alike-cells rows (mode turn) w.if-j-i.true c.alike-j.ensures.alike) (w.copy_row.ensures.emitted, w.copy_row.ensures.emitted_2))
+      | else-j-i w ↦
+          let cells = own-cells rows l c.set_of-asked.result w.answer_row-row.new.numbers (mode turn) w.wide-u.ensures c.set_of-asked.ensures w.answer_row-row.ensures in
+          rw (w.bytes-is, w.numbers-is) (rows_more rows l (room turn) noted cells (w.emit_row.ensures.emitted, w.emit_row.ensures.emitted_2))
     ]
 
 pub returns : goal.returns

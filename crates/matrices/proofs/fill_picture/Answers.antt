@@ -1,6 +1,5 @@
 -- `matrices::fill_picture` meets its contract: the local arrays hold the atomic users and files. Assumes nothing.
 use mathlib.Core.Path.{refl}
-use borrow.Author.Rules.{rules}
 use Rattle.tables.specs.Rows.{user, file}
 use Rattle.tables.proofs.AtomPlaces.{pair_count-is}
 use Rattle.mode_sets.proofs.CallerLaws.{small-arrows}

@@ -1,9 +1,5 @@
 -- `meaning::granting` meets its contract: the first case has the arrow, the other three have none. Assumes nothing.
-use mathlib.Core.Logic.{⊎_elim}
-use mathlib.Core.List.{[], ◌∷◌}
 use mathlib.Core.Path.{◌≡◌, refl}
-use native.Mathlib.Omega.{arith}
-use borrow.Author.Rules.{rules}
 use Prim.Native.Nat.{ℕ}
 use Rattle.meaning.specs.declared.Entry.TheVariants.{Granted, Denied, Default, Unclear}
 use Rattle.meaning.specs.declared.Entry.{Entry}

@@ -1,6 +1,5 @@
 -- `mode_sets::take_arrow` meets its contract: the head is there and nothing is added, or head and tail are added. Assumes nothing.
 use mathlib.Core.Path.{sym, ◌∙◌}
-use borrow.Author.Rules.{rules}
 use Rattle.mode_sets.proofs.ModeLaws.{took-none, took_one}
 use Rattle.mode_sets.proofs.take_arrow.Goals as goal
 

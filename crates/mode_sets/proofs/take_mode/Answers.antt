@@ -1,15 +1,14 @@
 -- `mode_sets::take_mode` meets its contract: of the arrows before k the sets are made, and those that repeat no lower one are
 -- written and counted. Assumes nothing.
-use mathlib.Core.Logic.{⊎_elim}
 use mathlib.Core.Path.{◌≡◌, sym, ap, ◌∙◌}
-use Prim.Native.Nat.{◌-◌, ◌≤◌, ◌<◌}
+use Prim.Native.Nat.{◌≤◌, ◌<◌}
 use native.Mathlib.Omega.{arith}
 use borrow.Author.Rules.{rules}
 use lib.ListN.{length}
 use Rattle.base.proofs.BufferLaws.{zeros-length, selected-none, selected-length, selected-most}
 use Rattle.tables.specs.Rows.{arrow_count}
 use Rattle.mode_sets.specs.Mode.{is_own, own_arrows}
-use Rattle.mode_sets.proofs.ModeLaws.{sets-none, Turned, turn-other, turn-repeat, turn-own}
+use Rattle.mode_sets.proofs.ModeLaws.{sets-none, turn-other, turn-repeat, turn-own}
 use Rattle.mode_sets.specs.Steps.{heads_words}
 use Rattle.mode_sets.proofs.take_mode.Goals.{After-narrow, then-a-mode+then-take_arrow, else-a-mode, else-a-mode-via-then-a-mode+else-take_arrow, else-a-mode-via-else-a-mode}
 use Rattle.mode_sets.proofs.take_mode.Goals as goal
@@ -60,21 +59,21 @@ loop-k-preserved c =
     let tail = c.requires.0.tail-small l.k (omega arith) in
     let sign = c.requires.0.sign_small l.k (omega arith) in
     elim c.if-a-mode.branch [
-      then-a-mode+then-take_arrow w ↦ rw (w.own-is, w.heads-is, w.count-is) (
+      | then-a-mode+then-take_arrow w ↦ rw (w.own-is, w.heads-is, w.count-is) (
         search rules,
         turn-own a.arrows.now a.mode a.own.now l.k l.count l.own l.heads arrow is l.invariant.1 w.take_arrow.new.heads
             w.take_arrow.result w.if-a-mode.true tail sign w.take_arrow.ensures w.narrow.result w.if-take_arrow.true w.narrow.ensures (omega arith),
       )
-    | else-a-mode w ↦ rw (w.own-is, w.heads-is, w.count-is)
-      (elim w.else-a-mode.branch [
-        else-a-mode-via-then-a-mode+else-take_arrow v ↦ rw v.heads-is (
-          search rules,
-          turn-repeat a.arrows.now a.mode a.own.now l.k l.count l.own l.heads arrow is l.invariant.1 v.take_arrow.new.heads
-              v.take_arrow.result v.if-a-mode.true tail sign v.take_arrow.ensures v.if-take_arrow.false,
-        )
-      | else-a-mode-via-else-a-mode v ↦ rw v.heads-is
-        (search rules, turn-other a.arrows.now a.mode a.own.now l.k l.count l.own l.heads arrow is l.invariant.1 v.if-a-mode.false)
-      ])
+      | else-a-mode w ↦ rw (w.own-is, w.heads-is, w.count-is)
+          (elim w.else-a-mode.branch [
+            | else-a-mode-via-then-a-mode+else-take_arrow v ↦ rw v.heads-is (
+              search rules,
+              turn-repeat a.arrows.now a.mode a.own.now l.k l.count l.own l.heads arrow is l.invariant.1 v.take_arrow.new.heads
+                  v.take_arrow.result v.if-a-mode.true tail sign v.take_arrow.ensures v.if-take_arrow.false,
+            )
+            | else-a-mode-via-else-a-mode v ↦ rw v.heads-is
+                (search rules, turn-other a.arrows.now a.mode a.own.now l.k l.count l.own l.heads arrow is l.invariant.1 v.if-a-mode.false)
+          ])
     ]
 
 pub shape_of-own : goal.shape_of-own

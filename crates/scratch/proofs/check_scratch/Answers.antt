@@ -1,7 +1,6 @@
 -- `scratch::check_scratch` meets its contract: one fault, and n × n fits where n is at most 256. Assumes nothing.
 use native.Mathlib.Nat.{mul-le-mul}
 use native.Mathlib.Omega.{arith}
-use borrow.Author.Rules.{rules}
 use Rattle.scratch.specs.Scratch.{scratch_fault}
 use Rattle.scratch.proofs.check_scratch.Goals as goal
 

@@ -3,7 +3,6 @@ use mathlib.Core.Path.{sym, ◌∙◌}
 use Rattle.tables.proofs.TableLaws.{sound-rows}
 use Rattle.tables.proofs.Verdicts.{passed, refuses, passes}
 use Rattle.scratch.specs.Scratch.{early_fault}
-use borrow.Author.Rules.{rules}
 use Rattle.scratch.proofs.early_picture.Goals as goal
 
 pub returns-in-Refused : goal.returns-in-Refused

@@ -2,7 +2,6 @@
 use mathlib.Core.Path.{◌≡◌}
 use Prim.Native.Nat.{ℕ}
 use native.Mathlib.Omega.{arith}
-use borrow.Author.Rules.{rules}
 use Rattle.tables.specs.declared.Verdict.TheVariants.{Passed}
 use Rattle.scratch.proofs.ScratchLaws.{ends-refused, ends-filled}
 use Rattle.scratch.proofs.prepare.Goals.{In_default}

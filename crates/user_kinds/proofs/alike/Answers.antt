@@ -3,7 +3,6 @@ use mathlib.Core.Path.{refl, subst}
 use Prim.Native.Nat.{◌+◌, ◌-◌, ◌%◌, ◌<◌, ◌≤◌}
 use native.Mathlib.Nat.{mod-le}
 use native.Mathlib.Omega.{arith}
-use borrow.Author.Rules.{rules}
 use lib.ListN.{length, set}
 use Rattle.base.proofs.Tests.{true-T}
 use Rattle.tables.specs.Rows.{user}
@@ -43,9 +42,9 @@ tails_near-tails-requires c = let pre = c.requires in (pre.0, pre.1, below c)
 -- no user has that note yet
 pub returns-then-behind-eq0 : goal.returns-then-behind-eq0
 returns-then-behind-eq0 c = record {
-      upper_bound = (omega arith, noted (goal.at.returns-then-behind-eq0 c).After-wide-behind);
-      alike = λ pic m d sets us f. refl;
-    }
+  upper_bound = (omega arith, noted (goal.at.returns-then-behind-eq0 c).After-wide-behind);
+  alike = λ pic m d sets us f. refl;
+}
 
 pub offset_bounds-users-behind : goal.offset_bounds-users-behind
 offset_bounds-users-behind c = omega (arith, there c, c.well_formed)
@@ -71,9 +70,9 @@ returns-then-same c =
 -- the user noted has others
 pub returns : goal.returns
 returns c = record {
-      upper_bound = (omega arith, noted (goal.at.returns c).After-wide-behind);
-      alike = λ pic m d sets us f. refl;
-    }
+  upper_bound = (omega arith, noted (goal.at.returns c).After-wide-behind);
+  alike = λ pic m d sets us f. refl;
+}
 
 pub bounds-users-behind : goal.bounds-users-behind
 bounds-users-behind c = there (goal.at.bounds-users-behind c).Else-behind-eq0

@@ -1,5 +1,4 @@
 -- `user_kinds::tails_near` meets its contract. Assumes nothing.
-use borrow.Author.Rules.{rules}
 use Rattle.user_kinds.proofs.AlikeLaws.{near-made}
 use Rattle.user_kinds.proofs.tails_near.Goals as goal
 

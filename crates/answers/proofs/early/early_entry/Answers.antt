@@ -1,7 +1,6 @@
 -- `answers::early::early_entry` meets its contract: checks 1 to 7 refuse, or leave 8 and 9 their facts. Assumes nothing.
 use mathlib.Core.Path.{◌≡◌, sym, ◌∙◌}
 use mathlib.Core.Option.{none}
-use borrow.Author.Rules.{rules}
 use Rattle.tables.specs.Rows.{picture}
 use Rattle.tables.specs.Faults.{table_fault}
 use Rattle.tables.proofs.TableLaws.{sound-rows}

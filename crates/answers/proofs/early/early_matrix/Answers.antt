@@ -1,6 +1,5 @@
 -- `answers::early::early_matrix` meets its contract: checks 1 to 7 refuse, or leave 8 and 9 their facts. Assumes nothing.
 use mathlib.Core.Path.{sym, ◌∙◌}
-use borrow.Author.Rules.{rules}
 use Rattle.tables.specs.Rows.{picture}
 use Rattle.tables.specs.Faults.{room_fault}
 use Rattle.tables.proofs.TableLaws.{sound-rows}

@@ -1,7 +1,6 @@
 -- `answers::pair::answer_pair` meets its contract: the local arrays hold the mode's arrows, and the row has one file. Assumes nothing.
 use mathlib.Core.Path.{sym, subst}
 use native.Mathlib.Omega.{arith}
-use borrow.Author.Rules.{rules}
 use lib.Dec.{T, eqb_refl}
 use Rattle.boxsets.specs.Sets.{is_in}
 use Rattle.user_kinds.proofs.TakenLaws.{Taken, taken}

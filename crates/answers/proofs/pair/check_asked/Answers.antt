@@ -1,5 +1,4 @@
 -- `answers::pair::check_asked` meets its contract: the test of check 11. Assumes nothing.
-use borrow.Author.Rules.{rules}
 use Rattle.answers.specs.Calls.{asked_fault}
 use Rattle.answers.proofs.pair.check_asked.Goals as goal
 

@@ -1,5 +1,4 @@
 -- `answers::pair::is_pair` meets its contract: both boxes are tested. Assumes nothing.
-use borrow.Author.Rules.{rules}
 use Rattle.answers.proofs.pair.is_pair.Goals as goal
 
 pub returns-then-is_atom : goal.returns-then-is_atom

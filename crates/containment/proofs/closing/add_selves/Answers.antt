@@ -1,9 +1,7 @@
 -- `containment::closing::add_selves` meets its contract: the boxes before b are in their own sets. Assumes nothing.
 use mathlib.Core.Path.{◌≡◌}
-use Prim.Native.Nat.{◌-◌, ◌≤◌}
 use native.Mathlib.Omega.{arith}
 use borrow.Author.Rules.{rules}
-use Rattle.containment.specs.Steps.{selves, Turns}
 use Rattle.containment.proofs.SelvesLaws.{selves-none, selves-more}
 use Rattle.containment.proofs.closing.add_selves.Goals as goal
 
@@ -22,12 +20,11 @@ add-requires-in-loop-b c =
     (omega arith, omega arith)
 
 pub loop-b-preserved : goal.loop-b-preserved
-loop-b-preserved c =
-    (
-      search rules,
-      selves-more c.loop-b.b c.args.closure.now c.loop-b.closure c.add.new.t c.add-in-loop-b.new.t (omega arith)
-          c.loop-b.invariant.1 c.add.ensures c.add-in-loop-b.ensures,
-    )
+loop-b-preserved c = (
+  search rules,
+  selves-more c.loop-b.b c.args.closure.now c.loop-b.closure c.add.new.t c.add-in-loop-b.new.t (omega arith)
+      c.loop-b.invariant.1 c.add.ensures c.add-in-loop-b.ensures,
+)
 
 pub returns : goal.returns
 returns c =

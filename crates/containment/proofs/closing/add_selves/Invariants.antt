@@ -1,9 +1,5 @@
-use mathlib.Core.Path.{◌≡◌}
-use Prim.Native.Nat.{◌-◌, ◌≤◌}
-use native.Mathlib.Omega.{arith}
-use borrow.Author.Rules.{rules}
+use Prim.Native.Nat.{◌≤◌}
 use Rattle.containment.specs.Steps.{selves, Turns}
-use Rattle.containment.proofs.SelvesLaws.{selves-none, selves-more}
 use Rattle.containment.proofs.closing.add_selves.Given as goal
 
 abbrev pub invariant-loop-b : goal.invariant-loop-b

@@ -1,9 +1,7 @@
 -- `containment::closing::close` meets its contract: the sets say which ways there are through boxes below k. Assumes nothing.
 use mathlib.Core.Path.{◌≡◌}
-use Prim.Native.Nat.{◌-◌, ◌≤◌}
 use native.Mathlib.Omega.{arith}
 use borrow.Author.Rules.{rules}
-use Rattle.containment.specs.Steps.{rounds, Turns}
 use Rattle.containment.proofs.ClosingLaws.{rounds-none, rounds-more}
 use Rattle.containment.proofs.closing.close.Goals as goal
 

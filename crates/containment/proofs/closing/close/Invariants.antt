@@ -1,9 +1,5 @@
-use mathlib.Core.Path.{◌≡◌}
-use Prim.Native.Nat.{◌-◌, ◌≤◌}
-use native.Mathlib.Omega.{arith}
-use borrow.Author.Rules.{rules}
+use Prim.Native.Nat.{◌≤◌}
 use Rattle.containment.specs.Steps.{rounds, Turns}
-use Rattle.containment.proofs.ClosingLaws.{rounds-none, rounds-more}
 use Rattle.containment.proofs.closing.close.Given as goal
 
 abbrev pub invariant-loop-k : goal.invariant-loop-k

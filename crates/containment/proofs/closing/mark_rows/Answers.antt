@@ -1,14 +1,11 @@
 -- `containment::closing::mark_rows` meets its contract: the sets say which boxes the rows from k on join. Assumes nothing.
 use mathlib.Core.Path.{◌≡◌, sym, ap, ◌∙◌}
-use Prim.Native.Nat.{◌*◌, ◌≤◌}
 use native.Mathlib.Omega.{arith}
 use borrow.Author.Rules.{rules}
-use lib.ListN.{length, drop}
+use lib.ListN.{length}
 use Rattle.base.proofs.BufferLaws.{zeros-length}
-use Rattle.tables.specs.Rows.{row_count}
 use Rattle.tables.proofs.RowLaws.{rows_end}
-use Rattle.containment.specs.Contains.{direct}
-use Rattle.containment.specs.Steps.{Both, closure_words}
+use Rattle.containment.specs.Steps.{closure_words}
 use Rattle.containment.proofs.RowBoxes.{RowBoxes, row-boxes}
 use Rattle.containment.proofs.ClosingLaws.{marked-none, mark-row}
 use Rattle.containment.proofs.closing.mark_rows.Goals.{After-wide-i}
@@ -40,11 +37,10 @@ add-requires-in-loop-k c =
     (omega arith, omega arith)
 
 pub loop-k-preserved : goal.loop-k-preserved
-loop-k-preserved c =
-    (
-      search rules,
-      mark-row (row (goal.at.loop-k-preserved c).After-wide-i) c.add.ensures c.add-in-loop-k.ensures c.loop-k.invariant.1,
-    )
+loop-k-preserved c = (
+  search rules,
+  mark-row (row (goal.at.loop-k-preserved c).After-wide-i) c.add.ensures c.add-in-loop-k.ensures c.loop-k.invariant.1,
+)
 
 pub shape_of-closure : goal.shape_of-closure
 shape_of-closure c =

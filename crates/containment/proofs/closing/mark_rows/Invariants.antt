@@ -1,15 +1,8 @@
-use mathlib.Core.Path.{◌≡◌, sym, ap, ◌∙◌}
 use Prim.Native.Nat.{◌*◌, ◌≤◌}
-use native.Mathlib.Omega.{arith}
-use borrow.Author.Rules.{rules}
-use lib.ListN.{length, drop}
-use Rattle.base.proofs.BufferLaws.{zeros-length}
+use lib.ListN.{drop}
 use Rattle.tables.specs.Rows.{row_count}
-use Rattle.tables.proofs.RowLaws.{rows_end}
 use Rattle.containment.specs.Contains.{direct}
-use Rattle.containment.specs.Steps.{Both, closure_words}
-use Rattle.containment.proofs.RowBoxes.{RowBoxes, row-boxes}
-use Rattle.containment.proofs.ClosingLaws.{marked-none, mark-row}
+use Rattle.containment.specs.Steps.{Both}
 use Rattle.containment.proofs.closing.mark_rows.Given as goal
 
 abbrev pub invariant-loop-k : goal.invariant-loop-k

@@ -1,7 +1,6 @@
 -- `containment::closing::round` meets its contract: each box above k gets what k has, and each box below it what has k. Assumes nothing.
 use mathlib.Core.Path.{◌≡◌, sym, ◌∙◌}
 use Prim.Native.Nat.{◌+◌}
-use borrow.Author.Rules.{rules}
 use Rattle.boxsets.specs.Sets.{set_at}
 use Rattle.boxsets.proofs.WalkLaws.{empty-none}
 use Rattle.containment.proofs.ClosingLaws.{round-down, round_up, round-joined}

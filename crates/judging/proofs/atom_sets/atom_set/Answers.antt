@@ -1,6 +1,5 @@
 -- `judging::atom_sets::atom_set` meets its contract: the numbers of the written part. Assumes nothing.
 use mathlib.Core.Path.{◌∙◌}
-use borrow.Author.Rules.{rules}
 use Rattle.user_kinds.proofs.AtomLaws.{Listed, listed, among-atoms}
 use Rattle.judging.proofs.atom_sets.atom_set.Goals.{After-atoms_of-count}
 use Rattle.judging.proofs.atom_sets.atom_set.Goals as goal

@@ -1,6 +1,5 @@
 -- `scratch::filling::fill_scratch` meets its contract: 1 by the sets, then 2 at the rows. Assumes nothing.
 use native.Mathlib.Omega.{arith}
-use borrow.Author.Rules.{rules}
 use Rattle.scratch.proofs.MarkLaws.{contains-square, fill_is}
 use Rattle.scratch.proofs.filling.fill_scratch.Goals as goal
 

@@ -1,16 +1,15 @@
 -- `scratch::filling::mark_direct` meets its contract: 2 stands at the rows from k on. Assumes nothing.
 use mathlib.Core.Path.{◌≡◌, refl}
-use Prim.Native.Nat.{◌+◌, ◌*◌, ◌<◌, ◌≤◌}
+use Prim.Native.Nat.{◌+◌, ◌*◌, ◌<◌}
 use native.Mathlib.Omega.{arith}
 use borrow.Author.Rules.{rules}
 use lib.ListN.{length}
 use Rattle.base.proofs.Index.{in_table}
-use Rattle.tables.specs.Rows.{row_count}
 use Rattle.tables.proofs.RowLaws.{rows_end}
 use Rattle.scratch.specs.Steps.{over}
 use Rattle.containment.proofs.ContainsLaws.{direct-none}
 use Rattle.containment.proofs.RowBoxes.{RowBoxes, row-boxes}
-use Rattle.scratch.proofs.MarkLaws.{Marked, mark-turn}
+use Rattle.scratch.proofs.MarkLaws.{mark-turn}
 use Rattle.scratch.proofs.filling.mark_direct.Goals.{After-wide-i}
 use Rattle.scratch.proofs.filling.mark_direct.Goals as goal
 

@@ -1,15 +1,6 @@
-use mathlib.Core.Path.{◌≡◌, refl}
-use Prim.Native.Nat.{◌+◌, ◌*◌, ◌<◌, ◌≤◌}
-use native.Mathlib.Omega.{arith}
-use borrow.Author.Rules.{rules}
-use lib.ListN.{length}
-use Rattle.base.proofs.Index.{in_table}
+use Prim.Native.Nat.{◌≤◌}
 use Rattle.tables.specs.Rows.{row_count}
-use Rattle.tables.proofs.RowLaws.{rows_end}
-use Rattle.scratch.specs.Steps.{over}
-use Rattle.containment.proofs.ContainsLaws.{direct-none}
-use Rattle.containment.proofs.RowBoxes.{RowBoxes, row-boxes}
-use Rattle.scratch.proofs.MarkLaws.{Marked, mark-turn}
+use Rattle.scratch.proofs.MarkLaws.{Marked}
 use Rattle.scratch.proofs.filling.mark_direct.Given as goal
 
 abbrev pub invariant-loop-k : goal.invariant-loop-k

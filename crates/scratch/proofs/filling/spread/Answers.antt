@@ -1,6 +1,6 @@
 -- `scratch::filling::spread` meets its contract: the rows of bytes before a say what the sets have. Assumes nothing.
 use mathlib.Core.Path.{◌≡◌, sym, subst}
-use Prim.Native.Nat.{◌*◌, ◌-◌, ◌≤◌}
+use Prim.Native.Nat.{◌*◌}
 use native.Mathlib.Omega.{arith}
 use borrow.Author.Rules.{rules}
 use lib.ListN.{length}
@@ -8,7 +8,7 @@ use Rattle.base.proofs.Index.{row_step}
 use Rattle.boxsets.specs.Sets.{is_in}
 use Rattle.boxsets.specs.declared.Set.{Set}
 use Rattle.scratch.specs.Steps.{Ones, Room}
-use Rattle.scratch.proofs.SpreadLaws.{Spread, cleared-rest, spread-begins, spread_row, spread-ends, row_room}
+use Rattle.scratch.proofs.SpreadLaws.{cleared-rest, spread-begins, spread_row, spread-ends, row_room}
 use Rattle.scratch.proofs.filling.spread.Goals.{After-clear}
 use Rattle.scratch.proofs.filling.spread.Goals as goal
 

@@ -3,11 +3,10 @@
 use mathlib.Core.Path.{◌≡◌}
 use Prim.Native.Nat.{◌+◌, ◌*◌, ◌<◌}
 use native.Mathlib.Omega.{arith}
-use borrow.Author.Rules.{rules}
 use lib.ListN.{length}
 use Rattle.base.proofs.SearchLaws.{lowest-some}
 use Rattle.boxsets.specs.Words.{bit_at}
-use Rattle.scratch.proofs.OnesLaws.{Unspread, spread_none, there, spread-next, spread_end}
+use Rattle.scratch.proofs.OnesLaws.{spread_none, there, spread-next, spread_end}
 use Rattle.scratch.proofs.filling.spread_word.Goals.{After-drop_bit-rest}
 use Rattle.scratch.proofs.filling.spread_word.Goals as goal
 

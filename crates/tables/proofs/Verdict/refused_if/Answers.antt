@@ -1,5 +1,4 @@
 -- `tables::Verdict::refused_if` meets its contract: by the fault given. Assumes nothing.
-use borrow.Author.Rules.{rules}
 use Rattle.base.proofs.SearchLaws.{given-true, given-false}
 use Rattle.tables.proofs.Verdict.refused_if.Goals as goal
 

@@ -1,6 +1,5 @@
 -- `tables::on_side` meets its contract: the box is there, and its byte puts it on the side. Assumes nothing.
 use borrow.Author.Tests.{lt-ltb, le-ltb}
-use borrow.Author.Rules.{rules}
 use Rattle.tables.specs.Rows.{on_side}
 use Rattle.tables.proofs.sides.on_side.Goals as goal
 

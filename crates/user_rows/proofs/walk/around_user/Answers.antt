@@ -1,5 +1,4 @@
 -- `user_rows::walk::around_user` meets its contract. Assumes nothing.
-use borrow.Author.Rules.{rules}
 use mathlib.Core.Path.{refl}
 use Rattle.user_rows.proofs.walk.around_user.Goals as goal
 

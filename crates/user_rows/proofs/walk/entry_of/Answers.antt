@@ -1,6 +1,5 @@
 -- `user_rows::walk::entry_of` meets its contract. Assumes nothing.
 use mathlib.Core.Path.{sym, ◌∙◌}
-use borrow.Author.Rules.{rules}
 use Rattle.user_rows.proofs.EntryLaws.{give-granted, give-unclear, give-denied, give-default}
 use Rattle.user_rows.proofs.walk.entry_of.Goals as goal
 

@@ -1,12 +1,8 @@
 -- `user_rows::walk::first_hit` meets its contract: no arrow before k reaches the pair. Assumes nothing.
-use mathlib.Core.Logic.{⊎_elim}
-use Prim.Native.Nat.{◌-◌, ◌≤◌}
 use native.Mathlib.Omega.{arith}
-use borrow.Author.Tests.{eqb-true, eqb-false}
 use borrow.Author.Rules.{rules}
 use Rattle.base.proofs.Tests.{true-T, false-not}
-use Rattle.tables.specs.Rows.{arrow_count}
-use Rattle.user_rows.proofs.StepLaws.{NoHit, hit-parts, hit-is, hit-more, hit-here, hit-nowhere}
+use Rattle.user_rows.proofs.StepLaws.{hit-parts, hit-is, hit-more, hit-here, hit-nowhere}
 use Rattle.user_rows.proofs.walk.first_hit.Goals.{then-a-mode+then-a-sign+else-has, else-a-mode, else-has-via-then-has+else-has-2, else-has-via-else-has, else-a-mode-via-then-a-mode+else-a-sign, else-a-mode-via-else-a-mode}
 use Rattle.user_rows.proofs.walk.first_hit.Goals as goal
 
@@ -38,13 +34,13 @@ loop-k-preserved c =
       search rules,
       hit-more a.closure.now a.arrows.now a.mode a.sign a.u a.f c.loop-k.k c.at-a.result c.at-a.ensures
           (elim c.if-a-mode.branch [
-            then-a-mode+then-a-sign+else-has w ↦ elim w.else-has.branch [
-              else-has-via-then-has+else-has-2 v ↦ λ t. false-not v.has-then-has.result v.if-has-2.false (rw (v.has-then-has.ensures, v.wide-then-has.ensures) (parts t).3)
-            | else-has-via-else-has v ↦ λ t. false-not w.has.result v.if-has.false (rw (w.has.ensures, w.wide.ensures) (parts t).2)
+            | then-a-mode+then-a-sign+else-has w ↦ elim w.else-has.branch [
+              | else-has-via-then-has+else-has-2 v ↦ λ t. false-not v.has-then-has.result v.if-has-2.false (rw (v.has-then-has.ensures, v.wide-then-has.ensures) (parts t).3)
+              | else-has-via-else-has v ↦ λ t. false-not w.has.result v.if-has.false (rw (w.has.ensures, w.wide.ensures) (parts t).2)
             ]
-          | else-a-mode w ↦ elim w.else-a-mode.branch [
-              else-a-mode-via-then-a-mode+else-a-sign v ↦ λ t. v.if-a-sign.false (parts t).1
-            | else-a-mode-via-else-a-mode v ↦ λ t. v.if-a-mode.false (parts t).0
+            | else-a-mode w ↦ elim w.else-a-mode.branch [
+              | else-a-mode-via-then-a-mode+else-a-sign v ↦ λ t. v.if-a-sign.false (parts t).1
+              | else-a-mode-via-else-a-mode v ↦ λ t. v.if-a-mode.false (parts t).0
             ]
           ])
           c.loop-k.invariant.1,

@@ -1,11 +1,6 @@
-use mathlib.Core.Logic.{⊎_elim}
-use Prim.Native.Nat.{◌-◌, ◌≤◌}
-use native.Mathlib.Omega.{arith}
-use borrow.Author.Tests.{eqb-true, eqb-false}
-use borrow.Author.Rules.{rules}
-use Rattle.base.proofs.Tests.{true-T, false-not}
+use Prim.Native.Nat.{◌≤◌}
 use Rattle.tables.specs.Rows.{arrow_count}
-use Rattle.user_rows.proofs.StepLaws.{NoHit, hit-parts, hit-is, hit-more, hit-here, hit-nowhere}
+use Rattle.user_rows.proofs.StepLaws.{NoHit}
 use Rattle.user_rows.proofs.walk.first_hit.Given as goal
 
 abbrev pub invariant-loop-k : goal.invariant-loop-k

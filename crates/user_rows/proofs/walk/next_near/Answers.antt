@@ -1,10 +1,9 @@
 -- `user_rows::walk::next_near` meets its contract: no place from `from` on and before i has an arrow around the user. Assumes nothing.
 use mathlib.Core.Path.{◌≡◌, sym, ◌∙◌}
-use Prim.Native.Nat.{◌-◌}
 use native.Mathlib.Omega.{arith}
 use borrow.Author.Rules.{rules}
 use lib.ListN.{length}
-use Rattle.user_rows.proofs.StepLaws.{near_at, Passed, passed_none, passed-more, passed-found, passed-end}
+use Rattle.user_rows.proofs.StepLaws.{near_at, passed_none, passed-more, passed-found, passed-end}
 use Rattle.user_rows.proofs.walk.next_near.Goals.{After-has}
 use Rattle.user_rows.proofs.walk.next_near.Goals as goal
 

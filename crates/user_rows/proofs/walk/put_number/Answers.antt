@@ -1,5 +1,4 @@
 -- `user_rows::walk::put_number` meets its contract: a set's numbers are those of its four words. Assumes nothing.
-use borrow.Author.Rules.{rules}
 use Rattle.user_rows.proofs.StepLaws.{numbered-words}
 use Rattle.user_rows.proofs.walk.put_number.Goals as goal
 

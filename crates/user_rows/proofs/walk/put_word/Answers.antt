@@ -3,11 +3,10 @@
 use mathlib.Core.Path.{◌≡◌}
 use Prim.Native.Nat.{◌+◌, ◌*◌, ◌<◌}
 use native.Mathlib.Omega.{arith}
-use borrow.Author.Rules.{rules}
 use lib.ListN.{length}
 use Rattle.base.proofs.SearchLaws.{lowest-some}
 use Rattle.boxsets.specs.Words.{bit_at}
-use Rattle.user_rows.proofs.StepLaws.{Numbering, numbers-none, number-there, numbers_more, numbers-end}
+use Rattle.user_rows.proofs.StepLaws.{numbers-none, number-there, numbers_more, numbers-end}
 use Rattle.user_rows.proofs.walk.put_word.Goals.{After-drop_bit-rest}
 use Rattle.user_rows.proofs.walk.put_word.Goals as goal
 

@@ -2,7 +2,6 @@
 use mathlib.Core.Path.{sym, ap, ◌∙◌}
 use mathlib.Core.Bool.{Bool, ◌||◌}
 use native.Mathlib.Omega.{arith}
-use borrow.Author.Rules.{rules}
 use Rattle.boxsets.specs.Sets.{is_in}
 use Rattle.boxsets.proofs.WalkLaws.{empty-none}
 use Rattle.user_rows.proofs.RowSorts.{sorted, sorted-clear}

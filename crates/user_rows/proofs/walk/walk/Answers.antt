@@ -1,13 +1,11 @@
 -- `user_rows::walk::walk` meets its contract: at place i the walk stands as `Walking` says. Assumes nothing.
 use mathlib.Core.Path.{◌≡◌, sym, ap, ◌∙◌}
-use Prim.Native.Nat.{◌-◌, ◌<◌}
+use Prim.Native.Nat.{◌<◌}
 use native.Mathlib.Omega.{arith}
-use borrow.Author.Rules.{rules}
-use borrow.Author.Tests.{not-false}
 use lib.ListN.{length}
 use Rattle.tables.specs.Rows.{arrow_count, arrow_at}
 use Rattle.boxsets.proofs.WalkLaws.{empty-none}
-use Rattle.user_rows.proofs.RowWalk.{Walking, walking_start, walking-turn, walking-empty}
+use Rattle.user_rows.proofs.RowWalk.{walking_start, walking-turn, walking-empty}
 use Rattle.user_rows.proofs.walk.walk.Goals.{After-wide}
 use Rattle.user_rows.proofs.walk.walk.Goals as goal
 

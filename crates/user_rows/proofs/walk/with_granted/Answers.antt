@@ -1,5 +1,4 @@
 -- `user_rows::walk::with_granted` meets its contract, by the sign. Assumes nothing.
-use borrow.Author.Rules.{rules}
 use Rattle.user_rows.proofs.StepLaws.{granted-more, granted-same}
 use Rattle.user_rows.proofs.walk.with_granted.Goals as goal
 

@@ -7,8 +7,8 @@ use native.Mathlib.Nat.{div-lt_iff_lt-mul, mod-lt, not-suc-le-zero, mul-zero}
 use native.Mathlib.Omega.{arith}
 use lib.ListN.{length, get_or}
 use lib.Seq.{ext_get_or}
-use Rattle.base.specs.Buffers.{grid, written, zeros}
-use Rattle.base.specs.Steps.{InRows, SameFrom}
+use Rattle.base.specs.Buffers.{written, zeros}
+use Rattle.bit_rows.specs.Grid.{grid, InRows, SameFrom}
 use Rattle.base.proofs.BufferLaws.{build-length, build-at, build-same, written-length, written_at, written-rest, zeros-length}
 use Rattle.base.proofs.Index.{in_table, at-div, at-mod, place}
 
