@@ -23,7 +23,7 @@ for path in sorted(CRATES.glob("**/*.antt")):
         continue
     text = path.read_text()
     # a name that this crate defines too is another crate's where the file takes it from there
-    taken = {n.split()[-1] for names in re.findall(r"^use Rattle·\w+\.\S*\.\{(.*)\}", text, re.M) for n in names.split(",")}
+    taken = {n.split()[-1] for below, names in re.findall(r"^use Rattle\.(\w+)\.\S*\.\{(.*)\}", text, re.M) if below != crate for n in names.split(",")}
     for number, line in enumerate(text.split("\n"), 1):
         if line.strip().startswith("unfolding "):
             for name in line.split()[1:]:

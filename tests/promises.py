@@ -6,13 +6,11 @@ import re
 import sys
 
 ROOT = pathlib.Path(__file__).resolve().parent.parent
-# C functions of the kit's libraries
-KIT = {"__xpg_strerror_r", "rattle_arg", "rattle_arg_count", "rattle_errno", "rattle_open_to_read", "rattle_set_errno"}
 
 promises = (ROOT / "docs/PROMISES.md").read_text()
 sources = [p for folder in ("crates", "include", "tests", "bindings/rust/src") for p in (ROOT / folder).rglob("*")]
 text = "\n".join(p.read_text() for p in sources if p.suffix in (".antt", ".rt", ".h", ".rs") and p != pathlib.Path(__file__))
-words = set(re.findall(r"[^\s(){}\[\].,;λ∷→×:`\"/&<>=]+", text)) | {p.name for p in (ROOT / "crates").iterdir()} | KIT
+words = set(re.findall(r"[^\s(){}\[\].,;λ∷→×:`\"/&<>=]+", text)) | {p.name for p in (ROOT / "crates").iterdir()}
 edits = {p.stem for p in ROOT.glob("crates/*/must-fail/*.edit")}
 
 faults = []

@@ -1,6 +1,8 @@
 #!/usr/bin/env python3
 """That the program writes to standard output in one place, `sending::send`, by which what goes out is promised: in the source of every
-crate but those of the test program, each use of the standard streams and each call that writes is one of those below."""
+crate but those of the test program, each use of the library's and the kit's input and output, each call that writes, and each place where
+standard output or standard error is taken, is one of those below."""
+import collections
 import pathlib
 import re
 import sys
@@ -8,39 +10,53 @@ import sys
 CRATES = pathlib.Path(__file__).resolve().parent.parent / "crates"
 TESTS = {"test_cases", "case_text", "file_cases"}
 
-# what writes: a call of a writer's methods, a macro, the standard streams, the kit's older calls
-WRITES = re.compile(
-    r"[\w.]*\.(?:write|write_all|write_fmt|flush|write_vectored|by_ref)\([^()]*\)?|\b(?:e?print|e?println|write|writeln|dbg)!\s*\([^,;)]*"
-    r"|\w+\.(?:stdout|stderr)\(\)|\b(?:io|libc|os|fs)::(?:write\w*|print\w*|copy|STD\w+_FILENO|create\w*|options)\b"
-)
-# what writes nothing to standard output: lines on standard error, a stream that passes on what it takes, and the streams at the program's
-# start, of which standard output goes to the listing alone
-HARMLESS = {
-    "rights/src/messages.rt": r"err\.write_all\(.*|write!\(room",
-    "rights/src/watched.rt": r"self\.stream\.(?:write|write_all)\(buf\)|self\.stream\.flush\(\)",
-    "rights/src/main.rt": r"rt\.stderr\(\)",
-}
-STARTS = ["list_from(rt.stdin(), rt.stdout(), &mut err)", "list_named(&rt, name, rt.stdout(), &mut err)"]
+# what is named of the libraries: this writes nothing by itself
+NAMED = {
+    "io::buffer", "io::large_buffer", "io::decimal", "fs::open", "std::str::from_utf8", "std::env::{Env,FillError}", "std::fs", "std::fs::Files",
+    "std::io::Write", "std::io::{Error,Read,Write}", "std::io::{Error,Read,Result,Write}", "std::io::{Cursor,Error,Write}",
+}  # fmt: skip
 # the place that writes
-SEND = ["to.write_all(bytes)"]
+SEND = ("sending/src/lib.rt", "to.write_all(")
+# how often a file has what writes no listing: the stream that passes on what it is given, the lines on standard error with the text of an
+# error in a buffer, and where the program takes its streams
+OTHERS = {
+    ("rights/src/watched.rt", "self.stream.write("): 1,
+    ("rights/src/watched.rt", "self.stream.write_all("): 1,
+    ("rights/src/watched.rt", "self.stream.flush("): 1,
+    ("rights/src/messages.rt", "err.write_all("): 8,
+    ("rights/src/messages.rt", "write!(room,"): 1,
+    ("rights/src/main.rt", "letmuterr=rt.stderr("): 1,
+    ("rights/src/main.rt", "list_from(rt.stdin(),rt.stdout("): 1,
+    ("rights/src/main.rt", "list_named(&rt,name,rt.stdout("): 1,
+}
+# a path into the libraries; what writes, or takes a stream, with what stands before it; a macro that prints; a message
+PATH = re.compile(r"\b(?:std|core|io|fs|libc|os)::(?:[\w:]*\{[^}]*\}|[\w:]+|\*)")
+CALL = re.compile(r"[^;{}|\n]*?(?:\.|::)\s*(?:write\w*|flush|e?print\w*|stdout|stderr)\s*(?:::\s*<[^>]*>\s*)?\(", re.S)
+MACRO = re.compile(r"\b(?:e?print|write|dbg|panic)\w*!\s*[(\[{]\s*\w+\s*[,;]?")
+MESSAGE = re.compile(r"(?<!fn )\b(?:fail|usage|print_reason)\((?!\s*(?:&mut )?err\b)")
 
-found = []
-other = 0
+
+def bare(text):
+    """Without spaces, and without what takes the answer."""
+    return re.sub(r"\s", "", re.sub(r"^\s*(?:let _ =|let done =|match\b|.*=>)", "", text))
+
+
+found = collections.Counter()
+other = []
 for path in sorted(CRATES.glob("*/src/**/*.rt")):
-    crate = path.relative_to(CRATES).parts[0]
-    if crate in TESTS:
+    name = path.relative_to(CRATES).as_posix()
+    if name.split("/")[0] in TESTS:
         continue
     source = re.sub(r"//.*", "", path.read_text())
-    if crate == "rights" and path.name == "main.rt":
-        for start in STARTS:
-            other += source.count(start) != 1
-            source = source.replace(start, "")
-    name = str(path.relative_to(CRATES))
-    for use in WRITES.findall(source):
-        if crate == "sending":
-            found.append(use)
-        elif not re.fullmatch(HARMLESS.get(name, "-"), use, re.S):
-            other += 1
-            print(f"{name}: {use}")
-print(f"{found.count(SEND[0])} place writes to standard output, {other} that are not known")
-sys.exit(other > 0 or found != SEND)
+    other += [(name, use) for use in map(bare, PATH.findall(source)) if use not in NAMED]
+    other += [(name, use) for use in MESSAGE.findall(source)]
+    for use in [*CALL.findall(source), *MACRO.findall(source)]:
+        use = bare(use)
+        found[name, use] += 1
+        if (name, use) != SEND and (name, use) not in OTHERS:
+            other.append((name, use))
+other += [(*use, f"{found[use]} times, not {count}") for use, count in OTHERS.items() if found[use] != count]
+for use in other:
+    print(*use, sep=": ")
+print(f"{found[SEND]} place writes to standard output, {len(other)} that are not known")
+sys.exit(len(other) > 0 or found[SEND] != 1)

@@ -12,7 +12,7 @@ ghost use Rattle.tables.specs.Rows.{picture};
 ghost use Rattle.certificates.specs.Steps.{Drawn};
 ghost use Rattle.listing.specs.Files.{listing_of, file_listing};
 ghost use Rattle.listing.specs.Listing.{picture_listing};
-ghost use Rattle.sending.specs.Steps.{SentAll};
+ghost use Rattle.sending.specs.Steps.{SentAll, WroteAll};
 ghost use Rattle.rights.specs.Steps.{GotMost};
 
 use blocks::{Counts, Reading};
@@ -51,7 +51,8 @@ fn read_all<R: Read>(from: &mut R, file: &mut [u8]) -> Input
     Input::Bytes(at)
 }
 
-// ---- The listing goes out: unless a write failed, what went out has the check of the listing.
+// ---- The listing goes out: unless a write failed, what went out has the check of the listing, and a writer whose bytes a contract can
+// speak of has just the listing more.
 
 // Of a picture without faults.
 fn list_picture<W: Write>(
@@ -62,7 +63,9 @@ fn list_picture<W: Write>(
     closure: &[u64],
 ) -> Sent
     requires { Drawn (picture boxes.now rows.now arrows.now) closure.now }
-    ensures { SentAll (picture_listing (picture boxes.now rows.now arrows.now)) result }
+    ensures check { SentAll (picture_listing (picture boxes.now rows.now arrows.now)) result }
+    ensures bytes { let pic = picture boxes.now rows.now arrows.now in
+        WroteAll (W.contents to.old) (W.contents to.new) (picture_listing pic) result }
 {
     let mut users = atoms::box_room();
     let mut files = atoms::box_room();
@@ -81,8 +84,10 @@ fn list_picture<W: Write>(
 
 // Of any picture.
 fn list_tables<W: Write>(to: &mut W, boxes: &[u8], rows: &[u16], arrows: &[u16]) -> Sent
-    ensures { let pic = picture boxes.now rows.now arrows.now in
+    ensures check { let pic = picture boxes.now rows.now arrows.now in
         SentAll (listing_of pic (zeros 65536)) result }
+    ensures bytes { let pic = picture boxes.now rows.now arrows.now in
+        WroteAll (W.contents to.old) (W.contents to.new) (listing_of pic (zeros 65536)) result }
 {
     let mut scratch = io::large_buffer();
     let mut closure = containment::closure_room();
@@ -98,9 +103,12 @@ fn list_tables<W: Write>(to: &mut W, boxes: &[u8], rows: &[u16], arrows: &[u16])
 fn list_counted<W: Write>(to: &mut W, c: Counts, boxes: &[u8], rows: &[u16], arrows: &[u16]) -> Sent
     requires { (c.boxes ≤ length boxes.now) × (2 * c.containments ≤ length rows.now)
         × (4 * c.arrows ≤ length arrows.now) }
-    ensures { let pic = picture (take c.boxes boxes.now)
+    ensures check { let pic = picture (take c.boxes boxes.now)
         (take (2 * c.containments) rows.now) (take (4 * c.arrows) arrows.now) in
         SentAll (listing_of pic (zeros 65536)) result }
+    ensures bytes { let pic = picture (take c.boxes boxes.now)
+        (take (2 * c.containments) rows.now) (take (4 * c.arrows) arrows.now) in
+        WroteAll (W.contents to.old) (W.contents to.new) (listing_of pic (zeros 65536)) result }
 {
     let nb = c.boxes;
     let nr = 2 * c.containments;
@@ -129,7 +137,8 @@ fn file_bytes() -> [u8; 32769]
 
 // Of a file that was read.
 fn list<W: Write>(to: &mut W, file: &[u8]) -> Sent
-    ensures { SentAll (file_listing file.now) result }
+    ensures check { SentAll (file_listing file.now) result }
+    ensures bytes { WroteAll (W.contents to.old) (W.contents to.new) (file_listing file.now) result }
 {
     let mut boxes = box_bytes();
     let mut rows = table_numbers();

@@ -8,6 +8,9 @@ use native.Mathlib.Nat.{zero-add}
 use borrow.Author.Tests.{ltb-true, ltb-false}
 use lib.Dec.{ltb}
 use lib.ListN.{take}
+use Rattle.std.specs.Io.KnownBytes.{Appends}
+use Rattle.std.proofs.KnownBytes.{Appends-trans}
+use Rattle.std.specs.declared.option.Option.{Option}
 use Rattle.tables.specs.Rows.{Picture}
 use Rattle.blocks.specs.Fnv.{fnv_fold, fnv1a}
 use Rattle.blocks.proofs.MadeBlocks.{check-more}
@@ -54,6 +57,31 @@ module _ {pic : Picture} {p : Place} {old new : List ℕ} {state after : ℕ} (g
   gone-all w e h s =
       sent-more (line_text (counts_line pic) ++ rows_from pic 0 p.row) g.check-is h s
       ∙ rw (w.seen_are, e, seen-whole pic, rows_whole pic, listing-parts pic, append_assoc)
+
+-- the same of what a writer holds, if that is known, before the first line and after the rows up to a place
+pub record Grown (pic : Picture) (p : Place) (a b : Option (List ℕ)) : Type 0 where
+  pub grew : Appends a b (line_text (counts_line pic) ++ rows_from pic 0 p.row)
+
+pub grown-first : {pic : Picture} {a b : Option (List ℕ)} {old new : List ℕ} {n : ℕ} (p : Place) → p.row ≡ 0
+    → Holds (line_text (counts_line pic)) old new n → Appends a b (take n new) → Grown pic p a b
+grown-first {pic} p z h w = record { grew = rw (z, rows_none pic 0, append-nil, ← held h) w }
+
+module _ {pic : Picture} {p : Place} {a b : Option (List ℕ)} (c : Option (List ℕ)) {old new : List ℕ} (g : Grown pic p a b) where
+  pub grown-more : {k : Chunk} → Filled pic p old new k → Appends b c (take k.bytes new) → Grown pic k.next a c
+  grown-more {k} f w =
+      let m = k.next.row - p.row in
+      let there : p.row + m ≡ k.next.row = omega (arith, f.onward) in
+      let joins : rows_from pic 0 (p.row + m) ≡ rows_from pic 0 p.row ++ rows_from pic p.row m = rows_join pic 0 p.row m ∙ rw zero-add in
+      record {
+        grew = rw (← there, joins, ← append_assoc, ← held f.holds) (Appends-trans a b c _ _ g.grew w);
+      }
+
+  -- with the last line it is the listing
+  pub grown-all : {n : ℕ} → Stands pic p → p.row ≡ line_rows pic → Holds (line_text (Last p.seen)) old new n
+      → Appends b c (take n new) → Appends a c (picture_listing pic)
+  grown-all s e h w =
+      let all = rw (held h) at (Appends-trans a b c _ _ g.grew w) in
+      rw (s.seen_are, e, seen-whole pic, rows_whole pic, append_assoc, ← listing-parts pic) at all
 
 -- the test of the loop: no write failed, and there is a row left
 pub none-failed : (failed : Bool) (row count : ℕ) → (not failed && ltb row count) ≡ true → failed ≡ false

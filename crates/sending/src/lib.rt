@@ -9,7 +9,7 @@ ghost use Rattle.lines.specs.Lines.{line_text};
 ghost use Rattle.lines.specs.declared.Line.TheVariants.{Stopped};
 ghost use Rattle.listing.specs.Listing.{picture_listing};
 ghost use Rattle.listing.specs.Steps.{Prepared};
-ghost use Rattle.sending.specs.Steps.{SentAll};
+ghost use Rattle.sending.specs.Steps.{SentAll, WroteAll};
 
 use blocks::Check;
 use std::io::Write;
@@ -24,7 +24,8 @@ pub struct Sent {
 
 // The only place where bytes go to standard output.
 fn send<W: Write>(to: &mut W, before: Check, bytes: &[u8]) -> Sent
-    ensures { result.failed ≡ false → result.check.state ≡ fnv_fold before.state bytes.now }
+    ensures check { result.failed ≡ false → result.check.state ≡ fnv_fold before.state bytes.now }
+    ensures bytes { WroteAll (W.contents to.old) (W.contents to.new) bytes.now result }
 {
     let done = to.write_all(bytes).is_ok();
     Sent {
@@ -35,7 +36,8 @@ fn send<W: Write>(to: &mut W, before: Check, bytes: &[u8]) -> Sent
 
 // The line of a refused file or picture.
 pub fn send_stopped<W: Write>(to: &mut W, r: Refusal) -> Sent
-    ensures { SentAll (line_text (Stopped r)) result }
+    ensures check { SentAll (line_text (Stopped r)) result }
+    ensures bytes { WroteAll (W.contents to.old) (W.contents to.new) (line_text (Stopped r)) result }
 {
     let mut out = io::buffer();
     let n = listing::stopped(r, &mut out);
@@ -53,7 +55,9 @@ pub fn send_picture<W: Write>(
     files: &[u16],
 ) -> Sent
     requires { Prepared (picture boxes.now rows.now arrows.now) closure.now arrows.now users.now files.now }
-    ensures { SentAll (picture_listing (picture boxes.now rows.now arrows.now)) result }
+    ensures check { SentAll (picture_listing (picture boxes.now rows.now arrows.now)) result }
+    ensures bytes { let pic = picture boxes.now rows.now arrows.now in
+        WroteAll (W.contents to.old) (W.contents to.new) (picture_listing pic) result }
 {
     let mut out = io::large_buffer();
     let first = listing::counts_line(boxes.len(), rows.len() / 2, arrows.len() / 4, &mut out);

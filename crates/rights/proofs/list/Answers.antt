@@ -1,6 +1,4 @@
 -- `rights::list` meets its contract: what is read is what the file says. Assumes nothing.
-use mathlib.Core.Path.{sym, ap, ◌∙◌}
-use Rattle.blocks.specs.Fnv.{fnv1a}
 use Rattle.blocks.specs.Steps.{ReadDone}
 use Rattle.blocks.proofs.Rooms.{read_fits}
 use Rattle.listing.proofs.FileLaws.{read-refused, read-good}
@@ -26,15 +24,17 @@ list_counted-requires g c =
 pub returns-in-Refused : goal.returns-in-Refused
 returns-in-Refused g c =
     let was = rw c.in-Refused.is at (done g (goal.at.returns-in-Refused g c).After-read-reading) in
-    λ e. c.send_stopped.ensures e
-    ∙ ap fnv1a (sym (read-refused c.args.file.now c.box_bytes-boxes.result c.table_numbers-rows.result
+    let is =
+    read-refused c.args.file.now c.box_bytes-boxes.result c.table_numbers-rows.result
     c.table_numbers-arrows.result _ _ _ c.box_bytes-boxes.ensures c.table_numbers-rows.ensures
-    c.table_numbers-arrows.ensures was))
+    c.table_numbers-arrows.ensures was in
+    record { check = λ e. rw is (c.send_stopped.ensures.check e); bytes = λ e. rw is (c.send_stopped.ensures.bytes e) }
 
 pub returns-in-Tables : goal.returns-in-Tables
 returns-in-Tables g c =
     let was = rw c.in-Tables.is at (done g (goal.at.returns-in-Tables g c).After-read-reading) in
-    λ e. c.list_counted.ensures e
-    ∙ ap fnv1a (sym (read-good c.args.file.now c.box_bytes-boxes.result c.table_numbers-rows.result
+    let is =
+    read-good c.args.file.now c.box_bytes-boxes.result c.table_numbers-rows.result
     c.table_numbers-arrows.result _ _ _ c.box_bytes-boxes.ensures c.table_numbers-rows.ensures
-    c.table_numbers-arrows.ensures was))
+    c.table_numbers-arrows.ensures was in
+    record { check = λ e. rw is (c.list_counted.ensures.check e); bytes = λ e. rw is (c.list_counted.ensures.bytes e) }

@@ -1,8 +1,7 @@
 -- `rights::list_tables` meets its contract: a picture that is not refused is without faults, and its closure is made. Assumes nothing.
-use mathlib.Core.Path.{◌≡◌, sym, ap, ◌∙◌}
+use mathlib.Core.Path.{◌≡◌}
 use Rattle.tables.specs.Rows.{picture}
 use Rattle.tables.specs.Refusals.{verdict_of}
-use Rattle.blocks.specs.Fnv.{fnv1a}
 use Rattle.scratch.specs.Scratch.{early_fault, picture_fault}
 use Rattle.listing.proofs.FileLaws.{picture-refused, picture-good}
 use Rattle.rights.proofs.Prepared.{early-passed, stages-are, drawn}
@@ -36,13 +35,15 @@ list_picture-requires g c =
 pub returns-in-Refused : goal.returns-in-Refused
 returns-in-Refused g c =
     let a = c.args in
-    λ e. c.send_stopped.ensures e
-    ∙ ap fnv1a (sym (picture-refused a.boxes.now a.rows.now a.arrows.now _ c.large_buffer-scratch.ensures (told g (goal.at.returns-in-Refused g c).After-prepare-v) _
-    c.in-Refused.is))
+    let is =
+    picture-refused a.boxes.now a.rows.now a.arrows.now _ c.large_buffer-scratch.ensures (told g (goal.at.returns-in-Refused g c).After-prepare-v) _
+    c.in-Refused.is in
+    record { check = λ e. rw is (c.send_stopped.ensures.check e); bytes = λ e. rw is (c.send_stopped.ensures.bytes e) }
 
 pub returns : goal.returns
 returns g c =
     let a = c.args in
-    λ e. c.list_picture.ensures e
-    ∙ ap fnv1a (sym (picture-good a.boxes.now a.rows.now a.arrows.now _ c.large_buffer-scratch.ensures (told g (goal.at.returns g c).After-prepare-v)
-    c.in_default.is))
+    let is =
+    picture-good a.boxes.now a.rows.now a.arrows.now _ c.large_buffer-scratch.ensures (told g (goal.at.returns g c).After-prepare-v)
+    c.in_default.is in
+    record { check = λ e. rw is (c.list_picture.ensures.check e); bytes = λ e. rw is (c.list_picture.ensures.bytes e) }

@@ -1,12 +1,14 @@
 -- `sending::send_picture` meets its contract: the first line, buffers of rows and the last line follow each other. Assumes nothing.
+use mathlib.Core.Bool.{false}
 use mathlib.Core.Path.{◌≡◌, refl, sym, ◌∙◌}
 use Prim.Native.Nat.{ℕ}
 use native.Mathlib.Omega.{arith}
 use Rattle.tables.specs.Rows.{picture}
+use Rattle.listing.specs.PairRows.{line_rows}
 use Rattle.listing.specs.Steps.{Stands, Filled}
 use Rattle.listing.proofs.FileLaws.{counts-are}
 use Rattle.listing.proofs.StandLaws.{prepared-in-range, stands-fit, rows_are}
-use Rattle.sending.proofs.Going.{gone-first, gone-more, gone-all, none-failed, row-left, none_left}
+use Rattle.sending.proofs.Going.{gone-first, gone-more, gone-all, grown-first, grown-more, grown-all, none-failed, row-left, none_left}
 use borrow.Author.Rules.{rules}
 use Rattle.sending.proofs.send_picture.Goals.{After-fill-chunk, After-start-place}
 use Rattle.sending.proofs.send_picture.Given.{Over}
@@ -31,7 +33,10 @@ loop-sent-init g c =
       b,
       c.row_count-count.ensures ∙ sym (rows_are c.requires b),
       search rules,
-      λ e. gone-first c.start-place.result c.start-place.ensures.row_value c.fresh.ensures made (c.send-sent.ensures e),
+      λ e. (
+        gone-first c.start-place.result c.start-place.ensures.row_value c.fresh.ensures made (c.send-sent.ensures.check e),
+        grown-first c.start-place.result c.start-place.ensures.row_value made (c.send-sent.ensures.bytes e),
+      ),
     )
 
 pub fill-chunk-requires : goal.fill-chunk-requires
@@ -58,15 +63,26 @@ loop-sent-smaller g c =
 pub loop-sent-preserved : goal.loop-sent-preserved
 loop-sent-preserved g c =
     let l = c.loop-sent in
-    let whole = none-failed l.sent.failed l.place.row _ c.loop-sent-test.true in
-    ((chunk g (goal.at.loop-sent-preserved g c).After-fill-chunk).stands, l.invariant.1, search rules, λ e. gone-more (l.invariant.3 whole) (chunk g (goal.at.loop-sent-preserved g c).After-fill-chunk) (c.send-sent-in-loop-sent.ensures e))
+    let before = l.invariant.3 (none-failed l.sent.failed l.place.row _ c.loop-sent-test.true) in
+    let put = chunk g (goal.at.loop-sent-preserved g c).After-fill-chunk in
+    let w = c.send-sent-in-loop-sent.ensures in
+    (put.stands, l.invariant.1, search rules, λ e. (gone-more before.0 put (w.check e), grown-more _ before.1 put (w.bytes e)))
 
+-- a write failed
 pub returns-then-sent : goal.returns-then-sent
-returns-then-sent g c = λ e. let z : ◌≡◌ {A = ℕ} 0 1 = cc in absurd (omega arith)
+returns-then-sent g c =
+    let never : c.loop-sent.sent.failed ≡ false → ⊥ = λ e. let z : ◌≡◌ {A = ℕ} 0 1 = cc in omega arith in
+    record { check = λ e. absurd (never e); bytes = λ e. absurd (never e) }
 
 pub returns : goal.returns
 returns g c =
     let l = c.loop-sent in
     let whole = c.if-sent.false in
-    let all = none_left l.sent.failed l.place.row _ c.loop-sent-test.false whole in
-    λ e. gone-all (l.invariant.3 whole) l.invariant.0 (omega (arith, all, l.invariant.0.within, l.invariant.1)) c.last_line-last.ensures (c.send.ensures e)
+    let row-last = none_left l.sent.failed l.place.row _ c.loop-sent-test.false whole in
+    let all : l.place.row ≡ line_rows (picture c.args.boxes.now c.args.rows.now c.args.arrows.now) =
+    omega (arith, row-last, l.invariant.0.within, l.invariant.1) in
+    let before = l.invariant.3 whole in
+    record {
+      check = λ e. gone-all before.0 l.invariant.0 all c.last_line-last.ensures (c.send.ensures.check e);
+      bytes = λ e. grown-all (g.W.Write.contents c.send.new.to) before.1 l.invariant.0 all c.last_line-last.ensures (c.send.ensures.bytes e);
+    }

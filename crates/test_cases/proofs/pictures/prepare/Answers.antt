@@ -1,6 +1,5 @@
 -- `test_cases::pictures::prepare`: where the early checks pass, the tables are sound and the scratch suffices. Assumes nothing.
 use mathlib.Core.Path.{sym, ◌∙◌}
-use borrow.Author.Rules.{rules}
 use Rattle.tables.proofs.Verdicts.{passed}
 use Rattle.scratch.proofs.PictureLaws.{early-prepared}
 use Rattle.test_cases.proofs.pictures.prepare.Goals as goal
