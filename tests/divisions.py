@@ -27,8 +27,18 @@ PRIME, START = 16777619, 2166136261
 def code_of(text):
     """The text of a source without contracts, comments and what only contracts use; lines stay where they are."""
     blank = lambda m: re.sub(r"[^\n]", " ", m.group())
-    text = re.sub(r"⌜.*?⌝", blank, text, flags=re.S)
-    return re.sub(r"//[^\n]*|^ghost use [^\n]*", blank, text, flags=re.M)
+    text = re.sub(r"//[^\n]*|^ghost use [^\n]*", blank, text, flags=re.M)
+    kept, at = [], 0
+    for clause in re.finditer(r"\b(?:requires|ensures)\*?(?: \w+)? \{", text):
+        if clause.start() < at:
+            continue
+        end, deep = clause.end(), 1
+        while deep and end < len(text):
+            deep += {"{": 1, "}": -1}.get(text[end], 0)
+            end += 1
+        kept += [text[at : clause.start()], re.sub(r"[^\n]", " ", text[clause.start() : end])]
+        at = end
+    return "".join(kept) + text[at:]
 
 
 def power_of_two(text):
@@ -149,6 +159,7 @@ REFUSED_SOURCE = [
     "let block = row / 125;",
     "let place = row % 83;",
     "let blocks = (rows + 499) / 500;",
+    "ensures { result ≡ block }\n{\n    row / 125\n}",
     "let block = row / capacity;",
     "let place = row % kind.capacity;",
     "let half = row / 250;",
@@ -167,8 +178,9 @@ ADMITTED_SOURCE = [
     "const BLOCK_SIZE: usize = 512;\nlet blocks = length / BLOCK_SIZE;",
     "let at = 512 * block + 8 + 6 * place;",
     "// row / 125",
-    "ensures { λ r. ⌜ r ≡ row / 125\n    × (row % 125 ≡ 0) ⌝ }",
-    "ghost use Prim.Native.Nat.{_/_, _%_};",
+    "ensures { result ≡ row / 125\n    × (row % 125 ≡ 0) }",
+    "requires in_range { row / 125 < 4 }\n    ensures first { (g : {A : ℕ} → A) → result ≡ row / 125 }",
+    "ghost use Rattle.std.specs.Prelude.{◌/◌, ◌%◌};",
 ]
 # constants of one source, a division in another, and whether it must be refused
 TWO_SOURCES = [

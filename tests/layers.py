@@ -12,12 +12,12 @@ import sys
 CRATES = pathlib.Path(__file__).resolve().parent.parent / "crates"
 
 defined = {}
-for path in sorted(CRATES.glob("*/*/**/*.antt")):
+for path in sorted(p for p in CRATES.glob("*/*/**/*.antt") if "out" not in p.parts):
     for name in re.findall(r"^\s*unfoldable pub (\S+) :", path.read_text(), re.M):
         defined.setdefault(name, set()).add(path.relative_to(CRATES).parts[0])
 
 opened = 0
-for path in sorted(CRATES.glob("**/*.antt")):
+for path in sorted(p for p in CRATES.glob("**/*.antt") if "out" not in p.parts):
     crate = path.relative_to(CRATES).parts[0]
     if path.name == "Cases.antt":
         continue

@@ -426,11 +426,12 @@ def an_output_that_takes_short_parts_only():
 
 @case
 def a_pipe_that_nobody_reads():
-    """Where SIGPIPE is ignored: otherwise the system ends the program."""
-    with pipe() as (source, sink):
-        source.close()
-        ran = run(input=FILE_B, stdout=sink, restore_signals=False)
-        expect(ran, err=cannot_write("Broken pipe"))
+    """Whether SIGPIPE is ignored or not when the program starts: it ignores it."""
+    for restored in (False, True):
+        with pipe() as (source, sink):
+            source.close()
+            ran = run(input=FILE_B, stdout=sink, restore_signals=restored)
+            expect(ran, err=cannot_write("Broken pipe"))
 
 
 @case

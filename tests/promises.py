@@ -8,7 +8,7 @@ import sys
 ROOT = pathlib.Path(__file__).resolve().parent.parent
 
 promises = (ROOT / "docs/PROMISES.md").read_text()
-sources = [p for folder in ("crates", "include", "tests", "bindings/rust/src") for p in (ROOT / folder).rglob("*")]
+sources = [p for folder in ("crates", "include", "tests", "bindings/rust/src") for p in (ROOT / folder).rglob("*") if "out" not in p.parts]
 text = "\n".join(p.read_text() for p in sources if p.suffix in (".antt", ".rt", ".h", ".rs") and p != pathlib.Path(__file__))
 words = set(re.findall(r"[^\s(){}\[\].,;λ∷→×:`\"/&<>=]+", text)) | {p.name for p in (ROOT / "crates").iterdir()}
 edits = {p.stem for p in ROOT.glob("crates/*/must-fail/*.edit")}

@@ -41,7 +41,7 @@ fn made_by_the_kit() -> PathBuf {
         "Set RIGHTS_LIB_DIR to the folder that holds {ARCHIVE}, or install Rattle's kit and try \
          `tools/build library` in the repository's root."
     );
-    let mut kit = Command::new("tools/build");
+    let mut kit = Command::new(root.join("tools/build"));
     kit.arg("library").current_dir(&root);
     match kit.output() {
         Err(why) => fail(&format!("`tools/build` can't be run: {why}. {advice}")),

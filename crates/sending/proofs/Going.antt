@@ -88,8 +88,9 @@ pub none-failed : (failed : Bool) (row count : ℕ) → (not failed && ltb row c
 none-failed true row count e = let z : ◌≡◌ {A = ℕ} 0 1 = cc in absurd (omega arith)
 none-failed false row count e = refl
 
-pub row-left : (failed : Bool) (row count : ℕ) → (not failed && ltb row count) ≡ true → row < count
-row-left failed row count e = ltb-true row count (rw (none-failed failed row count e) at e)
+pub row-left : (a : Bool) (row count : ℕ) → (a && ltb row count) ≡ true → row < count
+row-left true row count e = ltb-true row count e
+row-left false row count e = let z : ◌≡◌ {A = ℕ} 0 1 = cc in absurd (omega arith)
 
 pub none_left : (failed : Bool) (row count : ℕ) → (not failed && ltb row count) ≡ false → failed ≡ false → count ≤ row
 none_left failed row count e w = ltb-false row count (rw w at e)

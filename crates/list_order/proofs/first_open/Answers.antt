@@ -7,13 +7,10 @@ use Rattle.list_order.proofs.first_open.Goals as goal
 pub loop-i-init : goal.loop-i-init
 loop-i-init c = marked-none c.args.done.now c.args.from
 
-pub returns-then-done-i-eq0 : goal.returns-then-done-i-eq0
-returns-then-done-i-eq0 c = (search rules, c.loop-i.invariant)
-
 pub loop-i-preserved : goal.loop-i-preserved
 loop-i-preserved c =
     let a = c.args in
-    marked_more a.done.now a.from c.loop-i.i c.if-done-i-eq0.false c.loop-i.invariant
+    marked_more a.done.now a.from c.loop-i.i (search rules) c.loop-i.invariant
 
 pub returns : goal.returns
 returns c = (search rules, λ i a b. c.loop-i.invariant i a (omega arith))

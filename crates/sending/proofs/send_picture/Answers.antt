@@ -57,7 +57,7 @@ slice_bounds-send-end-in-loop-sent g c = (chunk g (goal.at.slice_bounds-send-end
 pub loop-sent-smaller : goal.loop-sent-smaller
 loop-sent-smaller g c =
     let l = c.loop-sent in
-    let below = row-left l.sent.failed l.place.row _ c.loop-sent-test.true in
+    let below = row-left _ l.place.row _ c.loop-sent-test.true in
     omega (arith, below, l.invariant.1, (chunk g (goal.at.loop-sent-smaller g c).After-fill-chunk).some-row (omega (arith, below, l.invariant.1)))
 
 pub loop-sent-preserved : goal.loop-sent-preserved
