@@ -13,16 +13,13 @@ TESTS = {"test_cases", "case_text", "file_cases"}
 # what is named of the libraries: this writes nothing by itself
 NAMED = {
     "io::buffer", "io::large_buffer", "io::decimal", "fs::open", "std::str::from_utf8", "std::env::{Env,FillError}", "std::fs", "std::fs::Files",
-    "std::io::Write", "std::io::{Error,Read,Write}", "std::io::{Error,Read,Result,Write}", "std::io::{Cursor,Error,Write}",
+    "std::ops::{BitAnd,BitOr,Sub}", "std::io::{Error,Write}", "std::io::{Error,Read,Write}", "std::io::{Cursor,Error,Write}",
 }  # fmt: skip
 # the place that writes
 SEND = ("sending/src/lib.rt", "to.write_all(")
-# how often a file has what writes no listing: the stream that passes on what it is given, the lines on standard error with the text of an
-# error in a buffer, and where the program takes its streams
+# how often a file has what writes no listing: the lines on standard error with the text of an error in a buffer, and where the program
+# takes its streams
 OTHERS = {
-    ("rights/src/watched.rt", "self.stream.write("): 1,
-    ("rights/src/watched.rt", "self.stream.write_all("): 1,
-    ("rights/src/watched.rt", "self.stream.flush("): 1,
     ("rights/src/messages.rt", "err.write_all("): 8,
     ("rights/src/messages.rt", "write!(room,"): 1,
     ("rights/src/main.rt", "letmuterr=rt.stderr("): 1,
@@ -38,7 +35,7 @@ MESSAGE = re.compile(r"(?<!fn )\b(?:fail|usage|print_reason)\((?!\s*(?:&mut )?er
 
 def bare(text):
     """Without spaces, and without what takes the answer."""
-    return re.sub(r"\s", "", re.sub(r"^\s*(?:let _ =|let done =|match\b|.*=>)", "", text))
+    return re.sub(r"\s", "", re.sub(r"^\s*(?:let _ =|match\b|.*=>)", "", text))
 
 
 found = collections.Counter()

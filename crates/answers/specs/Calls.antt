@@ -1,27 +1,26 @@
 -- The calls, whole: which refusal, which answer, and what the lent places hold at the end. Assumes nothing.
-use Rattle.std.specs.Prelude.{not, ◌&&◌, List, ℕ, length}
-use Rattle.std.proofs.Math.Option.{Option, none, some}
+use Rattle.std.specs.Prelude.{not, ◌&&◌, List, ℕ, length, Result, Ok, Err}
+use Rattle.std.specs.Prelude.{Option, None as none, Some as some}
 use Rattle.base.specs.Search.{or_else, given}
 use Rattle.tables.specs.Rows.{Picture, user, file}
 use Rattle.tables.specs.Atoms.{atom}
-use Rattle.tables.specs.Refusals.{not_atomic, unless_refused}
+use Rattle.tables.specs.Refusals.{unless_refused}
+use Rattle.tables.specs.declared.Refusal.TheVariants.{NotAtomic}
 use Rattle.tables.specs.Faults.{room_fault}
 use Rattle.tables.specs.declared.Refusal.{Refusal}
 use Rattle.containment.specs.Contains.{loop_fault}
 use Rattle.scratch.specs.Scratch.{mode_early, picture_fault}
 use Rattle.meaning.specs.Pairs.{pairs, matrix_bytes, matrix_numbers, any_unclear}
 use Rattle.meaning.specs.declared.Entry.{Entry}
-use Rattle.answers.specs.declared.EntryReply.{EntryReply}
-use Rattle.answers.specs.declared.EntryReply.TheVariants.{Answered, Refused}
 
 -- 11: the asked user or file isn't an atomic box of that side
 unfoldable pub asked_fault : (boxes rows : List ℕ) (u f : ℕ) → Option Refusal
-asked_fault boxes rows u f = given (not (atom boxes rows user u && atom boxes rows file f)) (not_atomic u f)
+asked_fault boxes rows u f = given (not (atom boxes rows user u && atom boxes rows file f)) (NotAtomic u f)
 
 -- the reply for one entry, by the fault that was found, if any
-unfoldable pub reply_of : (fault : Option Refusal) (e : Entry) → EntryReply
-reply_of none e = Answered e
-reply_of (some r) e = Refused r
+unfoldable pub reply_of : (fault : Option Refusal) (e : Entry) → Result Entry Refusal
+reply_of none e = Ok e
+reply_of (some r) e = Err r
 
 -- s is the scratch as it was lent
 module _ (pic : Picture) (s : List ℕ) where

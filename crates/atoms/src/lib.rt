@@ -3,13 +3,13 @@
 
 ghost use Rattle.std.specs.Prelude.{◌≡◌, not, ◌&&◌, [], ℕ, ◌*◌, ◌/◌, ◌%◌, ◌<◌, ◌≤◌, length, get_or};
 ghost use Rattle.base.specs.Search.{select};
-ghost use Rattle.base.specs.Buffers.{written, zeros};
+ghost use Rattle.base.specs.Buffers.{written};
 ghost use Rattle.tables.specs.Atoms.{outer, atom, atoms, pair_count};
 ghost use Rattle.tables.specs.Steps.{SoundRows};
 ghost use Rattle.tables.specs.Rows.{is_group, on_side, row_at, row_count};
 ghost use Rattle.atoms.specs.Steps.{Marks, unmarked};
 
-use base::{narrow, wide, zero_bytes};
+use base::filled;
 use tables::{BoxRow, Containment, is_group, on_side};
 
 // Whether box b is the outer one of a row. Costs a step a row.
@@ -18,11 +18,8 @@ fn is_outer(rows: &[u16], b: usize) -> bool
     ensures { result ≡ outer rows.now b }
 {
     let mut found = false;
-    let mut k = rows.len() / 2;
-    while 0 < k {
-        k -= 1;
-        let row = Containment::at(rows, k);
-        if wide(row.outer) == b {
+    for k in (0..rows.len() / 2).rev() {
+        if usize::from(Containment::at(rows, k).outer) == b {
             found = true;
         }
     }
@@ -30,6 +27,7 @@ fn is_outer(rows: &[u16], b: usize) -> bool
 }
 
 // Whether b is a box of the side and neither a user group nor a folder.
+// Kept: a number for the side, here and below, since `is_atom` and `atoms_of` promise `atom` and `atoms` of any number.
 fn is_single(boxes: &[u8], side: u8, b: usize) -> bool
     ensures { result ≡ (on_side boxes.now side b && not (is_group (get_or boxes.now b 0))) }
 {
@@ -51,11 +49,8 @@ fn mark_outer(rows: &[u16], marks: &mut [u8])
     requires marks { Marks (outer []) marks.old }
     ensures { Marks (outer rows.now) marks.new }
 {
-    let mut k = rows.len() / 2;
-    while 0 < k {
-        k -= 1;
-        let row = Containment::at(rows, k);
-        let b = wide(row.outer);
+    for k in (0..rows.len() / 2).rev() {
+        let b = usize::from(Containment::at(rows, k).outer);
         marks[b] = 1;
     }
 }
@@ -68,7 +63,7 @@ fn is_unmarked(boxes: &[u8], side: u8, marks: &[u8], b: usize) -> bool
     is_single(boxes, side, b) && marks[b] == 0
 }
 
-// Writes these boxes, by rising number, and answers how many.
+// Writes these boxes, by rising number, and answers how many. Kept: a loop over numbers, since a box's number is what is written.
 fn gather(boxes: &[u8], side: u8, marks: &[u8], out: &mut [u16]) -> usize
     requires { (length boxes.now ≤ 256) × (256 ≤ length marks.now) × (256 ≤ length out.old) }
     ensures value { result ≡ length (select (unmarked boxes.now side marks.now) (length boxes.now)) }
@@ -79,7 +74,7 @@ fn gather(boxes: &[u8], side: u8, marks: &[u8], out: &mut [u16]) -> usize
     let mut count = 0;
     for b in 0..boxes.len() {
         if is_unmarked(boxes, side, marks, b) {
-            out[count] = narrow(b);
+            out[count] = b as u16;
             count += 1;
         }
     }
@@ -92,16 +87,9 @@ pub fn atoms_of(boxes: &[u8], rows: &[u16], side: u8, out: &mut [u16]) -> usize
     ensures value { result ≡ length (atoms boxes.now rows.now side) }
     ensures out_after { out.new ≡ written (atoms boxes.now rows.now side) out.old }
 {
-    let mut marks = zero_bytes();
+    let mut marks: [u8; BoxRow::LIMIT] = filled(0);
     mark_outer(rows, &mut marks);
     gather(boxes, side, &marks, out)
-}
-
-// Room for box numbers.
-pub fn box_room() -> [u16; BoxRow::LIMIT]
-    ensures { result ≡ zeros 256 }
-{
-    [0u16; BoxRow::LIMIT]
 }
 
 // How many pairs of an atomic user and an atomic file there are.
@@ -109,7 +97,7 @@ pub fn pair_count(boxes: &[u8], rows: &[u16]) -> usize
     requires { SoundRows boxes.now rows.now }
     ensures { result ≡ pair_count boxes.now rows.now }
 {
-    let mut atoms = box_room();
+    let mut atoms: [u16; BoxRow::LIMIT] = filled(0);
     let users = atoms_of(boxes, rows, BoxRow::USER, &mut atoms);
     let files = atoms_of(boxes, rows, BoxRow::FILE, &mut atoms);
     users * files

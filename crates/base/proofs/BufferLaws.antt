@@ -155,6 +155,11 @@ module _ (p : ℕ → Bool) (old : List ℕ) where
 
 -- ---- `zeros`
 
+-- places of which the first n were filled with one value
+pub filled-first : (v n : ℕ) (t s : List ℕ) → t ≡ replicate n v → t ++ drop n s ≡ written (replicate n v) s
+unfolding written
+filled-first v n t s e = rw (e, length-replicate)
+
 pub zeros-is : (n : ℕ) → replicate n 0 ≡ zeros n
 unfolding zeros
 zeros-is n = refl

@@ -1,6 +1,6 @@
 -- The first of two that is there. Assumes nothing.
 use mathlib.Core.Path.{◌≡◌, refl}
-use mathlib.Core.Option.{Option, none, some}
+use Rattle.std.specs.Prelude.{Option, None as none, Some as some}
 use Rattle.base.specs.Search.{or_else}
 
 -- one that is not there, and one that is, before others

@@ -1,13 +1,20 @@
 -- What the searches of `specs/Search.antt` find, and how a loop that counts up follows them. Assumes nothing.
 use mathlib.Core.Path.{◌≡◌, refl, sym, ap, subst, ◌∙◌}
 use mathlib.Core.Logic.{◌⊎◌, ⊎_elim}
-use mathlib.Core.Bool.{Bool, true, false}
-use mathlib.Core.Option.{Option, none, some}
-use Prim.Native.Nat.{ℕ, zero, suc, ◌+◌, ◌<◌}
+use mathlib.Core.Bool.{Bool, true, false, not, cond}
+use Rattle.std.specs.Prelude.{Option, None as none, Some as some}
+use Prim.Native.Nat.{ℕ, zero, suc, ◌+◌, ◌<◌, ◌≤◌}
 use native.Mathlib.Omega.{arith}
 use native.Mathlib.Numerals.{add-one}
 use native.Mathlib.Nat.{eq-or-lt_of_le, le_of_suc-le-suc}
 use lib.Dec.{T}
+use borrow.Author.Tests.{ltb-false}
+use lib.ListN.{length, get_or}
+use mathlib.Core.List.{List}
+use Rattle.std.specs.List.{position, position_or_len}
+use Rattle.std.specs.Option.{option_map}
+use Rattle.std.proofs.lemmas.List.Quantifiers.{position-Some}
+use Rattle.std.proofs.lemmas.List.Sums.{prefix_len_passes}
 use Rattle.base.specs.Search.{or_else, given, first, lowest, every}
 use Rattle.base.proofs.Tests.{and_T, T_and}
 
@@ -152,3 +159,27 @@ pub every-same : (p q : ℕ → Bool) (n : ℕ) → ((k : ℕ) → k < n → p k
 unfolding every
 every-same p q zero e = refl
 every-same p q (suc n) e = rw (every-same p q n (λ k l. e k (omega arith)), e n (omega arith))
+
+-- ---- the library's search in a list
+
+position-none : (p : ℕ → Bool) (xs : List ℕ) → position p xs ≡ none → (k : ℕ) → k < length xs → p (get_or xs k 0) ≡ false
+position-none p xs e k l = all (p (get_or xs k 0)) (prefix_len_passes (λ x. not (p x)) xs k 0 (omega (arith, past)))
+  where
+    far : (b : Bool) → cond b (some (position_or_len p xs)) none ≡ none → b ≡ false
+    far true q = absurd (some-none q)
+    far false q = refl
+
+    past : length xs ≤ position_or_len p xs
+    past = ltb-false (position_or_len p xs) (length xs) (far _ e)
+
+    all : (b : Bool) → not b ≡ true → b ≡ false
+    all true q = let z : ◌≡◌ {A = ℕ} 0 1 = cc in absurd (omega arith)
+    all false q = refl
+
+pub position-first : {A : Type 0} (p : ℕ → Bool) (x : ℕ → A) (xs : List ℕ) (r : Option ℕ) → r ≡ position p xs
+    → first (λ k. given (p (get_or xs k 0)) (x k)) (length xs) ≡ option_map x r
+position-first p x xs none e =
+    first-nothing _ (length xs) (λ k l. given-false _ (x k) (position-none p xs (sym e) k l))
+position-first p x xs (some i) e =
+    let at = position-Some p xs i 0 (sym e) in
+    first-is _ (length xs) (x i) (i, at.0, given-true _ (x i) at.1, λ k l. given-false _ (x k) (at.2 k l))

@@ -1,6 +1,6 @@
 -- Searches over the numbers below n, from 0 up. Assumes nothing.
 use Rattle.std.specs.Prelude.{Bool, true, not, ◌&&◌, ◌||◌, cond, List, [], ◌∷◌, ◌++◌, ℕ, zero, suc}
-use Rattle.std.proofs.Math.Option.{Option, none, some}
+use Rattle.std.specs.Prelude.{Option, None as none, Some as some}
 
 -- where the first holds, the second does
 abbrev pub implies : (a b : Bool) → Bool

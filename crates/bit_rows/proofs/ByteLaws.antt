@@ -1,11 +1,14 @@
 -- The bytes of words and sets, one after the other. Assumes nothing.
 use mathlib.Core.Path.{◌≡◌, refl, sym, ap, subst, ◌∙◌}
-use mathlib.Core.List.{List}
-use Prim.Native.Nat.{ℕ, ◌+◌, ◌-◌, ◌*◌, ◌/◌, ◌%◌, ◌^◌, ◌<◌, ◌≤◌}
-use native.Mathlib.Decide.{dec_lt, ℕ_discrete}
+use mathlib.Core.List.{List, ◌++◌}
+use Prim.Native.Nat.{ℕ, zero, suc, ◌+◌, ◌-◌, ◌*◌, ◌/◌, ◌%◌, ◌^◌, ◌<◌, ◌≤◌}
+use native.Mathlib.Decide.{dec_lt}
+use native.Mathlib.Nat.{div-one}
 use native.Mathlib.Omega.{arith}
-use lib.ListN.{length, get_or, set, length-set}
-use lib.Seq.{get_or-set_same, get_or-set_other}
+use lib.ListN.{length, get_or, get_or-append, take, drop, length-drop}
+use lib.Seq.{get_or-append-add, get_or-take, get_or-drop, length-take-le}
+use borrow.Rule.Slice.PartMut.{put_mid, post_of, same_len_mid}
+use Rattle.std.specs.Int.{w64, to_le_bytes}
 use Rattle.boxsets.specs.Sets.{has}
 use Rattle.boxsets.specs.Words.{bit_at}
 use Rattle.boxsets.proofs.TableLaws.{has_word}
@@ -35,23 +38,50 @@ set-byte sets a q few =
         let bit : (8 * q + j) % 64 ≡ 8 * (q % 8) + j = omega arith in
         has_word sets a (8 * q + j) (omega arith) ∙ rw (word, bit)
 
--- ---- one byte more
+-- byte k of a word
+pub le-byte : (word k : ℕ) → k < 8 → get_or (to_le_bytes w64 word) k 0 ≡ word_byte word k
+unfolding word_byte
+le-byte word zero l = ap (λ (x : ℕ). x % 256) (sym (div-one word))
+le-byte word (suc zero) l = refl
+le-byte word (suc (suc zero)) l = refl
+le-byte word (suc (suc (suc zero))) l = refl
+le-byte word (suc (suc (suc (suc zero)))) l = refl
+le-byte word (suc (suc (suc (suc (suc zero))))) l = refl
+le-byte word (suc (suc (suc (suc (suc (suc zero)))))) l = refl
+le-byte word (suc (suc (suc (suc (suc (suc (suc zero))))))) l = refl
+le-byte word (suc (suc (suc (suc (suc (suc (suc (suc k)))))))) l = absurd (omega arith)
 
 module _ (g : ℕ → ℕ) (at : ℕ) where
   pub laid_none : (s : List ℕ) → Laid g at 0 (at + 0) s s
   laid_none s = record { len = refl; place = λ k l. absurd (omega arith); before = λ i l. refl; rest = λ i l. refl }
 
-  pub laid_more : (m : ℕ) (s t : List ℕ) → at + m < length t → Laid g at m (at + m) s t → Laid g at (m + 1) (at + (m + 1)) s (set t (at + m) (g m))
-  laid_more m s t room l = record {
-    len = length-set t (at + m) (g m) ∙ l.len;
-    place = λ k b. here k b (ℕ_discrete k m);
-    before = λ i b. get_or-set_other t (at + m) i (g m) 0 (omega arith) ∙ l.before i b;
-    rest = λ i b. get_or-set_other t (at + m) i (g m) 0 (omega arith) ∙ l.rest i (omega arith);
-  }
+  -- ---- a part that is copied
+
+  pub laid-part : (m n : ℕ) (s ys : List ℕ) → n ≡ m → length ys ≡ m → at + m ≤ length s → ((k : ℕ) → k < m → get_or ys k 0 ≡ g k)
+      → Laid g at m (at + m) s (put_mid at n s ys)
+  laid-part m n s ys e long room same =
+      let front : length (take at s) ≡ at = length-take-le at s (omega arith) in
+      record {
+        len = same_len_mid at n s ys (long ∙ sym e ∙ sym (length-take-le n (drop at s) (omega (arith, length-drop at s))));
+        place = λ k l.
+            ap (λ (i : ℕ). get_or (put_mid at n s ys) (i + k) 0) (sym front)
+            ∙ get_or-append-add (take at s) (ys ++ post_of at n s) k 0
+            ∙ get_or-append ys (post_of at n s) 0 k (rw long l)
+            ∙ same k l;
+        before = λ i l. get_or-append (take at s) (ys ++ post_of at n s) 0 i (rw front l) ∙ get_or-take at s i 0 l;
+        rest = λ i l. behind i l front;
+      }
     where
-      here : (k : ℕ) → k < m + 1 → Dec (k ≡ m) → get_or (set t (at + m) (g m)) (at + k) 0 ≡ g k
-      here k b (yes e) = rw e (get_or-set_same t (at + m) (g m) 0 room)
-      here k b (no n) = get_or-set_other t (at + m) (at + k) (g m) 0 (omega arith) ∙ l.place k (omega arith)
+      behind : (i : ℕ) → at + m ≤ i → length (take at s) ≡ at → get_or (put_mid at n s ys) i 0 ≡ get_or s i 0
+      behind i l front =
+          let j : i ≡ length (take at s) + (length ys + (i - (at + m))) = omega arith in
+          let k : at + (n + (i - (at + m))) ≡ i = omega arith in
+          ap (λ (x : ℕ). get_or (put_mid at n s ys) x 0) j
+          ∙ get_or-append-add (take at s) (ys ++ post_of at n s) (length ys + (i - (at + m))) 0
+          ∙ get_or-append-add ys (post_of at n s) (i - (at + m)) 0
+          ∙ get_or-drop n (drop at s) (i - (at + m)) 0
+          ∙ get_or-drop at s (n + (i - (at + m))) 0
+          ∙ ap (λ (x : ℕ). get_or s x 0) k
 
   -- ---- eight bytes more
 
@@ -70,16 +100,6 @@ module _ (g : ℕ → ℕ) (at : ℕ) where
           let e : from + (k - m) ≡ at + k = omega arith in
           let f : m + (k - m) ≡ k = omega arith in
           subst (λ (i : ℕ). get_or u i 0 ≡ h (k - m)) e (r.place (k - m) (omega arith)) ∙ same (k - m) (omega arith) ∙ ap g f
-
-  -- ---- fewer of them, and more room
-
-  pub laid-fewer : (m w over end : ℕ) (s t : List ℕ) → w ≤ m → over ≤ end → Laid g at m over s t → Laid g at w end s t
-  laid-fewer m w over end s t few room l = record {
-    len = l.len;
-    place = λ k b. l.place k (omega arith);
-    before = l.before;
-    rest = λ i b. l.rest i (omega arith);
-  }
 
 -- word q of a set has its bytes from 8 × q on
 pub word_bytes : (sets : List ℕ) (a q i : ℕ) → i ≡ 4 * a + q → (k : ℕ) → k < 8 → word_byte (get_or sets i 0) k ≡ set_byte sets a (8 * q + k)

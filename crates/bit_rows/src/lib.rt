@@ -6,7 +6,7 @@ ghost use Rattle.base.specs.Buffers.{written};
 ghost use Rattle.bit_rows.specs.Grid.{grid};
 ghost use Rattle.boxsets.specs.Sets.{has};
 ghost use Rattle.bit_rows.specs.Bits.{row_width, row_bits};
-ghost use Rattle.bit_rows.specs.Steps.{word_byte, set_byte, Laid};
+ghost use Rattle.bit_rows.specs.Steps.{set_byte, Laid};
 
 // The bytes of a row of n bits.
 pub fn row_width(n: usize) -> usize
@@ -16,25 +16,16 @@ pub fn row_width(n: usize) -> usize
     (n + 7) / 8
 }
 
-// Writes the eight bytes of a word from `at` on, the lowest first: one store, as the compiler makes it.
-fn put_word(word: u64, out: &mut [u8], at: usize)
-    requires { at + 8 ≤ length out.old }
-    ensures { Laid (word_byte word) at 8 (at + 8) out.old out.new }
-{
-    for k in 0..8usize {
-        out[at + k] = ((word >> (8 * k)) % 256) as u8;
-    }
-}
-
-// Writes set a, whole, from `at` on.
+// Writes set a, whole, from `at` on: word after word, the lowest byte first.
 fn put_set(sets: &[u64], a: usize, out: &mut [u8], at: usize)
     requires { (4 * a + 4 ≤ length sets.now) × (at + 32 ≤ length out.old) }
     ensures { Laid (set_byte sets.now a) at 32 (at + 32) out.old out.new }
 {
-    put_word(sets[4 * a], out, at);
-    put_word(sets[4 * a + 1], out, at + 8);
-    put_word(sets[4 * a + 2], out, at + 16);
-    put_word(sets[4 * a + 3], out, at + 24);
+    // Kept: an iterator over a part of `sets` is no plainer, since q gives the place to write too.
+    for q in 0..4usize {
+        let from = at + 8 * q;
+        out[from..from + 8].copy_from_slice(&sets[4 * a + q].to_le_bytes());
+    }
 }
 
 // Writes the first w bytes of set a from `at` on.
@@ -42,9 +33,9 @@ fn put_part(sets: &[u64], a: usize, w: usize, out: &mut [u8], at: usize)
     requires { (4 * a + 4 ≤ length sets.now) × (w ≤ 32) × (at + w ≤ length out.old) }
     ensures { Laid (set_byte sets.now a) at w (at + w) out.old out.new }
 {
-    for q in 0..w {
-        out[at + q] = ((sets[4 * a + q / 8] >> (8 * (q % 8))) % 256) as u8;
-    }
+    let mut whole = [0u8; 32];
+    put_set(sets, a, &mut whole, 0);
+    out[at..at + w].copy_from_slice(&whole[..w]);
 }
 
 // Writes the first w bytes of set a from `at` on. Places behind them, before `end`, may be written too: where there is room, the whole set
@@ -67,6 +58,7 @@ pub fn put_rows(sets: &[u64], n: usize, out: &mut [u8])
 {
     let w = row_width(n);
     let end = n * w;
+    // Kept: no iterator gives the places of the rows, since each is lent room that overlaps the next.
     for a in 0..n {
         put_row(sets, a, w, out, a * w, end);
     }

@@ -1,6 +1,6 @@
 -- What the inner functions of reading ask of each other; no promise of a pub function names it. Assumes nothing.
 use Rattle.std.specs.Prelude.{◌≡◌, List, ℕ, ◌+◌, ◌*◌, ◌≤◌}
-use Rattle.std.proofs.Math.Option.{none}
+use Rattle.std.specs.Prelude.{None as none}
 use Rattle.blocks.specs.Files.{block_at, block_count}
 use Rattle.blocks.specs.Steps.{blocks_fault, count_of, counts_of}
 use Rattle.blocks.specs.declared.Head.{Head}

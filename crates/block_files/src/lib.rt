@@ -2,5 +2,6 @@
 #![tactic(auto)]
 
 mod into_tables;
+mod rows;
 
 pub use into_tables::read;

@@ -1,13 +1,13 @@
 -- Bytes stored one after the other. Assumes nothing.
-use mathlib.Core.Path.{◌≡◌, refl, ap, ◌∙◌}
+use mathlib.Core.Path.{◌≡◌, sym, ap, ◌∙◌}
 use mathlib.Core.List.{List, [], ◌∷◌, ◌++◌, append_assoc}
-use Prim.Native.Nat.{ℕ, zero, suc, ◌+◌, ◌≤◌}
+use Prim.Native.Nat.{ℕ, ◌+◌, ◌/◌, ◌%◌, ◌^◌, ◌<◌, ◌≤◌}
 use native.Mathlib.Omega.{arith}
-use native.Mathlib.Numerals.{add-one}
-use lib.ListN.{length, take, drop, set, replicate, length-take}
-use lib.Seq.{sets, sets-eq, drop_at, take_at}
-use Rattle.base.specs.Buffers.{zeros}
-use Rattle.base.proofs.BufferLaws.{zeros-is, zeros-length}
+use lib.ListN.{length, take, drop, length-take}
+use lib.Seq.{sets, sets-eq, drop_at, take_at, drop-drop}
+use Rattle.std.specs.Int.{w16, w32, to_le_bytes}
+use Rattle.packing.specs.Packed.{bytes16, bytes32}
+use Rattle.packing.proofs.PackedLaws.{bytes16-is, bytes32-is}
 use Rattle.blocks.proofs.Placing.{sets_more}
 
 -- a store behind what is stored
@@ -18,16 +18,26 @@ pub chain : (l₀ l₁ l₂ : List ℕ) (at n : ℕ) (xs ys : List ℕ) → leng
     → l₂ ≡ sets l₀ at (xs ++ ys)
 chain l₀ l₁ l₂ at n xs ys e p q = q ∙ ap (λ (l : List ℕ). sets l (at + n) ys) p ∙ puts-more l₀ at n xs ys e
 
-replicate-snoc : (n : ℕ) → replicate {A = ℕ} (suc n) 0 ≡ replicate n 0 ++ (0 ∷ [])
-replicate-snoc zero = refl
-replicate-snoc (suc n) = ap (λ (l : List ℕ). 0 ∷ l) (replicate-snoc n)
+-- a part of a list overwritten
+pub put-part : (l ys : List ℕ) (at : ℕ) → at + length ys ≤ length l → take at l ++ (ys ++ drop (length ys) (drop at l)) ≡ sets l at ys
+put-part l ys at h = rw (drop-drop, sets-eq ys l at h) (sym (append_assoc (take at l) ys (drop (at + length ys) l)))
 
-zeros-snoc : (n : ℕ) → zeros (suc n) ≡ zeros n ++ (0 ∷ [])
-zeros-snoc n = rw (← zeros-is, ← zeros-is) (replicate-snoc n)
+-- a number's bytes, low first
+pub bytes-16 : (x : ℕ) → x < 2 ^ 16 → to_le_bytes w16 x ≡ bytes16 x
+bytes-16 x h =
+    let e : x / 256 % 256 ≡ x / 256 = omega arith in
+    rw bytes16-is (ap (λ (y : ℕ). x % 256 ∷ y ∷ []) e)
 
--- a turn of the loop that stores zeros
-pub zeros-more : (l : List ℕ) (at i : ℕ) → set (sets l at (zeros i)) (at + i) 0 ≡ sets l at (zeros (i + 1))
-zeros-more l at i = rw (add-one, zeros-snoc) (puts-more l at i (zeros i) (0 ∷ []) (zeros-length i))
+pub put-16 : (l₀ l₁ : List ℕ) (at x : ℕ) (bytes : List ℕ) → x < 2 ^ 16 → bytes ≡ to_le_bytes w16 x → l₁ ≡ sets l₀ at bytes
+    → l₁ ≡ sets l₀ at (bytes16 x)
+put-16 l₀ l₁ at x bytes h e p = p ∙ ap (λ (l : List ℕ). sets l₀ at l) (e ∙ bytes-16 x h)
+
+pub bytes-32 : (x : ℕ) → x < 2 ^ 32 → to_le_bytes w32 x ≡ bytes32 x
+bytes-32 x h =
+    let a : x % 65536 % 256 ≡ x % 256 = omega arith in
+    let b : x % 65536 / 256 ≡ x / 256 % 256 = omega arith in
+    let c : x / 65536 / 256 ≡ x / 16777216 % 256 = omega arith in
+    rw (bytes32-is, bytes16-is (x % 65536), bytes16-is (x / 65536), a, b, c)
 
 -- what was just stored stands there
 pub stored : (l : List ℕ) (at n : ℕ) (xs : List ℕ) → length xs ≡ n → at + n ≤ length l → take n (drop at (sets l at xs)) ≡ xs

@@ -1,7 +1,7 @@
 -- The records of a block written one after the other. Assumes nothing.
-use mathlib.Core.Path.{◌≡◌, refl, sym, ap, ◌∙◌}
+use mathlib.Core.Path.{◌≡◌, refl, ◌∙◌}
 use mathlib.Core.List.{List}
-use Prim.Native.Nat.{ℕ, ◌+◌, ◌*◌, ◌^◌, ◌<◌, ◌≤◌}
+use Prim.Native.Nat.{ℕ, ◌+◌, ◌*◌, ◌<◌, ◌≤◌}
 use native.Mathlib.Omega.{arith}
 use native.Mathlib.Nat.{add-zero, add_assoc, mul-suc, mul-le-mul_left}
 use lib.ListN.{length}
@@ -46,24 +46,12 @@ module _ {size capacity rows : ℕ} {bytes : ℕ → List ℕ} {at : ℕ} {file�
     at_place : w.place ≡ j
     at_place = rw stands
 
-    -- so the record's byte is no large number
-    pub place-low : (w.place < capacity) × (at < 2 ^ 32)
-    place-low = (omega (arith, at_place, put.run.most), put.run.the-byte)
-
     -- what the record asks: its row, and its bytes
     pub put-asks : (to : ℕ) → to ≡ at + size * w.place → (w.row < rows) × (to + size ≤ length file)
     put-asks to e =
         let next : size * j + size ≤ size * count = rw mul-suc at (mul-le-mul_left size less) in
         let here : to ≡ at + size * j = rw (← at_place) e in
         (omega (arith, at_row, put.run.rows_left), omega (arith, put.run.room, put.same_length))
-
-    -- what a step asks
-    pub next-asks : (0 < capacity) × (w.row < 2 ^ 32) × (w ≡ walk_at capacity w.row)
-    next-asks = (
-      omega (arith, put.run.most),
-      omega (arith, at_row, put.run.few, put.run.rows_left),
-      put.the-walk ∙ ap (λ (r : ℕ). walk_at capacity r) (sym at_row),
-    )
 
     -- one record more
     pub put-more : ((i : ℕ) → length (bytes i) ≡ size) → (to : ℕ) {file' : List ℕ} {w' : Walk} → to ≡ at + size * w.place

@@ -8,7 +8,7 @@ ghost use Rattle.std.specs.Prelude.{◌≡◌, ℕ, ◌+◌, ◌^◌, ◌<◌};
 ghost use Rattle.block_parts.specs.Walks.{walk_at};
 
 pub use put::{put_check, put_head, put_zeros};
-pub use records::{put_arrows, put_boxes, put_containments};
+pub use records::{Written, put_records};
 
 // A walk over the rows of a kind: a row, its block counted from the kind's first one, and its place in the block.
 #[derive(Clone, Copy)]

@@ -2,7 +2,7 @@
 use mathlib.Core.Path.{◌≡◌, refl, ◌∙◌}
 use mathlib.Core.Bool.{not, ◌||◌}
 use mathlib.Core.List.{List}
-use mathlib.Core.Option.{Option, none, some}
+use Rattle.std.specs.Prelude.{Option, None as none, Some as some}
 use Prim.Native.Nat.{ℕ, ◌*◌, ◌%◌, ◌<◌, ◌≤◌}
 use native.Mathlib.Omega.{arith}
 use borrow.Author.Tests.{le-ltb, eq-eqb, ne_eqb}
@@ -11,7 +11,7 @@ use lib.ListN.{length}
 use Rattle.base.specs.Search.{or_else, given}
 use Rattle.base.specs.Buffers.{written}
 use Rattle.tables.specs.Faults.{count_fault, room_fault}
-use Rattle.tables.specs.Refusals.{bad_length}
+use Rattle.tables.specs.declared.Refusal.TheVariants.{BadLength}
 use Rattle.tables.specs.declared.Refusal.{Refusal}
 use Rattle.base.proofs.Tests.{T-or₁, T-or₂}
 use Rattle.base.proofs.SearchLaws.{given-none, given-false}
@@ -21,19 +21,19 @@ use Rattle.blocks.specs.Files.{block_count, block_at, length_fault, file_fault, 
 use Rattle.blocks.specs.Reads.{read_fault, answer_of}
 use Rattle.blocks.specs.Steps.{blocks_fault, counts_of, tables_fault, ReadDone}
 use Rattle.blocks.specs.declared.Counts.{Counts}
-use Rattle.blocks.specs.declared.Reading.TheVariants.{Tables, Refused}
+use Rattle.std.proofs.Common.{Ok, Err}
 
 -- what an answer says of the fault
-pub answer-tables : (o : Option Refusal) (c d : Counts) → answer_of o c ≡ Tables d → (o ≡ none) × (c ≡ d)
+pub answer-tables : (o : Option Refusal) (c d : Counts) → answer_of o c ≡ Ok d → (o ≡ none) × (c ≡ d)
 answer-tables none c d e = let i : c ≡ d = cc in (refl, i)
 answer-tables (some r) c d e = let z : ◌≡◌ {A = ℕ} 0 1 = cc in absurd (omega arith)
 
-pub answer-refused : (o : Option Refusal) (c : Counts) (r : Refusal) → answer_of o c ≡ Refused r → o ≡ some r
+pub answer-refused : (o : Option Refusal) (c : Counts) (r : Refusal) → answer_of o c ≡ Err r → o ≡ some r
 answer-refused none c r e = let z : ◌≡◌ {A = ℕ} 0 1 = cc in absurd (omega arith)
 answer-refused (some s) c r e = let i : s ≡ r = cc in rw i
 
 -- 14 by its tests
-pub length-tests : (len : ℕ) → length_fault len ≡ given (eqb len 0 || not (eqb (len % 512) 0) || ltb 32768 len) (bad_length len)
+pub length-tests : (len : ℕ) → length_fault len ≡ given (eqb len 0 || not (eqb (len % 512) 0) || ltb 32768 len) (BadLength len)
 unfolding length_fault
 length-tests len = refl
 
@@ -42,11 +42,11 @@ pub length_whole : (len : ℕ) → length_fault len ≡ none → (len % 512 ≡ 
 unfolding length_fault
 length_whole len e =
     let empty = eqb len 0 in
-    let ragged = not (eqb (len % 512) 0) in
+    let Ragged = not (eqb (len % 512) 0) in
     let long = ltb 32768 len in
-    let good = given-none (empty || ragged || long) _ e in (
-      eqb→eq (len % 512) 0 (not-not (eqb (len % 512) 0) (λ t. good (T-or₁ (empty || ragged) long (T-or₂ empty ragged t)))),
-      nltb→le 32768 len (not_T long (λ t. good (T-or₂ (empty || ragged) long t))),
+    let good = given-none (empty || Ragged || long) _ e in (
+      eqb→eq (len % 512) 0 (not-not (eqb (len % 512) 0) (λ t. good (T-or₁ (empty || Ragged) long (T-or₂ empty Ragged t)))),
+      nltb→le 32768 len (not_T long (λ t. good (T-or₂ (empty || Ragged) long t))),
     )
 
 pub length-good : (len : ℕ) → 0 < len → len % 512 ≡ 0 → len ≤ 32768 → length_fault len ≡ none
@@ -100,12 +100,12 @@ read-lengths file boxes rows arrows boxes' rows' arrows' b r a = rw (b, r, a)
 
 -- a refusal leaves the tables as they were
 pub read-refused : (file boxes rows arrows : List ℕ) {r : Refusal} → read_fault file boxes rows arrows ≡ some r
-    → ReadDone file boxes rows arrows boxes rows arrows (Refused r)
+    → ReadDone file boxes rows arrows boxes rows arrows (Err r)
 read-refused file boxes rows arrows e = (rw e, (rw e, (rw e, rw e)))
 
 -- else the row counts are answered
 pub read_done : (file boxes rows arrows boxes_end rows_end arrows_end : List ℕ) (counts : Counts)
     → read_fault file boxes rows arrows ≡ none → counts_of file ≡ counts
     → boxes_end ≡ written (table_of 1 file) boxes → rows_end ≡ written (table_of 2 file) rows → arrows_end ≡ written (table_of 3 file) arrows
-    → ReadDone file boxes rows arrows boxes_end rows_end arrows_end (Tables counts)
+    → ReadDone file boxes rows arrows boxes_end rows_end arrows_end (Ok counts)
 read_done file boxes rows arrows boxes_end rows_end arrows_end counts e c p q r = (rw (e, c), (rw e p, (rw e q, rw e r)))

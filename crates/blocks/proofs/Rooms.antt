@@ -1,7 +1,7 @@
 -- What the answer of reading says of the tables that are read. Assumes nothing.
 use mathlib.Core.Path.{◌≡◌, sym, ap, ◌∙◌}
 use mathlib.Core.List.{List}
-use mathlib.Core.Option.{none, some}
+use Rattle.std.specs.Prelude.{None as none, Some as some}
 use Prim.Native.Nat.{ℕ, ◌*◌, ◌≤◌}
 use lib.ListN.{length, take}
 use Rattle.tables.specs.declared.Refusal.{Refusal}
@@ -11,13 +11,13 @@ use Rattle.blocks.specs.Files.{block_count, block_at, table_of}
 use Rattle.blocks.specs.Reads.{row_counts, read_fault}
 use Rattle.blocks.specs.Steps.{ReadDone}
 use Rattle.blocks.specs.declared.Counts.{Counts}
-use Rattle.blocks.specs.declared.Reading.TheVariants.{Tables, Refused}
+use Rattle.std.proofs.Common.{Ok, Err}
 use Rattle.blocks.proofs.Counting.{rows-length, arrows-length}
 use Rattle.blocks.proofs.Order.{answer-tables, answer-refused}
 
 -- they have room for as many rows as it says
 pub read_fits : (file boxes rows arrows boxes_end rows_end arrows_end : List ℕ) {counts : Counts}
-    → ReadDone file boxes rows arrows boxes_end rows_end arrows_end (Tables counts)
+    → ReadDone file boxes rows arrows boxes_end rows_end arrows_end (Ok counts)
     → (counts.boxes ≤ length boxes) × (2 * counts.containments ≤ length rows) × (4 * counts.arrows ≤ length arrows)
 unfolding read_fault
 read_fits file boxes rows arrows boxes_end rows_end arrows_end d =
@@ -28,7 +28,7 @@ read_fits file boxes rows arrows boxes_end rows_end arrows_end d =
 
 -- a refusal is that of the file
 pub read-stopped : (file boxes rows arrows boxes_end rows_end arrows_end : List ℕ) {r : Refusal}
-    → ReadDone file boxes rows arrows boxes_end rows_end arrows_end (Refused r)
+    → ReadDone file boxes rows arrows boxes_end rows_end arrows_end (Err r)
     → read_fault file boxes rows arrows ≡ some r
 read-stopped file boxes rows arrows boxes_end rows_end arrows_end d =
     answer-refused (read_fault file boxes rows arrows) _ _ (sym d.0)
@@ -41,7 +41,7 @@ pub record ReadAs (file boxes rows arrows boxes_end rows_end arrows_end : List �
   pub arrows-read : take (4 * counts.arrows) arrows_end ≡ table_of 3 file
 
 pub read-tables : (file boxes rows arrows boxes_end rows_end arrows_end : List ℕ) {counts : Counts}
-    → ReadDone file boxes rows arrows boxes_end rows_end arrows_end (Tables counts)
+    → ReadDone file boxes rows arrows boxes_end rows_end arrows_end (Ok counts)
     → ReadAs file boxes rows arrows boxes_end rows_end arrows_end counts
 unfolding row_counts
 read-tables file boxes rows arrows boxes_end rows_end arrows_end {counts} d =

@@ -1,15 +1,13 @@
--- The rows that a block says of each table: by its bytes, and stored one after the other. Assumes nothing.
+-- The rows that a block says of each table: by its bytes and by its records. Assumes nothing.
 use mathlib.Core.Path.{◌≡◌, refl}
 use mathlib.Core.Bool.{Bool, true, false, cond}
 use mathlib.Core.List.{List, [], ◌∷◌}
 use Prim.Native.Nat.{ℕ, ◌+◌, ◌*◌}
 use native.Mathlib.Omega.{arith}
 use lib.Dec.{eqb}
-use lib.ListN.{get_or}
-use lib.Seq.{sets}
+use lib.ListN.{length, get_or}
 use Rattle.blocks.specs.Blocks.{number16, head_of, by_kind, record_size, row_of, joined, said}
 use Rattle.blocks.specs.Steps.{count_of, box_record, containment_record, arrow_record}
-use Rattle.blocks.proofs.Placing.{put-more}
 
 -- the numbers of record j by the block's bytes
 pub box-row-is : (block : List ℕ) (j : ℕ) → row_of 1 block j ≡ get_or block (8 + j) 0 ∷ []
@@ -59,22 +57,22 @@ module _ (block : List ℕ) where
       go true = refl
       go false = refl
 
-  -- one record more
-  module _ (l : List ℕ) (at j i : ℕ) where
-    pub box-put : i ≡ at + 1 * j
-        → sets (sets l at (joined (row_of 1 block) j)) i ((box_record block j).side ∷ []) ≡ sets l at (joined (row_of 1 block) (j + 1))
+  module _ (j : ℕ) where
+    -- the row of a record by the record
+    pub box-numbers : row_of 1 block j ≡ (box_record block j).side ∷ []
     unfolding box_record row_of record_size by_kind
-    box-put e = put-more l at (row_of 1 block) 1 (λ k. refl) j i e
+    box-numbers = refl
 
-    pub containment-put : i ≡ at + 2 * j
-        → sets (sets l at (joined (row_of 2 block) j)) i ((containment_record block j).outer ∷ (containment_record block j).inner ∷ [])
-        ≡ sets l at (joined (row_of 2 block) (j + 1))
+    pub containment-numbers : row_of 2 block j ≡ (containment_record block j).outer ∷ (containment_record block j).inner ∷ []
     unfolding containment_record row_of record_size by_kind
-    containment-put e = put-more l at (row_of 2 block) 2 (λ k. refl) j i e
+    containment-numbers = refl
 
-    pub arrow-put : i ≡ at + 4 * j
-        → sets (sets l at (joined (row_of 3 block) j)) i
-        ((arrow_record block j).tail ∷ (arrow_record block j).head ∷ (arrow_record block j).mode ∷ (arrow_record block j).sign ∷ [])
-        ≡ sets l at (joined (row_of 3 block) (j + 1))
+    pub arrow-numbers : row_of 3 block j
+        ≡ (arrow_record block j).tail ∷ (arrow_record block j).head ∷ (arrow_record block j).mode ∷ (arrow_record block j).sign ∷ []
     unfolding arrow_record row_of record_size by_kind
-    arrow-put e = put-more l at (row_of 3 block) 4 (λ k. refl) j i e
+    arrow-numbers = refl
+
+    -- a row has so many numbers
+    pub row-lengths : (length (row_of 1 block j) ≡ 1) × (length (row_of 2 block j) ≡ 2) × (length (row_of 3 block j) ≡ 4)
+    unfolding row_of
+    row-lengths = (refl, refl, refl)

@@ -1,9 +1,9 @@
 -- Document 01, "Block files": what a block of 512 bytes says, and what is wrong with it. Assumes nothing.
 use Rattle.std.specs.Prelude.{Bool, not, cond, ◌||◌, List, [], ◌∷◌, ◌++◌, ℕ, zero, suc, ◌+◌, ◌*◌, eqb, ltb, leb, get_or, take}
-use Rattle.std.proofs.Math.Option.{Option}
+use Rattle.std.specs.Prelude.{Option}
 use Rattle.base.specs.Search.{implies, or_else, given, every}
-use Rattle.tables.specs.Refusals.{bad_block}
 use Rattle.tables.specs.declared.Refusal.{Refusal}
+use Rattle.tables.specs.declared.Refusal.TheVariants.{BadCheck, BadHead, BadFiller}
 use Rattle.blocks.specs.Fnv.{fnv1a}
 use Rattle.blocks.specs.declared.Head.{Head}
 
@@ -70,6 +70,6 @@ wrong_filler head block = not (every (λ k. implies (leb (8 + record_size head.k
 -- 15, 16, 17 of the block at a place, by the kind of the block before
 unfoldable pub block_fault : (before place : ℕ) (block : List ℕ) → Option Refusal
 block_fault before place block =
-    or_else (given (wrong_check block) (bad_block 15 place))
-    (or_else (given (wrong_head before place (head_of block)) (bad_block 16 place))
-    (given (wrong_filler (head_of block) block) (bad_block 17 place)))
+    or_else (given (wrong_check block) (BadCheck place))
+    (or_else (given (wrong_head before place (head_of block)) (BadHead place))
+    (given (wrong_filler (head_of block) block) (BadFiller place)))

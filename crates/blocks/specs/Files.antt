@@ -1,9 +1,9 @@
 -- Document 01, "Block files": what a file says, and what is wrong with it. Assumes nothing.
 use Rattle.std.specs.Prelude.{not, ◌||◌, List, ℕ, zero, suc, ◌*◌, ◌/◌, ◌%◌, eqb, ltb, length, take, drop}
-use Rattle.std.proofs.Math.Option.{Option}
+use Rattle.std.specs.Prelude.{Option}
 use Rattle.base.specs.Search.{or_else, given, first}
 use Rattle.tables.specs.Rows.{Picture, picture}
-use Rattle.tables.specs.Refusals.{bad_length}
+use Rattle.tables.specs.declared.Refusal.TheVariants.{BadLength}
 use Rattle.tables.specs.declared.Refusal.{Refusal}
 use Rattle.blocks.specs.Blocks.{head_of, joined, said, block_fault}
 
@@ -21,7 +21,7 @@ kind_before blocks (suc k) = (head_of (blocks k)).kind
 
 -- 14: file length 0, not a multiple of 512, or above 32,768
 unfoldable pub length_fault : (len : ℕ) → Option Refusal
-length_fault len = given (eqb len 0 || not (eqb (len % 512) 0) || ltb 32768 len) (bad_length len)
+length_fault len = given (eqb len 0 || not (eqb (len % 512) 0) || ltb 32768 len) (BadLength len)
 
 -- 14, then for each block in turn 15, 16, 17
 unfoldable pub file_fault : (file : List ℕ) → Option Refusal

@@ -1,14 +1,12 @@
 -- What reading a file into three lent tables answers. Assumes nothing.
-use Rattle.std.specs.Prelude.{List, ℕ, ◌*◌, length}
-use Rattle.std.proofs.Math.Option.{Option, none, some}
+use Rattle.std.specs.Prelude.{Result, Ok, Err, List, ℕ, ◌*◌, length}
+use Rattle.std.specs.Prelude.{Option, None as none, Some as some}
 use Rattle.base.specs.Search.{or_else}
 use Rattle.tables.specs.Rows.{Picture, row_count, arrow_count}
 use Rattle.tables.specs.Faults.{count_fault, room_fault}
 use Rattle.tables.specs.declared.Refusal.{Refusal}
 use Rattle.blocks.specs.Files.{file_fault, picture_of}
 use Rattle.blocks.specs.declared.Counts.{Counts}
-use Rattle.blocks.specs.declared.Reading.{Reading}
-use Rattle.blocks.specs.declared.Reading.TheVariants.{Tables, Refused}
 
 -- the three row counts
 unfoldable pub row_counts : (pic : Picture) → Counts
@@ -26,6 +24,6 @@ read_fault file boxes rows arrows =
     (room_fault 7 (length arrows) (4 * counts.arrows)))))
 
 -- the three row counts, or the refusal
-abbrev pub answer_of : (fault : Option Refusal) (counts : Counts) → Reading
-answer_of none counts = Tables counts
-answer_of (some r) counts = Refused r
+abbrev pub answer_of : (fault : Option Refusal) (counts : Counts) → Result Counts Refusal
+answer_of none counts = Ok counts
+answer_of (some r) counts = Err r

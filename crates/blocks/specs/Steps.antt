@@ -1,6 +1,6 @@
 -- What the inner functions of reading promise each other; what reading a file promises does not speak of it. Assumes nothing.
-use Rattle.std.specs.Prelude.{◌≡◌, Bool, true, cond, ◌&&◌, List, [], ◌∷◌, ℕ, ◌+◌, ◌*◌, eqb, get_or}
-use Rattle.std.proofs.Math.Option.{Option}
+use Rattle.std.specs.Prelude.{◌≡◌, Result, Bool, true, cond, ◌&&◌, List, [], ◌∷◌, ℕ, ◌+◌, ◌*◌, eqb, get_or}
+use Rattle.std.specs.Prelude.{Option}
 use Rattle.base.specs.Search.{first, or_else}
 use Rattle.tables.specs.Rows.{picture}
 use Rattle.tables.specs.Refusals.{unless_refused}
@@ -10,11 +10,18 @@ use Rattle.blocks.specs.Blocks.{number16, record_size, row_of, joined, said, blo
 use Rattle.blocks.specs.Files.{kind_before, picture_of}
 use Rattle.blocks.specs.Reads.{row_counts, read_fault, answer_of}
 use Rattle.blocks.specs.declared.Head.{Head}
-use Rattle.blocks.specs.declared.BoxRecord.{BoxRecord}
-use Rattle.blocks.specs.declared.ContainmentRecord.{ContainmentRecord}
-use Rattle.blocks.specs.declared.ArrowRecord.{ArrowRecord}
+use Rattle.blocks.specs.declared.records.BoxRecord.{BoxRecord}
+use Rattle.blocks.specs.declared.records.ContainmentRecord.{ContainmentRecord}
+use Rattle.blocks.specs.declared.records.ArrowRecord.{ArrowRecord}
 use Rattle.blocks.specs.declared.Counts.{Counts}
-use Rattle.blocks.specs.declared.Reading.{Reading}
+use Rattle.blocks.specs.declared.records.Kind.{Kind}
+use Rattle.blocks.specs.declared.records.Kind.TheVariants.{Boxes, Containments, Arrows}
+
+-- the number of a kind
+abbrev pub number_of : Kind → ℕ
+number_of Boxes = 1
+number_of Containments = 2
+number_of Arrows = 3
 
 -- the number of 32 bits that begins at a byte, little-endian
 unfoldable pub number32 : (block : List ℕ) (at : ℕ) → ℕ
@@ -63,10 +70,6 @@ counts_in blocks n = row_counts (picture (table_in 1 blocks n) (table_in 2 block
 abbrev pub counts_of : (file : List ℕ) → Counts
 counts_of file = row_counts (picture_of file)
 
--- a head of zeros
-abbrev pub no_head : Head
-no_head = record { kind = 0; byte1 = 0; number = 0; count = 0; byte6 = 0; byte7 = 0 }
-
 -- no rows
 abbrev pub no_counts : Counts
 no_counts = record { boxes = 0; containments = 0; arrows = 0 }
@@ -88,7 +91,7 @@ tables_fault counts boxes rows arrows =
     (room_fault 7 arrows (4 * counts.arrows))))
 
 -- what reading promises of its answer and of the three tables at the end, in the words of its contract
-abbrev pub ReadDone : (file boxes rows arrows boxes_end rows_end arrows_end : List ℕ) (r : Reading) → Type 0
+abbrev pub ReadDone : (file boxes rows arrows boxes_end rows_end arrows_end : List ℕ) (r : Result Counts Refusal) → Type 0
 ReadDone file boxes rows arrows boxes_end rows_end arrows_end r =
     let fault = read_fault file boxes rows arrows in
     (r ≡ answer_of fault (row_counts (picture_of file)))

@@ -3,10 +3,11 @@ ghost use Rattle.std.specs.Prelude.{◌≡◌, [], ◌∷◌, ◌*◌, ◌%◌, 
 ghost use Rattle.blocks.specs.Fnv.{fnv_fold, fnv1a};
 
 // a * b modulo 2^32.
+// Kept: document 01 asks for a helper with this meaning ("The forms we use").
 fn wrapping_mul_u32(a: u32, b: u32) -> u32
     ensures { result ≡ a * b % 2 ^ 32 }
 {
-    ((a as u64) * (b as u64) % 4294967296) as u32
+    a.wrapping_mul(b)
 }
 
 // The running check of a block.
@@ -35,7 +36,7 @@ impl Check {
         ensures { result.state ≡ fnv_fold self.state (b ∷ []) }
     {
         Self {
-            state: wrapping_mul_u32(self.state ^ (b as u32), Self::PRIME),
+            state: wrapping_mul_u32(self.state ^ u32::from(b), Self::PRIME),
         }
     }
 
@@ -44,10 +45,8 @@ impl Check {
         ensures { result.state ≡ fnv_fold self.state s.now }
     {
         let mut c = self;
-        let mut i = 0;
-        while i < s.len() {
-            c = c.byte(s[i]);
-            i += 1;
+        for b in s {
+            c = c.byte(*b);
         }
         c
     }

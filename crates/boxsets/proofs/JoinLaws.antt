@@ -2,7 +2,7 @@
 use mathlib.Core.Path.{◌≡◌, refl, sym, ap, ◌∙◌}
 use mathlib.Core.Bool.{Bool, true, false, not, ◌&&◌, ◌||◌, or-false}
 use mathlib.Core.List.{List}
-use mathlib.Core.Option.{some}
+use Rattle.std.specs.Prelude.{Some as some}
 use Prim.Native.Nat.{ℕ, zero, suc, ◌+◌, ◌*◌, ◌/◌, ◌%◌, ◌<◌}
 use native.Mathlib.Omega.{arith}
 use native.Mathlib.Decide.{ℕ_discrete}
@@ -15,7 +15,9 @@ use Rattle.base.proofs.Tests.{T_true}
 use Rattle.boxsets.specs.Words.{bit_at}
 use Rattle.boxsets.specs.Sets.{word_at, is_in, in_word, set_at, has, Put, Joins}
 use Rattle.boxsets.specs.declared.Set.{Set}
+use Rattle.boxsets.specs.Members.{TakesLowest}
 use Rattle.boxsets.proofs.WordLaws.{zero_bit, eqb-shifted}
+use Rattle.boxsets.proofs.TakesLaws.{takes-split}
 
 -- ---- a word's numbers, one by one
 
@@ -81,11 +83,12 @@ put-joined t u r x y p h a b = go (ℕ_discrete a r)
     go (yes e) = rw (eq-eqb a r e, e) (ap (λ (z : Set). is_in z b) p.hit ∙ h b)
     go (no n) = rw (ne_eqb a r n) (ap (λ (z : Set). is_in z b) (p.miss a n) ∙ sym (or-false (is_in (set_at t a) b)))
 
--- ---- the walk over a word: what is joined, and what the rest of the word still asks for, make up the whole
+-- ---- the walk over numbers: what is joined, and what the numbers to come still ask for, make up the whole
 
-pub record Left (from q word rest : ℕ) (x : Set) (t u : List ℕ) : Type 0 where
+-- p holds of the numbers that the walk goes over, and q of those to come
+pub record Left (from : ℕ) (p q : ℕ → Bool) (x : Set) (t u : List ℕ) : Type 0 where
   pub len : length u ≡ length t
-  pub each : (a b : ℕ) → (has u (from + a) b || in_word q rest a && is_in x b) ≡ (has t (from + a) b || in_word q word a && is_in x b)
+  pub each : (a b : ℕ) → (has u (from + a) b || q a && is_in x b) ≡ (has t (from + a) b || p a && is_in x b)
   pub before : (r b : ℕ) → r < from → has u r b ≡ has t r b
 
 regroup : (h e p x : Bool) → ((h || e && x) || p && x) ≡ (h || (e || p) && x)
@@ -95,60 +98,40 @@ regroup false true true false = refl
 regroup false true false false = refl
 regroup false false p x = refl
 
-pub left-none : (from q word : ℕ) (x : Set) (t : List ℕ) → Left from q word word x t t
-left-none from q word x t = record { len = refl; each = λ a b. refl; before = λ r b l. refl }
+pub left-none : (from : ℕ) (p q : ℕ → Bool) (x : Set) (t : List ℕ) → ((a : ℕ) → q a ≡ p a) → Left from p q x t t
+left-none from p q x t e = record {
+  len = refl;
+  each = λ a b. ap (λ (z : Bool). has t (from + a) b || z && is_in x b) (e a);
+  before = λ r b l. refl;
+}
 
-pub left-next : (from q word rest v l : ℕ) (x y : Set) (t u w : List ℕ) → lowest (bit_at rest) 64 ≡ some l
-    → ((b : ℕ) → bit_at v b ≡ (bit_at rest b && not (eqb b l))) → Put u (from + (64 * q + l)) y w
-    → ((b : ℕ) → is_in y b ≡ (is_in (set_at u (from + (64 * q + l))) b || is_in x b)) → Left from q word rest x t u → Left from q word v x t w
-left-next from q word rest v l x y t u w e d p h left = record {
-  len = p.len ∙ left.len;
+-- z was read, and y, which has x too, was put in its place
+pub left-next : {from k : ℕ} {p q r : ℕ → Bool} {t u w : List ℕ} (x y z : Set) → TakesLowest q k r → z ≡ set_at u (from + k)
+    → ((b : ℕ) → is_in y b ≡ (is_in z b || is_in x b)) → Put u (from + k) y w → Left from p q x t u → Left from p r x t w
+left-next {from} {k} {p} {q} {r} {t} {u} {w} x y z takes read joins put left = record {
+  len = put.len ∙ left.len;
   each = λ a b.
-      ap (λ (z : Bool). z || in_word q v a && is_in x b)
-      (put-joined u w r x y p h (from + a) b ∙ ap (λ (z : Bool). has u (from + a) b || z && is_in x b) (eqb-shifted from a (64 * q + l)))
-      ∙ regroup (has u (from + a) b) (eqb a (64 * q + l)) (in_word q v a) (is_in x b)
-      ∙ ap (λ (z : Bool). has u (from + a) b || z && is_in x b) (sym (word_next q rest v l e d a))
+      ap (λ (z : Bool). z || r a && is_in x b)
+      (put-joined u w (from + k) x y put joined (from + a) b ∙ ap (λ (z : Bool). has u (from + a) b || z && is_in x b) (eqb-shifted from a k))
+      ∙ regroup (has u (from + a) b) (eqb a k) (r a) (is_in x b)
+      ∙ ap (λ (z : Bool). has u (from + a) b || z && is_in x b) (sym (takes-split takes a))
       ∙ left.each a b;
-  before = λ i b k.
-      put-joined u w r x y p h i b
-      ∙ ap (λ (z : Bool). has u i b || z && is_in x b) (ne_eqb i r (omega arith))
+  before = λ i b l.
+      put-joined u w (from + k) x y put joined i b
+      ∙ ap (λ (z : Bool). has u i b || z && is_in x b) (ne_eqb i (from + k) (omega arith))
       ∙ or-false (has u i b)
-      ∙ left.before i b k;
+      ∙ left.before i b l;
 }
   where
-    r : ℕ
-    r = from + (64 * q + l)
+    joined : (b : ℕ) → is_in y b ≡ (is_in (set_at u (from + k)) b || is_in x b)
+    joined b = joins b ∙ ap (λ (z : Set). is_in z b || is_in x b) read
 
-pub left_end : (from q word : ℕ) (x : Set) (t u : List ℕ) → Left from q word 0 x t u → Joins from (in_word q word) x t u
-left_end from q word x t u left = record {
+pub left_end : {from : ℕ} {p q : ℕ → Bool} {x : Set} {t u : List ℕ} → ((a : ℕ) → q a ≡ false) → Left from p q x t u → Joins from p x t u
+left_end {from} {p} {q} {x} {t} {u} none left = record {
   len = left.len;
   each = λ a b.
       sym (or-false (has u (from + a) b))
-      ∙ ap (λ (z : Bool). has u (from + a) b || z && is_in x b) (sym (word_none q a))
+      ∙ ap (λ (z : Bool). has u (from + a) b || z && is_in x b) (sym (none a))
       ∙ left.each a b;
   before = left.before;
 }
-
--- ---- four words
-
-joins-both : (from : ℕ) (p q : ℕ → Bool) (x : Set) (t u v : List ℕ) → Joins from p x t u → Joins from q x u v → Joins from (λ a. p a || q a) x t v
-joins-both from p q x t u v h g = record {
-  len = g.len ∙ h.len;
-  each = λ a b.
-      g.each a b
-      ∙ ap (λ (z : Bool). z || q a && is_in x b) (h.each a b)
-      ∙ regroup (has t (from + a) b) (p a) (q a) (is_in x b);
-  before = λ r b l. g.before r b l ∙ h.before r b l;
-}
-
-pub joins-words : (from : ℕ) (n x : Set) (t u v w z : List ℕ) → Joins from (in_word 0 n.a) x t u → Joins from (in_word 1 n.b) x u v
-    → Joins from (in_word 2 n.c) x v w → Joins from (in_word 3 n.d) x w z → Joins from (is_in n) x t z
-joins-words from n x t u v w z h₀ h₁ h₂ h₃ =
-    let all = joins-both from (in_word 0 n.a) (λ a. in_word 1 n.b a || (in_word 2 n.c a || in_word 3 n.d a)) x t u z h₀
-    (joins-both from (in_word 1 n.b) (λ a. in_word 2 n.c a || in_word 3 n.d a) x u v z h₁
-    (joins-both from (in_word 2 n.c) (in_word 3 n.d) x v w z h₂ h₃)) in
-    record {
-      len = all.len;
-      each = λ a b. all.each a b ∙ ap (λ (p : Bool). has t (from + a) b || p && is_in x b) (sym (words-in n a));
-      before = all.before;
-    }

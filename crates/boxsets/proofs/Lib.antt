@@ -5,6 +5,8 @@ pub mod MemberLaws
 pub mod LeastLaws
 pub mod LowLaws
 pub mod WalkLaws
+pub mod TakesLaws
+mod ReachLaws
 pub mod AmongLaws
 pub mod TableLaws
 pub mod JoinLaws

@@ -110,3 +110,21 @@ single-in q k l e j = go (ℕ_discrete (j / 64) q)
         ap (λ (w : ℕ). bit_at w (j % 64)) (with-other none q (2 ^ (k % 64)) (j / 64) n ∙ empty-word none refl refl refl refl (j / 64))
         ∙ zero_bit (j % 64)
         ∙ sym (ne_eqb j k (λ f. n (ap (λ (z : ℕ). z / 64) f ∙ e)))
+
+-- a set without numbers, with the bit of one number in its word
+pub added-in : (x : Set) → ((j : ℕ) → is_in x j ≡ false) → (q k : ℕ) → q < 4 → k / 64 ≡ q → (j : ℕ) → is_in (with_word x q (2 ^ (k % 64))) j ≡ eqb j k
+unfolding is_in
+added-in x empty q k l e j = go (ℕ_discrete (j / 64) q)
+  where
+    go : Dec (j / 64 ≡ q) → bit_at (word_at (with_word x q (2 ^ (k % 64))) (j / 64)) (j % 64) ≡ eqb j k
+    go (yes i) =
+        ap (λ (p : ℕ). bit_at (word_at (with_word x q (2 ^ (k % 64))) p) (j % 64)) i
+        ∙ ap (λ (w : ℕ). bit_at w (j % 64)) (with-here x q (2 ^ (k % 64)) l)
+        ∙ pow-bit (k % 64) (j % 64)
+        ∙ T-same (eqb (j % 64) (k % 64)) (eqb j k)
+        (λ t. let f = eqb→eq (j % 64) (k % 64) t in let g : j ≡ k = omega arith in T-eqb g)
+        (λ t. let f = eqb→eq j k t in let g : j % 64 ≡ k % 64 = ap (λ (z : ℕ). z % 64) f in T-eqb g)
+    go (no n) =
+        ap (λ (w : ℕ). bit_at w (j % 64)) (with-other x q (2 ^ (k % 64)) (j / 64) n)
+        ∙ empty j
+        ∙ sym (ne_eqb j k (λ f. n (ap (λ (z : ℕ). z / 64) f ∙ e)))

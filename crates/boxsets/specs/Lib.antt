@@ -1,2 +1,4 @@
 pub mod Words
 pub mod Sets
+pub mod Reach
+pub mod Members

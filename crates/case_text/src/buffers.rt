@@ -1,38 +1,53 @@
-// The buffers of a call, and how many of their places are lent.
-ghost use Rattle.std.specs.Prelude.{◌≡◌, ◌≤◌, length};
-ghost use Rattle.io.specs.Counts.{IsPrefixLen};
+// The buffers of a call, of bytes or of numbers, and how many of their places are lent. Kept: arrays with a count beside them, since there
+// is no heap here and the calls are lent parts of arrays.
+ghost use Rattle.std.specs.Prelude.{◌≡◌, ℕ, ◌%◌, ◌≤◌, length, take};
 
 // Every buffer has so many places.
 pub const PLACES: usize = 65600;
 
-// A buffer before a call, as bytes or as numbers: no place holds 0.
-pub fn bytes() -> [u8; PLACES]
-    ensures { 65600 ≡ length result }
-{
-    [170; PLACES]
+// What a place of a buffer holds: a byte or a number of 16 bits.
+pub trait Place: Copy + PartialEq + Into<usize> {
+    // What a number is where a place holds its lowest bits.
+    ghost lowest: { ℕ → Self };
+
+    // What a place holds before a call: it is not 0.
+    const FRESH: Self;
+
+    fn low(x: usize) -> Self
+        ensures { result ≡ lowest x };
 }
 
-pub fn numbers() -> [u16; PLACES]
-    ensures { 65600 ≡ length result }
-{
-    [43690; PLACES]
+impl Place for u8 {
+    ghost lowest = { λ x. x % 256 };
+
+    const FRESH: u8 = 170;
+
+    fn low(x: usize) -> u8 {
+        (x % 256) as u8
+    }
 }
 
-fn least(a: usize, b: usize) -> usize
-    ensures { result ≤ b }
+impl Place for u16 {
+    ghost lowest = { λ x. x % 65536 };
+
+    const FRESH: u16 = 43690;
+
+    fn low(x: usize) -> u16 {
+        (x % 65536) as u16
+    }
+}
+
+// A buffer before a call.
+pub fn buffer<T: Place>() -> [T; PLACES]
+    ensures { 65600 ≡ length result }
 {
-    if a < b { a } else { b }
+    [T::FRESH; PLACES]
 }
 
 // So many places of a buffer, or all if it has fewer.
-pub fn bytes_lent(s: &[u8], n: usize) -> usize
-    ensures { IsPrefixLen result s.now }
+pub fn lent<T>(s: &[T], n: usize) -> usize
+    ensures within { result ≤ length s.now }
+    ensures taken { result ≡ length (take result s.now) }
 {
-    least(n, s.len())
-}
-
-pub fn numbers_lent(s: &[u16], n: usize) -> usize
-    ensures { IsPrefixLen result s.now }
-{
-    least(n, s.len())
+    n.min(s.len())
 }

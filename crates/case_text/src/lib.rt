@@ -6,8 +6,6 @@ mod buffers;
 mod reading;
 mod writing;
 
-pub use buffers::{bytes, bytes_lent, numbers, numbers_lent};
-pub use reading::{byte_table, low, number, number_table};
-pub use writing::{
-    print, print_hex, print_text, show_bytes, show_numbers, show_refusal, show_verdict,
-};
+pub use buffers::{Place, buffer, lent};
+pub use reading::{number, table};
+pub use writing::{show, show_reply};

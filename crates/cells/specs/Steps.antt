@@ -12,3 +12,9 @@ pub record Emitted (g : ℕ → ℕ) (at n : ℕ) (old new : List ℕ) : Type 0 
   pub len : length new ≡ length old
   pub hit : (j : ℕ) → j < n → get_or new (at + j) 0 ≡ g j
   pub miss : (p : ℕ) → (p < at) ⊎ (at + n ≤ p) → get_or new p 0 ≡ get_or old p 0
+
+-- n places from `at` on hold what n from `from` on held; others are as they were
+pub record Copied {X : Type 0} (from at n : ℕ) (old new : List X) : Type 0 where
+  pub len : length new ≡ length old
+  pub hit : (j : ℕ) (d : X) → j < n → get_or new (at + j) d ≡ get_or old (from + j) d
+  pub miss : (p : ℕ) (d : X) → (p < at) ⊎ (at + n ≤ p) → get_or new p d ≡ get_or old p d

@@ -2,7 +2,7 @@
 use mathlib.Core.Path.{◌≡◌, refl, sym, ap, ap₂, subst, ◌∙◌}
 use mathlib.Core.Bool.{Bool, true, false, not, ◌&&◌, ◌||◌}
 use mathlib.Core.List.{List}
-use Prim.Native.Nat.{ℕ, ◌+◌, ◌*◌, ◌<◌, ◌≤◌}
+use Prim.Native.Nat.{ℕ, ◌+◌, ◌*◌, ◌<◌}
 use lib.Dec.{T}
 use lib.ListN.{length}
 use Rattle.base.specs.Steps.{any_below}
@@ -17,9 +17,10 @@ use Rattle.mode_sets.specs.Mode.{heads_of}
 use Rattle.mode_sets.specs.Steps.{ModeSets}
 use Rattle.mode_sets.proofs.HeadLaws.{heads-bound}
 use Rattle.certificates.specs.Blocks.{in_one, blocks}
-use Rattle.certificates.specs.Steps.{Drawn, NearBy}
+use Rattle.certificates.specs.Steps.{Drawn, NearBy, sign_number}
 use Rattle.certificates.specs.declared.Near.{Near}
 use Rattle.certificates.proofs.OutsideLaws.{in-same, in_either}
+use Rattle.certificates.proofs.SignLaws.{sign-small}
 use Rattle.certificates.proofs.NearLaws.{nested-set, nesting-set, heads-set}
 
 and-swap : (a b c : Bool) → ((a && b) && c) ≡ ((a && c) && b)
@@ -63,15 +64,14 @@ step pic files y r boxes e bound told f =
 pub record Known (pic : Picture) (m u : ℕ) (closure heads : List ℕ) (x : Near) (p : Arrow) : Type 0 where
   pub drawn : Drawn pic closure
   pub sets : ModeSets pic.arrows m heads
-  pub small : x.sign ≤ 1
   pub asked : ℕ → Bool
-  pub near : NearBy pic m x.sign u asked x
+  pub near : NearBy pic m (sign_number x.sign) u asked x
   pub tail-in : p.tail < length pic.boxes
   pub head_in : p.head < length pic.boxes
 
 module _ (pic : Picture) (m u : ℕ) (closure heads : List ℕ) (x : Near) (p : Arrow) (known : Known pic m u closure heads x p) where
-  bound : (tails : ℕ → Bool) (g : ℕ) → T (heads_of pic.arrows m x.sign tails g) → g < length pic.boxes
-  bound tails g t = heads-bound pic.arrows m pic.boxes known.drawn.arrows-sound x.sign tails g t
+  bound : (tails : ℕ → Bool) (g : ℕ) → T (heads_of pic.arrows m (sign_number x.sign) tails g) → g < length pic.boxes
+  bound tails g t = heads-bound pic.arrows m pic.boxes known.drawn.arrows-sound (sign_number x.sign) tails g t
 
   module _ (t h : ℕ) (tail-is : t ≡ p.tail) (head-is : h ≡ p.head) where
     -- what is nested in the tail or in the head, and what they are nested in
@@ -88,11 +88,11 @@ module _ (pic : Picture) (m u : ℕ) (closure heads : List ℕ) (x : Near) (p : 
         → ((k : ℕ) → is_in inner k ≡ (has closure h k && not (has closure (256 + h) k)))
         → ((k : ℕ) → is_in y k ≡ (is_in x.heads k && is_in inner k))
         → Outside pic files y r
-        → (f : ℕ) → is_in r f ≡ (is_in files f && not (in_one pic (head_blocks pic m x.sign u p) f))
+        → (f : ℕ) → is_in r f ≡ (is_in files f && not (in_one pic (head_blocks pic m (sign_number x.sign) u p) f))
     take_head files inner y r told-inner told-y =
-        step pic files y r (head_blocks pic m x.sign u p)
+        step pic files y r (head_blocks pic m (sign_number x.sign) u p)
         (λ g. told-y g ∙ ap₂ ◌&&◌ (known.near.heads-are g) (nested h p.head head-is known.head_in inner told-inner g))
-        (λ g s. bound all g (and_T (heads_of pic.arrows m x.sign all g) (nests pic p.head g) s).0)
+        (λ g s. bound all g (and_T (heads_of pic.arrows m (sign_number x.sign) all g) (nests pic p.head g) s).0)
       where
         all : ℕ → Bool
         all v = around pic.rows v u
@@ -101,12 +101,12 @@ module _ (pic : Picture) (m u : ℕ) (closure heads : List ℕ) (x : Near) (p : 
     pub take-tail : (files inner from y r : Set)
         → ((k : ℕ) → is_in inner k ≡ (has closure t k && not (has closure (256 + t) k)))
         → ((k : ℕ) → is_in from k ≡ (is_in x.tails k && is_in inner k))
-        → ((g : ℕ) → is_in y g ≡ any_below (λ k. is_in from k && has heads (256 * x.sign + k) g) 256)
+        → ((g : ℕ) → is_in y g ≡ any_below (λ k. is_in from k && has heads (256 * sign_number x.sign + k) g) 256)
         → Outside pic files y r
-        → (f : ℕ) → is_in r f ≡ (is_in files f && not (in_one pic (tail_blocks pic m x.sign u p) f))
+        → (f : ℕ) → is_in r f ≡ (is_in files f && not (in_one pic (tail_blocks pic m (sign_number x.sign) u p) f))
     take-tail files inner from y r told-inner told-from told-y =
-        step pic files y r (tail_blocks pic m x.sign u p)
-        (heads-set pic m closure heads known.drawn known.sets x.sign known.small tails from y
+        step pic files y r (tail_blocks pic m (sign_number x.sign) u p)
+        (heads-set pic m closure heads known.drawn known.sets (sign_number x.sign) (sign-small x.sign) tails from y
         (λ k.
         told-from k
         ∙ ap₂ ◌&&◌ (known.near.tails-are k) (nested t p.tail tail-is known.tail-in inner told-inner k)
@@ -121,24 +121,24 @@ module _ (pic : Picture) (m u : ℕ) (closure heads : List ℕ) (x : Near) (p : 
     pub take_level : (files outer-tail from reach outer-head y r : Set)
         → ((k : ℕ) → is_in outer-tail k ≡ (has closure (256 + t) k && not (has closure t k)))
         → ((k : ℕ) → is_in from k ≡ (is_in x.tails k && not (is_in outer-tail k)))
-        → ((g : ℕ) → is_in reach g ≡ any_below (λ k. is_in from k && has heads (256 * x.sign + k) g) 256)
+        → ((g : ℕ) → is_in reach g ≡ any_below (λ k. is_in from k && has heads (256 * sign_number x.sign + k) g) 256)
         → ((k : ℕ) → is_in outer-head k ≡ (has closure (256 + h) k && not (has closure h k)))
         → ((g : ℕ) → is_in y g ≡ (is_in reach g && not (is_in outer-head g)))
         → Outside pic files y r
-        → (f : ℕ) → is_in r f ≡ (is_in files f && not (in_one pic (level_blocks pic m x.sign u p) f))
+        → (f : ℕ) → is_in r f ≡ (is_in files f && not (in_one pic (level_blocks pic m (sign_number x.sign) u p) f))
     take_level files outer-tail from reach outer-head y r told-tail told-from told-reach told-head told-y =
-        step pic files y r (level_blocks pic m x.sign u p)
+        step pic files y r (level_blocks pic m (sign_number x.sign) u p)
         (λ g.
         told-y g
         ∙ ap₂ (λ (a b : Bool). a && not b)
-        (heads-set pic m closure heads known.drawn known.sets x.sign known.small tails from reach
+        (heads-set pic m closure heads known.drawn known.sets (sign_number x.sign) (sign-small x.sign) tails from reach
         (λ k.
         told-from k
         ∙ ap₂ (λ (a b : Bool). a && not b) (known.near.tails-are k) (nesting t p.tail tail-is known.tail-in outer-tail told-tail k)
         ∙ and-swap (around pic.rows k u) _ (not (nests pic k p.tail)))
         told-reach g)
         (nesting h p.head head-is known.head_in outer-head told-head g))
-        (λ g s. bound tails g (and_T (heads_of pic.arrows m x.sign tails g) (not (nests pic g p.head)) s).0)
+        (λ g s. bound tails g (and_T (heads_of pic.arrows m (sign_number x.sign) tails g) (not (nests pic g p.head)) s).0)
       where
         tails : ℕ → Bool
         tails v = around pic.rows v u && not (nests pic v p.tail)

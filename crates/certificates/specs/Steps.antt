@@ -1,14 +1,22 @@
 -- What the functions ask of and promise each other. Assumes nothing.
 use Rattle.std.specs.Prelude.{◌≡◌, Bool, ◌&&◌, List, ℕ, length}
-use Rattle.std.proofs.Math.Option.{none}
+use Rattle.std.specs.Prelude.{None as none}
 use Rattle.tables.specs.Rows.{Picture, arrow_count}
 use Rattle.tables.specs.Steps.{SoundRows, SoundArrows}
 use Rattle.containment.specs.Contains.{around, loop_fault}
 use Rattle.containment.specs.Steps.{Closure}
+use Rattle.meaning.specs.Meaning.{positive, negative}
 use Rattle.boxsets.specs.Sets.{is_in}
 use Rattle.mode_sets.specs.Mode.{heads_of, tails_below}
 use Rattle.certificates.specs.Blocks.{reached_by}
 use Rattle.certificates.specs.declared.Near.{Near}
+use Rattle.certificates.specs.declared.Sign.{Sign}
+use Rattle.certificates.specs.declared.Sign.TheVariants.{Negative, Positive}
+
+-- the number that stands for a sign in the table of arrows
+abbrev pub sign_number : Sign → ℕ
+sign_number Negative = negative
+sign_number Positive = positive
 
 -- a picture that passes checks 1 to 7 and 10, and the closure of its rows
 pub record Drawn (pic : Picture) (closure : List ℕ) : Type 0 where

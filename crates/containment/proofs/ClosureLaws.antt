@@ -10,7 +10,7 @@ use lib.ListN.{length}
 use Rattle.base.specs.Search.{given}
 use Rattle.base.proofs.SearchLaws.{first-same}
 use Rattle.tables.specs.Rows.{row_count, row_at}
-use Rattle.tables.specs.Refusals.{in_itself}
+use Rattle.tables.specs.declared.Refusal.TheVariants.{InItself}
 use Rattle.tables.specs.declared.Refusal.{Refusal}
 use Rattle.tables.specs.Steps.{SoundRows}
 use Rattle.boxsets.specs.Sets.{is_in, set_at, has}
@@ -65,8 +65,8 @@ closed-both n rows t u below s h =
 pub own-loops : (boxes rows t : List ℕ) → length boxes ≤ 256 → Both 256 (contains rows) t → own_fault (length boxes) t ≡ loop_fault boxes rows
 unfolding own_fault loop_fault
 own-loops boxes rows t h s =
-    first-same (λ b. given (has t b b) (in_itself b)) (λ b. given (contains rows b b) (in_itself b)) (length boxes)
-    (λ b l. ap (λ (z : Bool). given {A = Refusal} z (in_itself b)) (s.down b b (omega arith)))
+    first-same (λ b. given (has t b b) (InItself b)) (λ b. given (contains rows b b) (InItself b)) (length boxes)
+    (λ b l. ap (λ (z : Bool). given {A = Refusal} z (InItself b)) (s.down b b (omega arith)))
 
 -- each box added to its own sets
 pub closure-is : (n : ℕ) (rows t u : List ℕ) → n ≤ 256 → Both 256 (contains rows) t → Turns (λ f. selves f n) t u → Closure n rows u

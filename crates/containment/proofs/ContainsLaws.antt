@@ -4,7 +4,7 @@ use mathlib.Core.Path.{◌≡◌, refl, sym, subst}
 use mathlib.Core.Logic.{◌⊎◌, inl, inr, ⊎_map, ⊎_elim, ◌↔◌}
 use mathlib.Core.Bool.{false, ◌&&◌, ◌||◌}
 use mathlib.Core.List.{List, [], ◌∷◌, ◌++◌}
-use mathlib.Core.Option.{none}
+use Rattle.std.specs.Prelude.{None as none}
 use Prim.Native.Nat.{ℕ, ◌%◌, ◌<◌}
 use native.Mathlib.Omega.{arith}
 use lib.Dec.{T, eqb, eqb→eq, eqb_refl}
@@ -12,7 +12,7 @@ use lib.ListN.{length, get_or}
 use Rattle.tables.specs.Rows.{is_group, on_side}
 use Rattle.tables.specs.Atoms.{outer, atom}
 use Rattle.base.specs.Search.{given}
-use Rattle.tables.specs.Refusals.{in_itself}
+use Rattle.tables.specs.declared.Refusal.TheVariants.{InItself}
 use Rattle.containment.specs.Contains.{Row, here, later, direct, Chain, one, more, contains, around, loop_fault}
 use Rattle.base.proofs.Tests.{or-T, T-or₁, T-or₂, and_T, T_and, T-same, not-false}
 use Rattle.base.proofs.SearchLaws.{first-none, given-none}
@@ -236,4 +236,4 @@ module _ (x y : ℕ) (after : List ℕ) where
 pub irreflexive : (boxes rows : List ℕ) → loop_fault boxes rows ≡ none → (b : ℕ) → b < length boxes → T (contains rows b b) → ⊥
 unfolding loop_fault
 irreflexive boxes rows e b l =
-    given-none (contains rows b b) (in_itself b) (first-none (λ c. given (contains rows c c) (in_itself c)) (length boxes) e b l)
+    given-none (contains rows b b) (InItself b) (first-none (λ c. given (contains rows c c) (InItself c)) (length boxes) e b l)

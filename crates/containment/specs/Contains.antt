@@ -1,8 +1,8 @@
 -- Which box contains which (document 01, "Meaning"). Assumes nothing.
 use Rattle.std.specs.Prelude.{Bool, false, ◌&&◌, ◌||◌, List, [], ◌∷◌, ℕ, eqb, length}
-use Rattle.std.proofs.Math.Option.{Option}
+use Rattle.std.specs.Prelude.{Option}
 use Rattle.base.specs.Search.{first, given}
-use Rattle.tables.specs.Refusals.{in_itself}
+use Rattle.tables.specs.declared.Refusal.TheVariants.{InItself}
 use Rattle.tables.specs.declared.Refusal.{Refusal}
 
 -- a row of the table has outer box a and inner box b
@@ -34,4 +34,4 @@ around rows a b = eqb a b || contains rows a b
 
 -- 10: a box contains itself
 unfoldable pub loop_fault : (boxes rows : List ℕ) → Option Refusal
-loop_fault boxes rows = first (λ b. given (contains rows b b) (in_itself b)) (length boxes)
+loop_fault boxes rows = first (λ b. given (contains rows b b) (InItself b)) (length boxes)

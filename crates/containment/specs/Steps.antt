@@ -1,8 +1,8 @@
 -- What the functions ask of and promise each other: the closure, and how it stands while it is filled. Assumes nothing.
 use Rattle.std.specs.Prelude.{◌≡◌, Bool, ◌&&◌, ◌||◌, List, ℕ, zero, suc, ◌+◌, ◌%◌, ◌<◌, eqb, length}
-use Rattle.std.proofs.Math.Option.{Option}
+use Rattle.std.specs.Prelude.{Option}
 use Rattle.base.specs.Search.{first, given}
-use Rattle.tables.specs.Refusals.{in_itself}
+use Rattle.tables.specs.declared.Refusal.TheVariants.{InItself}
 use Rattle.tables.specs.Rows.{row_count, row_at}
 use Rattle.tables.specs.declared.Refusal.{Refusal}
 use Rattle.boxsets.specs.Sets.{has}
@@ -49,4 +49,4 @@ selves f (suc k) a b = selves f k a b || eqb a k && eqb b k
 
 -- 10: the lowest of n boxes whose set has it
 unfoldable pub own_fault : (n : ℕ) (t : List ℕ) → Option Refusal
-own_fault n t = first (λ b. given (has t b b) (in_itself b)) n
+own_fault n t = first (λ b. given (has t b b) (InItself b)) n

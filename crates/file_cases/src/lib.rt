@@ -1,15 +1,18 @@
 // The cases of block files for the test program: read, packed, and their check.
 #![tactic(auto)]
 
-mod replies;
-
-use blocks::Check;
-use case_text::{
-    byte_table, bytes, bytes_lent, number, number_table, numbers, numbers_lent, print_hex,
-    print_text, show_bytes, show_numbers,
-};
-use replies::{show_packing, show_reading, show_seen};
+use blocks::{Check, Counts, Head};
+use case_text::{buffer, lent, number, show, show_reply, table};
 use std::io::{Read, Write};
+use tables::Tables;
+
+fn show_counts<W: Write>(out: &mut W, counts: Counts) {
+    let _ = write!(
+        out,
+        "counts {} {} {}",
+        counts.boxes, counts.containments, counts.arrows
+    );
+}
 
 // Reads a file into as many places of each table as the input says.
 fn show_file<R: Read, W: Write>(
@@ -20,76 +23,83 @@ fn show_file<R: Read, W: Write>(
     rows: &mut [u16],
     arrows: &mut [u16],
 ) {
-    let b = bytes_lent(boxes, number(input).value);
-    let r = numbers_lent(rows, number(input).value);
-    let a = numbers_lent(arrows, number(input).value);
-    show_reading(
+    let b = lent(boxes, number(input).value);
+    let r = lent(rows, number(input).value);
+    let a = lent(arrows, number(input).value);
+    show_reply(
         out,
         block_files::read(file, &mut boxes[..b], &mut rows[..r], &mut arrows[..a]),
+        show_counts,
     );
-    show_bytes(out, boxes);
-    show_numbers(out, rows);
-    show_numbers(out, arrows);
-    print_text(out, b"\n");
+    show(out, boxes);
+    show(out, rows);
+    show(out, arrows);
+    let _ = writeln!(out);
 }
 
-fn one_less(n: usize) -> usize {
-    if n == 0 {
-        return 0;
-    }
-    n - 1
+// The head of the block that a reader sees, if any.
+fn show_seen<W: Write>(out: &mut W, seen: Option<Head>) {
+    let _ = match seen {
+        Some(head) => write!(
+            out,
+            "block {} {} {} {} {} {}",
+            head.kind, head.byte1, head.number, head.count, head.byte6, head.byte7
+        ),
+        None => write!(out, "none"),
+    };
 }
 
 fn show_moves<W: Write>(out: &mut W, file: &[u8]) {
     let count = file.len() / 512;
     show_seen(out, block_reader::head_after(file, 0));
-    print_text(out, b" : ");
-    show_seen(out, block_reader::head_after(file, one_less(count)));
-    print_text(out, b" : ");
+    let _ = write!(out, " : ");
+    show_seen(out, block_reader::head_after(file, count.saturating_sub(1)));
+    let _ = write!(out, " : ");
     show_seen(out, block_reader::head_after(file, count));
-    print_text(out, b"\n");
+    let _ = writeln!(out);
 }
 
 pub fn file_case<R: Read, W: Write>(input: &mut R, out: &mut W) {
-    let mut file = bytes();
-    let mut boxes = bytes();
-    let mut rows = numbers();
-    let mut arrows = numbers();
-    let n = byte_table(input, &mut file);
+    let mut file = buffer::<u8>();
+    let mut boxes = buffer::<u8>();
+    let mut rows = buffer::<u16>();
+    let mut arrows = buffer::<u16>();
+    let n = table(input, &mut file);
     show_file(input, out, &file[..n], &mut boxes, &mut rows, &mut arrows);
     show_moves(out, &file[..n]);
 }
 
 // Packs a picture into as many places of the file as the input says.
-fn show_blocks<R: Read, W: Write>(
-    input: &mut R,
-    out: &mut W,
-    boxes: &[u8],
-    rows: &[u16],
-    arrows: &[u16],
-    file: &mut [u8],
-) {
-    let n = bytes_lent(file, number(input).value);
-    show_packing(out, packer::pack(boxes, rows, arrows, &mut file[..n]));
-    show_bytes(out, file);
-    print_text(out, b"\n");
+fn show_blocks<R: Read, W: Write>(input: &mut R, out: &mut W, t: Tables, file: &mut [u8]) {
+    let n = lent(file, number(input).value);
+    show_reply(out, packer::pack(t, &mut file[..n]), show_packed);
+    show(out, file);
+    let _ = writeln!(out);
+}
+
+fn show_packed<W: Write>(out: &mut W, n: usize) {
+    let _ = write!(out, "packed {n}");
 }
 
 pub fn pack_case<R: Read, W: Write>(input: &mut R, out: &mut W) {
-    let mut boxes = bytes();
-    let mut rows = numbers();
-    let mut arrows = numbers();
-    let mut file = bytes();
-    let b = byte_table(input, &mut boxes);
-    let r = number_table(input, &mut rows);
-    let a = number_table(input, &mut arrows);
-    show_blocks(input, out, &boxes[..b], &rows[..r], &arrows[..a], &mut file);
+    let mut boxes = buffer::<u8>();
+    let mut rows = buffer::<u16>();
+    let mut arrows = buffer::<u16>();
+    let mut file = buffer::<u8>();
+    let b = table(input, &mut boxes);
+    let r = table(input, &mut rows);
+    let a = table(input, &mut arrows);
+    let t = Tables {
+        boxes: &boxes[..b],
+        rows: &rows[..r],
+        arrows: &arrows[..a],
+    };
+    show_blocks(input, out, t, &mut file);
 }
 
 pub fn check_case<R: Read, W: Write>(input: &mut R, out: &mut W) {
-    let mut bytes = bytes();
-    let n = byte_table(input, &mut bytes);
+    let mut bytes = buffer::<u8>();
+    let n = table(input, &mut bytes);
     let check = Check::fresh().part(&bytes[..n]);
-    print_hex(out, check.state);
-    print_text(out, b"\n");
+    let _ = writeln!(out, "{:08x}", check.state);
 }

@@ -1,20 +1,18 @@
 -- The headings of the matrix, as a call: which refusal, which answer, and what the two lent buffers hold at the end. Assumes nothing.
-use Rattle.std.specs.Prelude.{List, [], ℕ, length}
-use Rattle.std.proofs.Math.Option.{Option, none, some}
+use Rattle.std.specs.Prelude.{List, [], ℕ, length, Result, Ok, Err}
+use Rattle.std.specs.Prelude.{Option, None as none, Some as some}
 use Rattle.base.specs.Search.{or_else}
 use Rattle.tables.specs.Rows.{picture, user, file}
 use Rattle.tables.specs.Atoms.{atoms}
 use Rattle.tables.specs.Refusals.{unless_refused}
 use Rattle.tables.specs.Faults.{table_fault, room_fault}
 use Rattle.tables.specs.declared.Refusal.{Refusal}
-use Rattle.headings.specs.declared.Headings.{Headings}
-use Rattle.headings.specs.declared.Headings.TheVariants.{Written, Refused}
 
 module _ (boxes rows : List ℕ) where
   -- the answer, by the fault that was found, if any: how many atomic users and atomic files there are
-  unfoldable pub headings_of : (fault : Option Refusal) → Headings
-  headings_of none = Written (length (atoms boxes rows user)) (length (atoms boxes rows file))
-  headings_of (some r) = Refused r
+  unfoldable pub headings_of : (fault : Option Refusal) → Result (ℕ × ℕ) Refusal
+  headings_of none = Ok (length (atoms boxes rows user), length (atoms boxes rows file))
+  headings_of (some r) = Err r
 
   -- the two buffers as they were lent
   module _ (users files : List ℕ) where

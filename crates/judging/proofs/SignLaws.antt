@@ -2,7 +2,7 @@
 use mathlib.Core.Path.{◌≡◌, refl, sym, ap, ap₂, ◌∙◌}
 use mathlib.Core.Bool.{Bool, true, false, ◌&&◌, ◌||◌}
 use mathlib.Core.List.{List}
-use mathlib.Core.Option.{none}
+use Rattle.std.specs.Prelude.{None as none}
 use Prim.Native.Nat.{ℕ, ◌+◌, ◌≤◌}
 use native.Mathlib.Omega.{arith}
 use native.Mathlib.Decide.{ℕ_discrete}
@@ -79,7 +79,8 @@ module _ (pic : Picture) (m : ℕ) where
       go false i e = lacks-sign negative (omega arith) i
 
 -- what `clashing` gives
-pub clashing-is : (arrows signs : List ℕ) → SignsBelow arrows (arrow_count arrows) signs → (x y r : Set) → x ≡ set_at signs 0 → y ≡ set_at signs 1
+pub clashing-is : (arrows signs : List ℕ) → SignsBelow arrows (arrow_count arrows) signs → (x y r : Set)
+    → x ≡ set_at signs 0 → y ≡ set_at signs 1
     → ((m : ℕ) → is_in r m ≡ (is_in x m && is_in y m))
     → (m : ℕ) → is_in r m ≡ (sign_used arrows m negative && sign_used arrows m positive)
 clashing-is arrows signs all x y r ex ey told m =

@@ -2,12 +2,12 @@
 -- the same (`table-right`); another of groups that have emptied (document 02, P6; `groups-right`). The pictures stand in `meaning`
 -- specs/Cases. Assumes nothing.
 use Rattle.std.specs.Prelude.{◌≡◌, refl, Bool, true, false, List, [], ◌∷◌, map, ℕ, ◌*◌, length, replicate}
-use Rattle.std.proofs.Math.Option.{Option, none, some}
+use Rattle.std.specs.Prelude.{Option, None as none, Some as some, Result, Ok, Err}
 use Rattle.base.specs.Search.{or_else, given, first, lowest, every, select}
 use Rattle.base.specs.Buffers.{build, written}
 use Rattle.tables.specs.Rows.{Picture, side_of, is_group, on_side}
 use Rattle.tables.specs.Atoms.{outer, atom, atoms, pair_count}
-use Rattle.tables.specs.Refusals.{in_itself, not_atomic, unclear_pair, no_order}
+use Rattle.tables.specs.declared.Refusal.TheVariants.{InItself, NotAtomic, UnclearPair, NoOrder}
 use Rattle.tables.specs.Faults.{ragged_fault, count_fault, byte_fault, names_no_box, across_sides, wrong_ends, wrong_mode}
 use Rattle.tables.specs.Faults.{row_fault, table_fault, mode_fault, room_fault}
 use Rattle.tables.specs.declared.Refusal.{Refusal}
@@ -20,16 +20,13 @@ use Rattle.answers.specs.Calls.{asked_fault, entry_fault, judge_fault, reply_of}
 use Rattle.meaning.specs.Cases.{picture-A, picture-B, picture-C, picture-D, picture-E, picture-F}
 use Rattle.meaning.specs.Cases.{picture-G, picture-H, picture-I, picture-J}
 use Rattle.meaning.specs.Cases.{emptied-group, around-emptied, emptied-both, groups-left}
+use Rattle.meaning.specs.declared.Entry.{Entry}
 use Rattle.meaning.specs.declared.Entry.TheVariants.{Granted, Denied, Default, Unclear}
-use Rattle.answers.specs.declared.EntryReply.{EntryReply}
-use Rattle.answers.specs.declared.EntryReply.TheVariants.{Answered, Refused}
 use Rattle.list_meaning.specs.Order.{passes, any_of, all_of, first_of, distinct}
 use Rattle.list_meaning.specs.Lists.{gives, of_mode, list_room}
 use Rattle.list_meaning.specs.Order.{meets, reached, granted, right, honest, covers_all, qualifies}
 use Rattle.list_meaning.specs.Greedy.{followed, new, fits, addable, next, list_to, greedy, left_by, order_fault, listed_of, places_of}
 use Rattle.list_meaning.specs.Calls.{list_early, list_before, list_answer, list_after}
-use Rattle.list_meaning.specs.declared.Listed.{Listed}
-use Rattle.list_meaning.specs.declared.Listed.TheVariants.{Written, Refused as ListRefused}
 
 -- a picture and what the calls answer, with buffers that suffice
 pub record Case : Type 0 where
@@ -37,12 +34,12 @@ pub record Case : Type 0 where
   -- the judge's refusal, if any
   pub judged : Option Refusal
   -- some pairs of a user and a file, and the replies
-  pub entries : List (ℕ × ℕ × EntryReply)
+  pub entries : List (ℕ × ℕ × Result Entry Refusal)
   -- the matrix
   pub bytes : List ℕ
   pub numbers : List ℕ
   -- the answer of the call for a list, and the list places at the end, of which each of the needed ones held 7
-  pub listed : Listed
+  pub listed : Result ℕ Refusal
   pub places : List ℕ
   -- some lists, and whether they qualify
   pub lists : List (List ℕ × Bool)
@@ -59,7 +56,7 @@ table =
       entries = [];
       bytes = [];
       numbers = [];
-      listed = Written 0;
+      listed = Ok 0;
       places = [];
       lists = ([], true) ∷ [];
     }
@@ -67,32 +64,32 @@ table =
     ∷ record {
       picture = picture-B;
       judged = none;
-      entries = (0, 3, Answered (Granted 0)) ∷ (1, 3, Answered (Denied 1)) ∷ [];
+      entries = (0, 3, Ok (Granted 0)) ∷ (1, 3, Ok (Denied 1)) ∷ [];
       bytes = 1 ∷ 0 ∷ [];
       numbers = 0 ∷ 1 ∷ [];
-      listed = Written 2;
+      listed = Ok 2;
       places = 0 ∷ 1 ∷ [];
       lists = (0 ∷ 1 ∷ [], true) ∷ (0 ∷ [], true) ∷ (1 ∷ 0 ∷ [], false) ∷ (0 ∷ 0 ∷ [], false) ∷ ([], false) ∷ [];
     }
     -- C: both signs between the same two boxes
     ∷ record {
       picture = picture-C;
-      judged = some (unclear_pair 0 0 1);
-      entries = (0, 1, Answered (Unclear 0 1)) ∷ [];
+      judged = some (UnclearPair 0 0 1);
+      entries = (0, 1, Ok (Unclear 0 1)) ∷ [];
       bytes = 2 ∷ [];
       numbers = default ∷ [];
-      listed = ListRefused (unclear_pair 0 0 1);
+      listed = Err (UnclearPair 0 0 1);
       places = 7 ∷ 7 ∷ [];
       lists = [];
     }
     -- D: a user in two groups
     ∷ record {
       picture = picture-D;
-      judged = some (unclear_pair 0 0 3);
-      entries = (0, 3, Answered (Unclear 0 1)) ∷ [];
+      judged = some (UnclearPair 0 0 3);
+      entries = (0, 3, Ok (Unclear 0 1)) ∷ [];
       bytes = 2 ∷ [];
       numbers = default ∷ [];
-      listed = ListRefused (unclear_pair 0 0 3);
+      listed = Err (UnclearPair 0 0 3);
       places = 7 ∷ 7 ∷ [];
       lists = [];
     }
@@ -100,21 +97,21 @@ table =
     ∷ record {
       picture = picture-E;
       judged = none;
-      entries = (0, 3, Answered (Granted 2)) ∷ [];
+      entries = (0, 3, Ok (Granted 2)) ∷ [];
       bytes = 1 ∷ [];
       numbers = 2 ∷ [];
-      listed = Written 1;
+      listed = Ok 1;
       places = 0 ∷ 7 ∷ 7 ∷ [];
       lists = (2 ∷ [], true) ∷ (1 ∷ 2 ∷ [], false) ∷ [];
     }
     -- F: one arrow is deeper by its tail, the other by its head
     ∷ record {
       picture = picture-F;
-      judged = some (unclear_pair 0 0 2);
-      entries = (0, 2, Answered (Unclear 0 1)) ∷ [];
+      judged = some (UnclearPair 0 0 2);
+      entries = (0, 2, Ok (Unclear 0 1)) ∷ [];
       bytes = 2 ∷ [];
       numbers = default ∷ [];
-      listed = ListRefused (unclear_pair 0 0 2);
+      listed = Err (UnclearPair 0 0 2);
       places = 7 ∷ 7 ∷ [];
       lists = [];
     }
@@ -122,21 +119,21 @@ table =
     ∷ record {
       picture = picture-G;
       judged = none;
-      entries = (0, 1, Answered Default) ∷ [];
+      entries = (0, 1, Ok Default) ∷ [];
       bytes = 0 ∷ [];
       numbers = default ∷ [];
-      listed = Written 0;
+      listed = Ok 0;
       places = [];
       lists = ([], true) ∷ [];
     }
     -- H: a box contains itself
     ∷ record {
       picture = picture-H;
-      judged = some (in_itself 0);
-      entries = (0, 0, Refused (in_itself 0)) ∷ [];
+      judged = some (InItself 0);
+      entries = (0, 0, Err (InItself 0)) ∷ [];
       bytes = [];
       numbers = [];
-      listed = ListRefused (in_itself 0);
+      listed = Err (InItself 0);
       places = [];
       lists = [];
     }
@@ -144,10 +141,10 @@ table =
     ∷ record {
       picture = picture-I;
       judged = none;
-      entries = (0, 2, Answered (Granted 0)) ∷ [];
+      entries = (0, 2, Ok (Granted 0)) ∷ [];
       bytes = 1 ∷ [];
       numbers = 0 ∷ [];
-      listed = Written 1;
+      listed = Ok 1;
       places = 0 ∷ 7 ∷ [];
       lists = (0 ∷ [], true) ∷ [];
     }
@@ -156,11 +153,11 @@ table =
       picture = picture-J;
       judged = none;
       entries =
-          (0, 6, Answered (Denied 1)) ∷ (0, 7, Answered (Granted 0))
-          ∷ (1, 6, Answered (Granted 2)) ∷ (1, 7, Answered (Denied 3)) ∷ [];
+          (0, 6, Ok (Denied 1)) ∷ (0, 7, Ok (Granted 0))
+          ∷ (1, 6, Ok (Granted 2)) ∷ (1, 7, Ok (Denied 3)) ∷ [];
       bytes = 0 ∷ 1 ∷ 1 ∷ 0 ∷ [];
       numbers = 1 ∷ 0 ∷ 2 ∷ 3 ∷ [];
-      listed = ListRefused (no_order 0 0 7);
+      listed = Err (NoOrder 0 0 7);
       places = default ∷ default ∷ default ∷ default ∷ [];
       lists = (0 ∷ 1 ∷ 2 ∷ 3 ∷ [], false) ∷ [];
     }
@@ -172,10 +169,10 @@ groups =
     record {
       picture = emptied-group;
       judged = none;
-      entries = (0, 2, Answered Default) ∷ (1, 2, Refused (not_atomic 1 2)) ∷ [];
+      entries = (0, 2, Ok Default) ∷ (1, 2, Err (NotAtomic 1 2)) ∷ [];
       bytes = 0 ∷ [];
       numbers = default ∷ [];
-      listed = Written 0;
+      listed = Ok 0;
       places = 7 ∷ [];
       lists = ([], true) ∷ [];
     }
@@ -183,10 +180,10 @@ groups =
     ∷ record {
       picture = around-emptied;
       judged = none;
-      entries = (0, 3, Answered (Denied 1)) ∷ (1, 3, Refused (not_atomic 1 3)) ∷ (2, 3, Refused (not_atomic 2 3)) ∷ [];
+      entries = (0, 3, Ok (Denied 1)) ∷ (1, 3, Err (NotAtomic 1 3)) ∷ (2, 3, Err (NotAtomic 2 3)) ∷ [];
       bytes = 0 ∷ [];
       numbers = 1 ∷ [];
-      listed = Written 1;
+      listed = Ok 1;
       places = 1 ∷ 7 ∷ [];
       lists = (1 ∷ [], true) ∷ (0 ∷ [], true) ∷ [];
     }
@@ -194,10 +191,10 @@ groups =
     ∷ record {
       picture = emptied-both;
       judged = none;
-      entries = (0, 1, Refused (not_atomic 0 1)) ∷ [];
+      entries = (0, 1, Err (NotAtomic 0 1)) ∷ [];
       bytes = [];
       numbers = [];
-      listed = Written 0;
+      listed = Ok 0;
       places = 7 ∷ [];
       lists = ([], true) ∷ [];
     }
@@ -206,11 +203,11 @@ groups =
       picture = groups-left;
       judged = none;
       entries =
-          (0, 4, Answered (Granted 0)) ∷ (1, 4, Answered (Granted 0))
-          ∷ (3, 4, Refused (not_atomic 3 4)) ∷ (0, 6, Refused (not_atomic 0 6)) ∷ [];
+          (0, 4, Ok (Granted 0)) ∷ (1, 4, Ok (Granted 0))
+          ∷ (3, 4, Err (NotAtomic 3 4)) ∷ (0, 6, Err (NotAtomic 0 6)) ∷ [];
       bytes = 1 ∷ 1 ∷ [];
       numbers = 0 ∷ 0 ∷ [];
-      listed = Written 1;
+      listed = Ok 1;
       places = 0 ∷ 7 ∷ 7 ∷ [];
       lists = (0 ∷ [], true) ∷ (1 ∷ 2 ∷ 0 ∷ [], true) ∷ ([], false) ∷ [];
     }

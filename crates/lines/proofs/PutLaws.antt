@@ -1,11 +1,11 @@
 -- Text put into a buffer, piece after piece. Assumes nothing.
 use mathlib.Core.Path.{◌≡◌, refl, sym, ap, ◌∙◌}
-use mathlib.Core.List.{List, [], ◌∷◌, ◌++◌}
-use Prim.Native.Nat.{ℕ, suc, ◌+◌, ◌<◌, ◌≤◌}
+use mathlib.Core.List.{List, [], ◌∷◌, ◌++◌, append_assoc}
+use Prim.Native.Nat.{ℕ, ◌+◌, ◌-◌, ◌≤◌}
 use native.Mathlib.Omega.{arith}
-use native.Mathlib.Numerals.{add-one}
-use lib.ListN.{length, drop, set, get_or, length-append}
-use lib.Seq.{sets, length-sets, length-take-le, drop-cons, drop-length}
+use lib.ListN.{length, length-append}
+use lib.Seq.{sets, sets-eq, length-sets, length-take-le, drop-drop}
+use borrow.Rule.Slice.PartMut.{put_mid}
 use Rattle.base.specs.Buffers.{written}
 use Rattle.base.proofs.BufferLaws.{written_none, written-run}
 use Rattle.blocks.proofs.Placing.{sets_more}
@@ -28,19 +28,13 @@ chain {old} {mid} {new} {a} {b} {at} {x} {y} p q = record {
 pub roomier : {old new a : List ℕ} {at y m : ℕ} (k : ℕ) → m ≤ k → Put old at a m new y → Put old at a k new y
 roomier k h p = record { placed = p.placed; ends = p.ends; short = omega arith; same = p.same }
 
--- a copy that still has the text from place i on to put
-pub put_some : (old out s : List ℕ) (at i : ℕ) → i < length s → sets out (at + i) (drop i s) ≡ sets old at s
-    → sets (set out (at + i) (get_or s i 0)) (at + (i + 1)) (drop (i + 1) s) ≡ sets old at s
-put_some old out s at i h e =
-    let k : at + suc i ≡ suc (at + i) = omega arith in
-    rw (add-one, k) (rw (drop-cons s i 0 h) at e)
-
--- and one that has none
-pub put_all : (old out s : List ℕ) (at i : ℕ) → i ≡ length s → sets out (at + i) (drop i s) ≡ sets old at s
-    → Put old at s (length s) out (at + length s)
-put_all old out s at i e f =
-    let g : out ≡ sets old at s = rw (e, drop-length) at f in
-    record { placed = g; ends = refl; short = omega arith; same = ap length g ∙ length-sets old at s }
+-- a copy of the text into the places from `at` on
+pub put-copy : (old s copy : List ℕ) (at : ℕ) → at + length s ≤ length old → copy ≡ s
+    → Put old at s (length s) (put_mid at (at + length s - at) old copy) (at + length s)
+put-copy old s copy at h e =
+    let k : at + length s - at ≡ length s = omega arith in
+    let placed : put_mid at (length s) old copy ≡ sets old at s = rw e (rw (sets-eq s old at h, drop-drop, append_assoc) refl) in
+    rw k (record { placed = placed; ends = refl; short = omega arith; same = ap length placed ∙ length-sets old at s })
 
 -- at the start of the buffer
 pub at-start : (old new a : List ℕ) (m y : ℕ) → m ≤ length old → Put old 0 a m new y → Holds a old new y

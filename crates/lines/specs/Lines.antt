@@ -1,7 +1,7 @@
 -- The lines of the listing (document 01, "The program's listing"). Assumes nothing.
-use Rattle.std.specs.Prelude.{List, [], ◌∷◌, ℕ}
+use Rattle.std.specs.Prelude.{List, [], ◌∷◌, ℕ, Ok, Err}
 use Rattle.tables.specs.declared.Refusal.{Refusal}
-use Rattle.tables.specs.declared.Verdict.TheVariants.{Passed, Refused}
+use Rattle.tables.specs.Refusals.{numbers_of}
 use Rattle.meaning.specs.declared.Entry.{Entry}
 use Rattle.meaning.specs.declared.Entry.TheVariants.{Granted, Denied, Default, Unclear}
 use Rattle.lines.specs.Text.{text, decimal, line}
@@ -17,7 +17,7 @@ answer_fields (Unclear p n) = text "ambig" ∷ decimal p ∷ decimal n ∷ []
 
 -- the three numbers of a refusal
 unfoldable pub three_fields : (r : Refusal) → List (List ℕ)
-three_fields r = decimal r.first ∷ decimal r.second ∷ decimal r.third ∷ []
+three_fields r = decimal (numbers_of r).first ∷ decimal (numbers_of r).second ∷ decimal (numbers_of r).third ∷ []
 
 unfoldable pub line_text : (l : Line) → List ℕ
 -- the first line: the three row counts read
@@ -26,7 +26,7 @@ line_text (Counts boxes rows arrows) =
 -- a pair line: mode, user, file, answer, arrow
 line_text (Pair m u f e) = line (decimal m ∷ decimal u ∷ decimal f ∷ answer_fields e)
 -- the last line: "accepted", or "ambiguous" with mode, user, file
-line_text (Last Passed) = line (text "accepted" ∷ [])
-line_text (Last (Refused r)) = line (text "ambiguous" ∷ three_fields r)
+line_text (Last (Ok done)) = line (text "accepted" ∷ [])
+line_text (Last (Err r)) = line (text "ambiguous" ∷ three_fields r)
 -- the only line of a refused file or picture: "refused", the number, its three numbers
-line_text (Stopped r) = line (text "refused" ∷ decimal r.number ∷ three_fields r)
+line_text (Stopped r) = line (text "refused" ∷ decimal (numbers_of r).number ∷ three_fields r)

@@ -10,7 +10,7 @@ use lib.Dec.{T, eqb, ltb, lt→ltb}
 use Rattle.base.specs.Search.{lowest}
 use Rattle.base.proofs.Tests.{T_and}
 use Rattle.tables.specs.Rows.{Picture, arrow_count, arrow_at}
-use Rattle.tables.specs.Refusals.{no_order}
+use Rattle.tables.specs.declared.Refusal.TheVariants.{NoOrder}
 use Rattle.meaning.specs.Meaning.{positive, negative, has_mode, reaches, answer, is_granted, is_unclear}
 use Rattle.meaning.specs.Pairs.{user_at, file_at, answer_at}
 use Rattle.meaning.specs.Steps.{first_pair}
@@ -79,6 +79,6 @@ module _ (pic : Picture) where
     pub order-rows : order_fault pic m
         ≡ first_pair pic
         (λ u f. is_granted (answer pic m u f) && not (any_of (λ k. reaches pic (arrow_at pic.arrows k) u f) (greedy pic m)))
-        (no_order m)
+        (NoOrder m)
     unfolding order_fault left_by granted reached meets
     order-rows = simp (first_pair-places, answer_at_lem)

@@ -3,14 +3,14 @@
 use mathlib.Core.Path.{◌≡◌, refl, sym, ap, subst, ◌∙◌}
 use mathlib.Core.Logic.{◌↔◌}
 use mathlib.Core.List.{List}
-use mathlib.Core.Option.{Option, none, some}
+use Rattle.std.specs.Prelude.{Option, None as none, Some as some}
 use Prim.Native.Nat.{ℕ, ◌<◌, ◌≤◌}
 use native.Mathlib.Omega.{arith}
 use lib.Dec.{T}
 use lib.ListN.{length, get_or}
 use Rattle.tables.specs.Rows.{Picture}
 use Rattle.base.specs.Buffers.{written}
-use Rattle.tables.specs.Refusals.{no_order}
+use Rattle.tables.specs.declared.Refusal.TheVariants.{NoOrder}
 use Rattle.tables.specs.declared.Refusal.{Refusal}
 use Rattle.meaning.specs.Meaning.{mode_arrows, answer, is_granted}
 use Rattle.meaning.specs.Pairs.{pairs, user_at, file_at}
@@ -20,8 +20,7 @@ use Rattle.list_meaning.specs.Greedy.{greedy, order_fault}
 use Rattle.list_meaning.specs.Calls.{list_early, list_before, list_answer, list_after, work_after}
 use Rattle.list_meaning.specs.Condition.{Pair, Reaches, Honest, ReachesAll, SomeReachesAll}
 use Rattle.list_meaning.specs.Condition.{FirstUnreached, WrittenList, Condition3}
-use Rattle.list_meaning.specs.declared.Listed.{Listed}
-use Rattle.list_meaning.specs.declared.Listed.TheVariants.{Written, Refused}
+use Rattle.std.specs.Prelude.{Result, Ok, Err}
 use Rattle.tables.proofs.TableLaws.{both-none}
 use Rattle.base.proofs.Tests.{and_T}
 use Rattle.base.proofs.SearchLaws.{some-none}
@@ -127,8 +126,8 @@ module _ (pic : Picture) (m : ℕ) where
         beyond = λ p g. rw w (written-rest l out p g);
       }
 
-pub not-both : {r : Listed} {n : ℕ} {x : Refusal} → r ≡ Written n → r ≡ Refused x → ⊥
-not-both e i = let z : ◌≡◌ {A = ℕ} 0 1 = cc in omega arith
+pub not-both : {r : Result ℕ Refusal} {n : ℕ} {x : Refusal} → r ≡ Ok n → r ≡ Err x → ⊥
+not-both e i = cc
 
 -- the third condition of acceptance holds of what the call answers and leaves, wherever checks 1 to 12 find no fault
 module _ (pic : Picture) (m : ℕ) (s out work : List ℕ) where
@@ -169,9 +168,9 @@ module _ (pic : Picture) (m : ℕ) (s out work : List ℕ) where
           record {
             writes = (λ z. absurd (not-both z.1 (sym a.0)), λ l. absurd (no-list l));
             written-list = λ n i. absurd (not-both i (sym a.0));
-            no-order = (λ z. no-list, λ n. (pair.0, pair.1, sym a.0 ∙ ap Refused pair.2));
+            no-order = (λ z. no-list, λ n. (pair.0, pair.1, sym a.0 ∙ ap Err pair.2));
             names = λ u f i.
-                let k : x ≡ no_order m u f = cc a.0 in
+                let k : x ≡ NoOrder m u f = cc a.0 in
                 missed-pair pic m u f ((order-missed pic m u f).0 (e ∙ ap some k));
             blanked = λ u f i. sym a.1;
             work-after = refl;

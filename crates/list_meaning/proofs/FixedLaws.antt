@@ -5,7 +5,7 @@ use mathlib.Core.Path.{◌≡◌, refl, sym, ap, ◌∙◌}
 use mathlib.Core.Logic.{◌↔◌, ⊎_elim}
 use mathlib.Core.Bool.{Bool}
 use mathlib.Core.List.{List, [], ◌∷◌, ◌++◌}
-use mathlib.Core.Option.{Option, none, some}
+use Rattle.std.specs.Prelude.{Option, None as none, Some as some}
 use Prim.Native.Nat.{ℕ, zero, suc, ◌<◌, ◌≤◌}
 use native.Mathlib.Numerals.{add-one}
 use native.Mathlib.Omega.{arith}
@@ -21,8 +21,7 @@ use Rattle.list_meaning.specs.Greedy.{next, addable, list_to, greedy, order_faul
 use Rattle.list_meaning.specs.Condition.{Reaches}
 use Rattle.list_meaning.specs.Calls.{list_before, list_answer, list_after}
 use Rattle.list_meaning.specs.Fixed.{CanFollow, Lowest, FixedOrder}
-use Rattle.list_meaning.specs.declared.Listed.{Listed}
-use Rattle.list_meaning.specs.declared.Listed.TheVariants.{Written}
+use Rattle.std.specs.Prelude.{Result, Ok}
 use Rattle.base.proofs.Tests.{or-T}
 use Rattle.base.proofs.SearchLaws.{below_suc}
 use Rattle.base.proofs.PartLaws.{part-is}
@@ -155,17 +154,17 @@ module _ (pic : Picture) (m : ℕ) where
   -- ---- the list that a call writes
 
   -- what a call answers and leaves in the list places, by what it was lent
-  abbrev answer_to : List ℕ → List ℕ → List ℕ → Listed
+  abbrev answer_to : List ℕ → List ℕ → List ℕ → Result ℕ Refusal
   answer_to s out work = list_answer pic m (list_before pic m s out work)
 
   abbrev places_after : List ℕ → List ℕ → List ℕ → List ℕ
   places_after s out work = list_after pic m (list_before pic m s out work) out
 
   written-greedy : (s out work : List ℕ) → list_before pic m s out work ≡ none
-      → (n : ℕ) → answer_to s out work ≡ Written n → take n (places_after s out work) ≡ greedy pic m
+      → (n : ℕ) → answer_to s out work ≡ Ok n → take n (places_after s out work) ≡ greedy pic m
   written-greedy s out work passed n i = rw passed (go (order_fault pic m) refl (rw passed at i))
     where
-      go : (x : Option Refusal) → order_fault pic m ≡ x → list_answer pic m none ≡ Written n
+      go : (x : Option Refusal) → order_fault pic m ≡ x → list_answer pic m none ≡ Ok n
           → take n (list_after pic m none out) ≡ greedy pic m
       go none e w =
           let a = answered-list pic m e out in
@@ -175,14 +174,14 @@ module _ (pic : Picture) (m : ℕ) where
 
   -- wherever a list is written, it is the one in the fixed order
   pub fixed-list : (s out work : List ℕ) → list_before pic m s out work ≡ none
-      → (n : ℕ) → answer_to s out work ≡ Written n → FixedOrder pic m (take n (places_after s out work))
+      → (n : ℕ) → answer_to s out work ≡ Ok n → FixedOrder pic m (take n (places_after s out work))
   fixed-list s out work passed n i = rw (written-greedy s out work passed n i) greedy-fixed
 
   -- two calls that pass checks 1 to 12 answer the same and write the same list, whatever each was lent
   pub same-list : (s out work s' out' work' : List ℕ)
       → list_before pic m s out work ≡ none → list_before pic m s' out' work' ≡ none
       → (answer_to s out work ≡ answer_to s' out' work')
-      × ((n : ℕ) → answer_to s out work ≡ Written n → take n (places_after s out work) ≡ take n (places_after s' out' work'))
+      × ((n : ℕ) → answer_to s out work ≡ Ok n → take n (places_after s out work) ≡ take n (places_after s' out' work'))
   same-list s out work s' out' work' p q =
       let same : answer_to s out work ≡ answer_to s' out' work' = rw (p, q) in
       (same, λ n i. written-greedy s out work p n i ∙ sym (written-greedy s' out' work' q n (sym same ∙ i)))

@@ -1,15 +1,15 @@
 -- The third condition, over places: the list that is written qualifies, there is one exactly when some honest list reaches every
 -- granted pair, and refusal 13 names the first granted pair that no honest list whatever reaches. Assumes nothing.
-use mathlib.Core.Path.{◌≡◌, sym, ap}
+use mathlib.Core.Path.{◌≡◌, sym}
 use mathlib.Core.Logic.{◌↔◌}
 use mathlib.Core.Bool.{Bool, not, ◌&&◌, ◌||◌}
 use mathlib.Core.List.{List}
-use mathlib.Core.Option.{none, some}
+use Rattle.std.specs.Prelude.{None as none, Some as some}
 use Prim.Native.Nat.{ℕ, ◌<◌}
 use native.Mathlib.Omega.{arith}
 use lib.Dec.{T, T_not, not_T}
 use Rattle.tables.specs.Rows.{Picture}
-use Rattle.tables.specs.Refusals.{no_order}
+use Rattle.tables.specs.declared.Refusal.TheVariants.{NoOrder}
 use Rattle.tables.specs.declared.Refusal.{Refusal}
 use Rattle.meaning.specs.Pairs.{pairs, user_at, file_at}
 use Rattle.list_meaning.specs.Order.{meets, reached, granted, right, honest, covers_all, qualifies, FirstMissed, distinct}
@@ -29,7 +29,7 @@ module _ (pic : Picture) (m : ℕ) where
   left l p = granted pic m p && not (reached pic l p)
 
   abbrev place : ℕ → Refusal
-  place p = no_order m (user_at pic p) (file_at pic p)
+  place p = NoOrder m (user_at pic p) (file_at pic p)
 
   abbrev best : List ℕ
   best = greedy pic m
@@ -95,28 +95,28 @@ module _ (pic : Picture) (m : ℕ) where
   )
 
   -- it names a pair in the mode
-  pub order-some : (x : Refusal) → order_fault pic m ≡ some x → (u f : ℕ) × (x ≡ no_order m u f)
+  pub order-some : (x : Refusal) → order_fault pic m ≡ some x → (u f : ℕ) × (x ≡ NoOrder m u f)
   unfolding order_fault left_by
   order-some x e =
       let w = first_some _ (pairs pic) x e in
       (user_at pic w.0, file_at pic w.0, sym (given-some (left best w.0) (place w.0) x w.2).1)
 
   -- it names a pair exactly when that is the first granted pair that no honest list whatever reaches
-  pub order-missed : (u f : ℕ) → (order_fault pic m ≡ some (no_order m u f)) ↔ FirstMissed pic m u f
+  pub order-missed : (u f : ℕ) → (order_fault pic m ≡ some (NoOrder m u f)) ↔ FirstMissed pic m u f
   unfolding order_fault left_by
   order-missed u f = (named, names)
     where
-      named : left_by pic m best ≡ some (no_order m u f) → FirstMissed pic m u f
+      named : left_by pic m best ≡ some (NoOrder m u f) → FirstMissed pic m u f
       named e =
-          let w = first_some _ (pairs pic) (no_order m u f) e in
+          let w = first_some _ (pairs pic) (NoOrder m u f) e in
           let p = w.0 in
-          let s = given-some (left best p) (place p) (no_order m u f) w.2 in
+          let s = given-some (left best p) (place p) (NoOrder m u f) w.2 in
           let d = and_T (granted pic m p) _ s.0 in
           record {
             place = p;
             there = w.1;
-            user-is = ap (λ (r : Refusal). r.second) s.1;
-            file-is = ap (λ (r : Refusal). r.third) s.1;
+            user-is = cc s.1;
+            file-is = cc s.1;
             is-granted = d.0;
             missed = λ l h r. T_not (reached pic best p) d.1 (most l h p w.1 r);
             before = λ q l g. (
@@ -126,9 +126,9 @@ module _ (pic : Picture) (m : ℕ) where
             );
           }
 
-      names : FirstMissed pic m u f → left_by pic m best ≡ some (no_order m u f)
+      names : FirstMissed pic m u f → left_by pic m best ≡ some (NoOrder m u f)
       names w =
-          first-is _ (pairs pic) (no_order m u f) (
+          first-is _ (pairs pic) (NoOrder m u f) (
             w.place,
             w.there,
             rw (← w.user-is, ← w.file-is)

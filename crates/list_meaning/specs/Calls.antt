@@ -1,6 +1,6 @@
 -- The call for the list of a mode, whole: which refusal, which answer, and what the lent places hold at the end. Assumes nothing.
-use Rattle.std.specs.Prelude.{List, ℕ, length}
-use Rattle.std.proofs.Math.Option.{Option}
+use Rattle.std.specs.Prelude.{List, ℕ, length, Result}
+use Rattle.std.specs.Prelude.{Option}
 use Rattle.tables.specs.Rows.{Picture}
 use Rattle.base.specs.Search.{or_else}
 use Rattle.base.specs.Buffers.{zeros}
@@ -12,7 +12,6 @@ use Rattle.meaning.specs.Pairs.{pairs, unclear_fault}
 use Rattle.scratch.specs.Scratch.{mode_early}
 use Rattle.list_meaning.specs.Lists.{list_room}
 use Rattle.list_meaning.specs.Greedy.{order_fault, listed_of, places_of}
-use Rattle.list_meaning.specs.declared.Listed.{Listed}
 
 module _ (pic : Picture) (m : ℕ) where
   -- checks 1 to 9, by the scratch, the list and the work bytes as they were lent
@@ -25,7 +24,7 @@ module _ (pic : Picture) (m : ℕ) where
   list_before s out work = or_else (list_early s out work) (or_else (loop_fault pic.boxes pic.rows) (unclear_fault pic m))
 
   -- the answer, and the list places and work bytes at the end, by the fault of checks 1 to 12, if any: that leaves both as they were
-  unfoldable pub list_answer : (fault : Option Refusal) → Listed
+  unfoldable pub list_answer : (fault : Option Refusal) → Result ℕ Refusal
   list_answer fault = listed_of pic m (or_else fault (order_fault pic m))
 
   unfoldable pub list_after : (fault : Option Refusal) (out : List ℕ) → List ℕ

@@ -1,16 +1,15 @@
 -- The third condition of acceptance, of one call for a list, with document 01's words on it: `third-condition`
 -- (proofs/ConditionLaws.antt) says that every call that passes checks 1 to 12 meets it. A pair is given by the numbers of its boxes.
 -- Assumes nothing.
-use Rattle.std.specs.Prelude.{◌≡◌, ◌↔◌, Bool, List, ℕ, ◌<◌, ◌≤◌, T, length, get_or, take, replicate}
+use Rattle.std.specs.Prelude.{◌≡◌, ◌↔◌, Bool, List, ℕ, ◌<◌, ◌≤◌, T, length, get_or, take, replicate, Result, Ok, Err}
 use Rattle.base.specs.Buffers.{written, zeros}
 use Rattle.tables.specs.Rows.{Picture, user, file, no_arrow, arrow_at}
 use Rattle.tables.specs.Atoms.{atom}
-use Rattle.tables.specs.Refusals.{no_order}
+use Rattle.tables.specs.declared.Refusal.TheVariants.{NoOrder}
 use Rattle.meaning.specs.Meaning.{reaches, answer, is_granted}
 use Rattle.meaning.specs.Pairs.{Before, pairs}
 use Rattle.list_meaning.specs.Lists.{gives, of_mode, list_room}
-use Rattle.list_meaning.specs.declared.Listed.{Listed}
-use Rattle.list_meaning.specs.declared.Listed.TheVariants.{Written, Refused}
+use Rattle.tables.specs.declared.Refusal.{Refusal}
 
 module _ (pic : Picture) where
   -- (u, f) is a pair: an atomic user and an atomic file
@@ -70,13 +69,13 @@ module _ (pic : Picture) where
       pub beyond : (p : ℕ) → n ≤ p → get_or out' p 0 ≡ get_or out p 0
 
     -- the call's answer r, and the list places and work bytes before and after
-    pub record Condition3 (out work : List ℕ) (r : Listed) (out' work' : List ℕ) : Type 0 where
+    pub record Condition3 (out work : List ℕ) (r : Result ℕ Refusal) (out' work' : List ℕ) : Type 0 where
       -- a list is written exactly when some honest list reaches every granted pair of the mode
-      pub writes : ((n : ℕ) × (r ≡ Written n)) ↔ SomeReachesAll
-      pub written-list : (n : ℕ) → r ≡ Written n → WrittenList n out out'
+      pub writes : ((n : ℕ) × (r ≡ Ok n)) ↔ SomeReachesAll
+      pub written-list : (n : ℕ) → r ≡ Ok n → WrittenList n out out'
       -- exactly when no honest list reaches them all, the answer is "no order", 13, and it names that first pair
-      pub no-order : ((u f : ℕ) × (r ≡ Refused (no_order m u f))) ↔ (SomeReachesAll → ⊥)
-      pub names : (u f : ℕ) → r ≡ Refused (no_order m u f) → FirstUnreached u f
+      pub no-order : ((u f : ℕ) × (r ≡ Err (NoOrder m u f))) ↔ (SomeReachesAll → ⊥)
+      pub names : (u f : ℕ) → r ≡ Err (NoOrder m u f) → FirstUnreached u f
       -- 13 sets the needed list places to 65,535, and the needed work bytes are 0 after both
-      pub blanked : (u f : ℕ) → r ≡ Refused (no_order m u f) → out' ≡ written (replicate (list_room pic m) no_arrow) out
+      pub blanked : (u f : ℕ) → r ≡ Err (NoOrder m u f) → out' ≡ written (replicate (list_room pic m) no_arrow) out
       pub work-after : work' ≡ written (zeros (pairs pic)) work

@@ -1,17 +1,15 @@
 -- The list that is written (document 02, P3), refusal 13, and what is answered and written by it, as definitions that compute:
 -- `fixed-order` (proofs/FixedLaws.antt) says that this is the list of specs/Fixed.antt, and `third-condition` (proofs/ConditionLaws.antt)
 -- that what is answered and written is that of specs/Condition.antt. Assumes nothing.
-use Rattle.std.specs.Prelude.{Bool, not, ◌&&◌, List, [], ◌∷◌, ◌++◌, ℕ, zero, suc, length, replicate}
-use Rattle.std.proofs.Math.Option.{Option, none, some}
+use Rattle.std.specs.Prelude.{Bool, not, ◌&&◌, List, [], ◌∷◌, ◌++◌, ℕ, zero, suc, length, replicate, Result, Ok, Err}
+use Rattle.std.specs.Prelude.{Option, None as none, Some as some}
 use Rattle.base.specs.Search.{implies, first, given, every, lowest}
 use Rattle.tables.specs.Rows.{Picture, no_arrow, arrow_count}
-use Rattle.tables.specs.Refusals.{no_order}
+use Rattle.tables.specs.declared.Refusal.TheVariants.{NoOrder}
 use Rattle.tables.specs.declared.Refusal.{Refusal}
 use Rattle.meaning.specs.Pairs.{pairs, user_at, file_at}
 use Rattle.list_meaning.specs.Order.{meets, reached, granted, right}
 use Rattle.list_meaning.specs.Lists.{of_mode, list_room}
-use Rattle.list_meaning.specs.declared.Listed.{Listed}
-use Rattle.list_meaning.specs.declared.Listed.TheVariants.{Written, Refused}
 
 -- the list with this arrow at its end, if there is one
 unfoldable pub followed : (l : List ℕ) (next : Option ℕ) → List ℕ
@@ -48,7 +46,7 @@ module _ (pic : Picture) where
     -- the first granted pair that a list does not reach
     unfoldable pub left_by : (l : List ℕ) → Option Refusal
     left_by l =
-        first (λ p. given (granted pic m p && not (reached pic l p)) (no_order m (user_at pic p) (file_at pic p)))
+        first (λ p. given (granted pic m p && not (reached pic l p)) (NoOrder m (user_at pic p) (file_at pic p)))
         (pairs pic)
 
     -- 13: no honest list reaches every granted pair
@@ -56,9 +54,9 @@ module _ (pic : Picture) where
     order_fault = left_by greedy
 
     -- the answer, by the fault of the whole call, if any: how many places the list takes
-    unfoldable pub listed_of : (fault : Option Refusal) → Listed
-    listed_of none = Written (length greedy)
-    listed_of (some r) = Refused r
+    unfoldable pub listed_of : (fault : Option Refusal) → Result ℕ Refusal
+    listed_of none = Ok (length greedy)
+    listed_of (some r) = Err r
 
     -- what goes into the list places once checks 1 to 12 have passed, by the fault of 13, if any: the list, or 65,535 in each needed place
     unfoldable pub places_of : (fault : Option Refusal) → List ℕ

@@ -1,7 +1,7 @@
 -- The third condition as tests that compute: a pair is given by its place in the matrix (`meaning`, specs/Pairs.antt). What they say is
 -- specs/Condition.antt, by `third-condition` (proofs/ConditionLaws.antt). Assumes nothing.
 use Rattle.std.specs.Prelude.{◌≡◌, Bool, true, false, not, cond, ◌&&◌, ◌||◌, List, [], ◌∷◌, ℕ, ◌<◌, T, eqb}
-use Rattle.std.proofs.Math.Option.{Option, none, some}
+use Rattle.std.specs.Prelude.{Option, None as none, Some as some}
 use Rattle.base.specs.Search.{implies, every}
 use Rattle.tables.specs.Rows.{Picture, arrow_at}
 use Rattle.meaning.specs.Meaning.{reaches, is_granted}

@@ -1,12 +1,2 @@
 // What a list of a mode is (document 01, "What may be asked"; document 02, P3), and what the call for one answers and leaves.
 #![tactic(auto)]
-
-use tables::Refusal;
-
-// What the call for a list answers.
-#[derive(Clone, Copy)]
-pub enum Listed {
-    // So many places of the list are written.
-    Written(usize),
-    Refused(Refusal),
-}

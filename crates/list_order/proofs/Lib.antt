@@ -1,6 +1,6 @@
 -- Laws for the proofs of this crate.
 pub mod TakeLaws
-pub mod FreeLaws
+pub mod MarkLaws
 pub mod GrowLaws
 pub mod OwnLaws
 pub mod TurnLaws

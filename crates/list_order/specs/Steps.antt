@@ -1,6 +1,6 @@
 -- What the functions ask of and promise each other: how the list is found. Assumes nothing.
-use Rattle.std.specs.Prelude.{◌≡◌, Bool, not, ◌&&◌, List, ℕ, ◌<◌, ◌≤◌, length, get_or}
-use Rattle.std.proofs.Math.Option.{none}
+use Rattle.std.specs.Prelude.{◌≡◌, Bool, true, false, not, ◌&&◌, List, ℕ, ◌<◌, ◌≤◌, length, get_or}
+use Rattle.std.specs.Prelude.{None as none}
 use Rattle.base.specs.Buffers.{written}
 use Rattle.tables.specs.Rows.{Picture, arrow_at}
 use Rattle.boxsets.specs.Sets.{is_in, has}
@@ -16,9 +16,9 @@ use Rattle.list_standing.specs.declared.Standing.TheVariants.{Spent, Free}
 -- ---- by sets alone
 
 -- a place that is marked is that of a spent arrow
-abbrev pub Done : (closure arrows own left granted done : List ℕ) → Type 0
+abbrev pub Done : (closure arrows own left granted : List ℕ) (done : List Bool) → Type 0
 Done closure arrows own left granted done =
-    (i : ℕ) → i < length own → (get_or done i 0 ≡ 0 → ⊥) → standing_by closure left granted (arrow_at arrows (get_or own i 0)) ≡ Spent
+    (i : ℕ) → i < length own → get_or done i false ≡ true → standing_by closure left granted (arrow_at arrows (get_or own i 0)) ≡ Spent
 
 -- the places before `from` are those of spent arrows
 abbrev pub SpentBefore : (closure arrows own left granted : List ℕ) (from : ℕ) → Type 0
@@ -26,14 +26,19 @@ SpentBefore closure arrows own left granted from =
     (i : ℕ) → i < from → standing_by closure left granted (arrow_at arrows (get_or own i 0)) ≡ Spent
 
 -- the places from `from` on are marked up to r
-abbrev pub MarkedTo : (done : List ℕ) (from r : ℕ) → Type 0
-MarkedTo done from r = (i : ℕ) → from ≤ i → i < r → get_or done i 0 ≡ 0 → ⊥
+abbrev pub MarkedTo : (done : List Bool) (from r : ℕ) → Type 0
+MarkedTo done from r = (i : ℕ) → from ≤ i → i < r → get_or done i false ≡ true
 
--- r is the first place whose arrow is free, or the number of places
+-- no place before r is that of a free arrow
+abbrev pub NoneFree : (closure arrows own left granted : List ℕ) (r : ℕ) → Type 0
+NoneFree closure arrows own left granted r =
+    (i : ℕ) → i < r → standing_by closure left granted (arrow_at arrows (get_or own i 0)) ≡ Free → ⊥
+
+-- r is the first place whose arrow is free
 pub record NextFree (closure arrows own left granted : List ℕ) (r : ℕ) : Type 0 where
-  pub at_most : r ≤ length own
-  pub none_before : (i : ℕ) → i < r → standing_by closure left granted (arrow_at arrows (get_or own i 0)) ≡ Free → ⊥
-  pub holds : r < length own → standing_by closure left granted (arrow_at arrows (get_or own r 0)) ≡ Free
+  pub there : r < length own
+  pub none_before : NoneFree closure arrows own left granted r
+  pub holds : standing_by closure left granted (arrow_at arrows (get_or own r 0)) ≡ Free
 
 -- the files were taken from what each of the users has left
 pub record Takes (users : ℕ → Bool) (files : Set) (left left' : List ℕ) : Type 0 where

@@ -16,14 +16,14 @@ use Rattle.base.proofs.AnyLaws.{any-zero, any-more, any_found, any-is}
 use Rattle.base.proofs.BufferLaws.{zeros-length}
 use Rattle.tables.specs.Rows.{Picture, user, file}
 use Rattle.tables.specs.Atoms.{atom, atoms}
-use Rattle.tables.specs.Refusals.{no_order, refusal, verdict_of}
-use Rattle.tables.specs.declared.Verdict.TheVariants.{Passed, Refused}
+use Rattle.tables.specs.Refusals.{verdict_of}
+use Rattle.tables.specs.declared.Refusal.TheVariants.{NoOrder}
+use Rattle.std.specs.Prelude.{Ok, Err}
 use Rattle.tables.proofs.AtomPlaces.{atoms-found, atoms-has, atom-there}
 use Rattle.boxsets.specs.Sets.{is_in, low, has, set_at, Put, table_words}
 use Rattle.boxsets.specs.declared.Set.{Set}
 use Rattle.boxsets.proofs.TableLaws.{has_in, put-hit, put-miss, zeros-has}
-use Rattle.boxsets.proofs.LowLaws.{low-least}
-use Rattle.boxsets.proofs.WalkLaws.{empty-none, some-low}
+use Rattle.boxsets.proofs.LowLaws.{low-in, low-least, none_in}
 use Rattle.meaning.specs.Pairs.{users}
 use Rattle.meaning.proofs.RowPairs.{RowsClear, rows-found, rows_end}
 use Rattle.user_rows.specs.Steps.{Ready}
@@ -118,10 +118,10 @@ module _ {pic : Picture} {closure arrows us : List ℕ} {files : Set} {left gran
       false-not _ (sym (missed-is j (omega arith) g) ∙ s.none j l g)
       (T_and (atom pic.boxes pic.rows file g) (missed pic m (get_or (users pic) j 0) g) a t)
 
-  pub missed-none : i ≡ length us → Passed ≡ verdict_of (order_fault pic m)
+  pub missed-none : i ≡ length us → Ok tt ≡ verdict_of (order_fault pic m)
   missed-none e =
       rw (order-rows pic m)
-      (sym (ap verdict_of (rows_end pic (missed pic m) (no_order m) (rw (e, ready.users-are) at (rows-clear (omega arith))))))
+      (sym (ap verdict_of (rows_end pic (missed pic m) (NoOrder m) (rw (e, ready.users-are) at (rows-clear (omega arith))))))
 
 -- the user at place i, and the set of her files that are both left and granted
 module _ {us left granted : List ℕ} {i u : ℕ} {a b : Set} (s : NoneMissed us left granted i) (is : u ≡ get_or us i 0) (of_left : a ≡ set_at left u)
@@ -129,19 +129,19 @@ module _ {us left granted : List ℕ} {i u : ℕ} {a b : Set} (s : NoneMissed us
   missed-in : (f : ℕ) → is_in x f ≡ (has left (get_or us i 0) f && has granted (get_or us i 0) f)
   missed-in f = both f ∙ rw (of_left, of-granted, is) (simp has_in)
 
-  pub missed_more : eqb (low x) 256 ≡ true → NoneMissed us left granted (i + 1)
+  pub missed_more : low x ≡ 256 → NoneMissed us left granted (i + 1)
   missed_more e = record {
-    none = below_more (λ j. (f : ℕ) → (has left (get_or us j 0) f && has granted (get_or us j 0) f) ≡ false) i s.none (λ f. sym (missed-in f) ∙ empty-none x e f);
+    none = below_more (λ j. (f : ℕ) → (has left (get_or us j 0) f && has granted (get_or us j 0) f) ≡ false) i s.none (λ f. sym (missed-in f) ∙ none_in x e f);
   }
 
   pub missed-found : {pic : Picture} {closure arrows : List ℕ} {files : Set} (m : ℕ) → Ready pic closure arrows us files
-      → Table pic (granted_to pic m) granted → Table pic (unreached pic (greedy pic m)) left → i < length us → eqb (low x) 256 ≡ false
-      → Refused (refusal 13 m u (low x)) ≡ verdict_of (order_fault pic m)
-  missed-found {pic} m ready tg tl l e =
+      → Table pic (granted_to pic m) granted → Table pic (unreached pic (greedy pic m)) left → i < length us → {f : ℕ} → f < 256 → f ≡ low x
+      → Err (NoOrder m u f) ≡ verdict_of (order_fault pic m)
+  missed-found {pic} m ready tg tl l few e =
       let in_row : (f : ℕ) → is_in x f ≡ (atom pic.boxes pic.rows file f && missed pic m (get_or (users pic) i 0) f)
       = λ f. missed-in f ∙ missed-is m ready tg tl s i l f in
-      let pair = and_T (atom pic.boxes pic.rows file (low x)) (missed pic m (get_or (users pic) i 0) (low x)) (rw (in_row (low x)) at (some-low x e).1) in
-      rw (order-rows pic m, is, ready.users-are)
+      let pair = and_T (atom pic.boxes pic.rows file (low x)) (missed pic m (get_or (users pic) i 0) (low x)) (rw (in_row (low x)) at (low-in x (rw e at few))) in
+      rw (order-rows pic m, e, is, ready.users-are)
       (sym (ap verdict_of
-      (rows-found pic (missed pic m) (no_order m) i (rw ready.users-are at l) (rows-clear m ready tg tl s (omega arith)) (low x) pair.0 pair.1
+      (rows-found pic (missed pic m) (NoOrder m) i (rw ready.users-are at l) (rows-clear m ready tg tl s (omega arith)) (low x) pair.0 pair.1
       (λ g b a t. low-least x g b (rw (in_row g) (T_and (atom pic.boxes pic.rows file g) (missed pic m (get_or (users pic) i 0) g) a t))))))

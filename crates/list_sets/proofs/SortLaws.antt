@@ -1,8 +1,10 @@
 -- Check 12 and the granted files, user by user. Assumes nothing.
 use mathlib.Core.Path.{◌≡◌, sym, ap, ◌∙◌}
-use mathlib.Core.Bool.{Bool, true, false, ◌&&◌}
+use mathlib.Core.Bool.{Bool, true, ◌&&◌}
 use mathlib.Core.List.{List}
 use Prim.Native.Nat.{ℕ, ◌+◌, ◌<◌}
+use native.Mathlib.Omega.{arith}
+use borrow.Author.Tests.{eq-eqb, ne_eqb}
 use lib.Dec.{eqb}
 use lib.ListN.{length, get_or}
 use Rattle.base.specs.Buffers.{zeros}
@@ -11,8 +13,9 @@ use Rattle.base.proofs.SearchLaws.{some-none}
 use Rattle.base.proofs.Tests.{T-eqb, T_true}
 use Rattle.tables.specs.Rows.{Picture, user, file}
 use Rattle.tables.specs.Atoms.{atom}
-use Rattle.tables.specs.Refusals.{refusal, verdict_of}
-use Rattle.tables.specs.declared.Verdict.TheVariants.{Passed, Refused}
+use Rattle.tables.specs.Refusals.{verdict_of}
+use Rattle.std.specs.Prelude.{Ok, Err}
+use Rattle.tables.specs.declared.Refusal.TheVariants.{UnclearPair}
 use Rattle.tables.proofs.Verdicts.{refused}
 use Rattle.boxsets.specs.Sets.{is_in, low, set_at, Put, table_words}
 use Rattle.boxsets.specs.declared.Set.{Set}
@@ -47,16 +50,16 @@ module _ {pic : Picture} {m : ℕ} {closure arrows us : List ℕ} {files : Set} 
     at : (u ≡ get_or (users pic) i 0) × (i < length (users pic)) × (u < length pic.boxes)
     at = listed_at pic.boxes pic.rows user us ready.users-are i u l is
 
-    pub sorting-more : {granted' : List ℕ} → eqb (low row.unclear) 256 ≡ true → Put granted u row.granted granted'
+    pub sorting-more : {granted' : List ℕ} → low row.unclear ≡ 256 → Put granted u row.granted granted'
         → Sorting pic m us (i + 1) granted'
     sorting-more e put = record {
-      clear = clear-more pic m i u files row at.0 ready.files-are (sorts at.2) s.clear e;
+      clear = clear-more pic m i u files row at.0 ready.files-are (sorts at.2) s.clear (eq-eqb _ 256 e);
       filled = filled_more is (λ f. (sorts at.2).granted-are f ∙ rw (ready.files-are f)) put s.filled;
     }
 
-    pub sorting-found : {f : ℕ} → f ≡ low row.unclear → eqb (low row.unclear) 256 ≡ false → Check12 pic m (Refused (refusal 12 m u f)) granted
-    sorting-found {f} e n =
-        let found = clear-found pic m i u files row at.0 ready.files-are (sorts at.2) s.clear f at.1 e n in
+    pub sorting-found : {f : ℕ} → f < 256 → f ≡ low row.unclear → Check12 pic m (Err (UnclearPair m u f)) granted
+    sorting-found {f} few e =
+        let found = clear-found pic m i u files row at.0 ready.files-are (sorts at.2) s.clear f at.1 e (ne_eqb _ 256 (λ z. omega arith)) in
         record { said = found; says = λ z. absurd (some-none (sym (refused (unclear_fault pic m) _ (sym found)) ∙ z)) }
 
   -- the user at place j before has the same answers, and so the same granted files
@@ -70,7 +73,7 @@ module _ {pic : Picture} {m : ℕ} {closure arrows us : List ℕ} {files : Set} 
       known : one_of us i v ≡ true
       known = T_true (one_of us i v) (any-is (λ k. eqb (get_or us k 0) v) i j l (T-eqb (sym was)))
 
-  pub sorting-end : i ≡ length us → Check12 pic m Passed granted
+  pub sorting-end : i ≡ length us → Check12 pic m (Ok tt) granted
   sorting-end e = record {
     said = sym (ap verdict_of (clear-end pic m (rw (e, ready.users-are) at s.clear)));
     says = λ z. filled-all pic us (granted_to pic m) granted ready.users-are (rw e at s.filled);

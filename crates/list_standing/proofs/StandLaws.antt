@@ -3,7 +3,6 @@ use mathlib.Core.Path.{◌≡◌, refl, ◌∙◌}
 use mathlib.Core.Bool.{Bool, true, false, not, cond, ◌&&◌}
 use mathlib.Core.List.{List}
 use Prim.Native.Nat.{ℕ}
-use native.Mathlib.Omega.{arith}
 use lib.Dec.{T, eqb}
 use Rattle.base.proofs.Tests.{and_T, not-false, false-not}
 use Rattle.tables.specs.declared.Arrow.{Arrow}
@@ -11,9 +10,8 @@ use Rattle.boxsets.specs.Sets.{is_in, set_at, has}
 use Rattle.boxsets.specs.declared.Set.{Set}
 use Rattle.boxsets.proofs.WalkLaws.{in-below}
 use Rattle.meaning.specs.Meaning.{positive}
-use Rattle.list_standing.specs.Steps.{some_in, wrong_at, standing_of, standing_by, mark_of}
-use Rattle.list_standing.specs.declared.Standing.{Standing}
-use Rattle.list_standing.specs.declared.Standing.TheVariants.{Blocked, Spent, Free}
+use Rattle.list_standing.specs.Steps.{some_in, wrong_at, standing_of, standing_by}
+use Rattle.list_standing.specs.declared.Standing.TheVariants.{Spent, Free}
 use Rattle.list_standing.proofs.SomeLaws.{some-found, some_is}
 
 -- ---- how an arrow stands
@@ -51,20 +49,12 @@ module _ (users files : Set) (left granted : List ℕ) (sign : ℕ) where
           false-not new e
           (some_is files (has left) (is_in users) r.0 r.1 (in-below users r.0 r.2) r.2 r.3 (wrong-left left granted sign r.0 r.1 r.4))
 
-  pub stands-blocked : wrong ≡ true → Blocked ≡ standing_of wrong new
-  unfolding standing_of
-  stands-blocked e = rw e
-
-  pub stands-free : new ≡ true → wrong ≡ false → Free ≡ standing_of wrong new
-  unfolding standing_of
-  stands-free e i = rw (i, e)
-
 -- ---- what is spent stays so when less is left
 
 pub spent-new : (wrong new : Bool) → standing_of wrong new ≡ Spent → (T wrong → ⊥) × (T new → ⊥)
 unfolding standing_of
-spent-new true new e = let z : ◌≡◌ {A = ℕ} 0 1 = cc in absurd (omega arith)
-spent-new false true e = let z : ◌≡◌ {A = ℕ} 0 1 = cc in absurd (omega arith)
+spent-new true new e = cc
+spent-new false true e = cc
 spent-new false false e = (λ t. t, λ t. t)
 
 pub new-spent : (wrong new : Bool) → (T wrong → ⊥) → (T new → ⊥) → standing_of wrong new ≡ Spent
@@ -99,9 +89,9 @@ spent-stays closure granted left left' fewer a e =
 
 new-free : (wrong new : Bool) → standing_of wrong new ≡ Free → (wrong ≡ false) × (new ≡ true)
 unfolding standing_of
-new-free true new e = let z : ◌≡◌ {A = ℕ} 0 1 = cc in absurd (omega arith)
+new-free true new e = cc
 new-free false true e = (refl, refl)
-new-free false false e = let z : ◌≡◌ {A = ℕ} 0 1 = cc in absurd (omega arith)
+new-free false false e = cc
 
 module _ (closure left granted : List ℕ) (a : Arrow) where
   abbrev users : ℕ → Bool
@@ -120,21 +110,3 @@ module _ (closure left granted : List ℕ) (a : Arrow) where
   pub parts_free : some_in users files wrong_pair ≡ false → some_in users files (has left) ≡ true → standing_by closure left granted a ≡ Free
   unfolding standing_by standing_of wrong_at
   parts_free e i = rw (e, i)
-
--- ---- what a mark says
-
-pub mark-free : (s : Standing) → mark_of s ≡ 2 → s ≡ Free
-unfolding mark_of
-mark-free Blocked e = absurd (omega arith)
-mark-free Spent e = absurd (omega arith)
-mark-free Free e = refl
-
-pub mark-spent : (s : Standing) → (mark_of s ≡ 0 → ⊥) → (mark_of s ≡ 2 → ⊥) → s ≡ Spent
-unfolding mark_of
-mark-spent Blocked n m = absurd (n refl)
-mark-spent Spent n m = refl
-mark-spent Free n m = absurd (m refl)
-
-pub free-mark : (s : Standing) → s ≡ Free → mark_of s ≡ 2
-unfolding mark_of
-free-mark s e = rw e

@@ -28,9 +28,3 @@ unfoldable pub standing_by : (closure left granted : List ℕ) (a : Arrow) → S
 standing_by closure left granted a =
     standing_of (some_in (is_in (set_at closure a.tail)) (set_at closure a.head) (wrong_at left granted a.sign))
     (some_in (is_in (set_at closure a.tail)) (set_at closure a.head) (has left))
-
--- the mark of a place of the numbers: 1 if its arrow is spent, 2 if it is free
-unfoldable pub mark_of : (standing : Standing) → ℕ
-mark_of Blocked = 0
-mark_of Spent = 1
-mark_of Free = 2

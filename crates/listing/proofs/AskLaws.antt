@@ -6,8 +6,8 @@ use Prim.Native.Nat.{ℕ, ◌<◌, ◌≤◌}
 use native.Mathlib.Omega.{arith}
 use lib.Dec.{T}
 use lib.ListN.{length, get_or, take}
-use Rattle.base.specs.Buffers.{zeros}
-use Rattle.base.proofs.BufferLaws.{zeros-length}
+use Rattle.std.proofs.Common.{replicate}
+use Rattle.std.proofs.lemmas.List.{length-replicate}
 use Rattle.base.proofs.PartLaws.{Wrote, part-is, part_length, part-within}
 use Rattle.tables.specs.Rows.{Picture}
 use Rattle.meaning.specs.Meaning.{answer, is_granted, is_unclear, number_of}
@@ -22,11 +22,11 @@ use Rattle.user_rows.specs.Steps.{Sized, Moded, Sorts}
 use Rattle.user_rows.specs.declared.Row.{Row}
 use Rattle.containment.specs.Steps.{closure_words}
 
-module _ {arrows old own : List ℕ} {count : ℕ} (m : ℕ) (small : Small arrows) (room : old ≡ zeros 512)
+module _ {arrows old own : List ℕ} {count : ℕ} (m : ℕ) (small : Small arrows) (room : old ≡ replicate 512 0)
     (w : Wrote (own_arrows arrows m) old count own) where
   pub own-there : count ≤ length own
   own-there =
-      let n : length old ≡ 512 = ap length room ∙ zeros-length 512 in
+      let n : length old ≡ 512 = ap length room ∙ length-replicate {A = ℕ} 512 0 in
       part-within (own_arrows arrows m) old count own w (omega (arith, own-most arrows m, small.few))
 
   pub own-length : count ≡ length (take count own)

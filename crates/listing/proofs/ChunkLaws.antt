@@ -5,7 +5,7 @@ use Prim.Native.Nat.{ℕ, ◌+◌, ◌-◌, ◌*◌, ◌/◌, ◌%◌, ◌<◌, 
 use native.Mathlib.Omega.{arith}
 use lib.ListN.{length, get_or}
 use Rattle.tables.specs.Rows.{Picture}
-use Rattle.tables.specs.Steps.{either}
+use Rattle.std.specs.Result.{result_and}
 use Rattle.meaning.specs.Pairs.{files}
 use Rattle.blocks.proofs.JoinedLaws.{joined-none, joined-more}
 use Rattle.lines.specs.Steps.{Put}
@@ -13,7 +13,9 @@ use Rattle.lines.proofs.PutLaws.{put-none, put-more, at-start}
 use Rattle.listing.specs.PairRows.{row_text, line_rows, row_mode, row_user, rows_from}
 use Rattle.listing.specs.Steps.{Prepared, Stands, RowPut, Filled}
 use Rattle.listing.specs.declared.Place.{Place}
-use Rattle.listing.specs.declared.Told.{Told}
+use Rattle.std.specs.Prelude.{Result}
+use Rattle.tables.specs.declared.Refusal.{Refusal}
+use Rattle.lines.specs.declared.pen.Pen.{Pen}
 use Rattle.listing.proofs.StandLaws.{mode-is, stands-next}
 
 module _ (pic : Picture) (from : ℕ) where
@@ -40,23 +42,23 @@ module _ {pic : Picture} {old : List ℕ} where
       record { stands = s; onward = omega arith; put = rw (z, rows_none pic p.row) (put-none old (length old)); begun = λ h. refl }
 
   -- one row more, where there is room for it
-  module _ {closure arrows us fs : List ℕ} (d : Prepared pic closure arrows us fs) {from p : Place} {out : List ℕ} {at : ℕ}
-      (w : Filling pic from old out at p) (l : p.row < line_rows pic) {m u : ℕ} {new : List ℕ} {t : Told}
-      (em : m ≡ get_or p.modes (p.row / length us) 0) (eu : u ≡ get_or us (p.row % length us) 0) (r : RowPut pic m u fs out at new t) where
-    row_is : RowPut pic (row_mode pic p.row) (row_user pic p.row) (files pic) out at new t
+  module _ {closure arrows us fs : List ℕ} (d : Prepared pic closure arrows us fs) {from p : Place} {pen next : Pen}
+      (w : Filling pic from old pen.out.now pen.at p) (l : p.row < line_rows pic) {m u : ℕ} {told : Result Unit Refusal}
+      (em : m ≡ get_or p.modes (p.row / length us) 0) (eu : u ≡ get_or us (p.row % length us) 0) (r : RowPut pic m u fs pen next told) where
+    row_is : RowPut pic (row_mode pic p.row) (row_user pic p.row) (files pic) pen next told
     row_is =
         let e : m ≡ row_mode pic p.row = em ∙ mode-is d w.stands l in
         let f : u ≡ row_user pic p.row = eu ∙ rw d.users-are in
         rw (e, f, d.files-are) at r
 
-    pub filling-more : at + length fs * 111 ≤ length old
-        → Filling pic from old new t.next
-        (record { modes = p.modes; used = p.used; row = p.row + 1; seen = either p.seen t.unclear })
+    pub filling-more : pen.at + length fs * 111 ≤ length old
+        → Filling pic from old next.out.now next.at
+        (record { modes = p.modes; used = p.used; row = p.row + 1; seen = result_and p.seen told })
     filling-more room =
         let n : p.row + 1 - from.row ≡ p.row - from.row + 1 = omega (arith, w.onward) in
         let here : from.row + (p.row - from.row) ≡ p.row = omega (arith, w.onward) in
         record {
-          stands = stands-next d w.stands l t.unclear row_is.unclear-is;
+          stands = stands-next d w.stands l told row_is.unclear-is;
           onward = omega (arith, w.onward);
           put = rw (n, rows_more pic from.row (p.row - from.row), here) (put-more w.put row_is.put (rw d.files-are at room));
           begun = λ z. absurd (omega (arith, w.onward));

@@ -1,7 +1,7 @@
 -- The listing of what was read, by its parts. Assumes nothing.
 use mathlib.Core.Path.{◌≡◌, refl, sym, ◌∙◌}
 use mathlib.Core.List.{List, ◌++◌}
-use mathlib.Core.Option.{none}
+use Rattle.std.specs.Prelude.{None as none}
 use Prim.Native.Nat.{ℕ, ◌*◌}
 use lib.ListN.{length, take}
 use Rattle.base.specs.Buffers.{zeros}
@@ -10,8 +10,6 @@ use Rattle.base.proofs.PartLaws.{part-is}
 use Rattle.tables.specs.Rows.{Picture, picture, row_count, arrow_count}
 use Rattle.tables.specs.Refusals.{verdict_of}
 use Rattle.tables.specs.declared.Refusal.{Refusal}
-use Rattle.tables.specs.declared.Verdict.{Verdict}
-use Rattle.tables.specs.declared.Verdict.TheVariants.{Passed, Refused}
 use Rattle.tables.proofs.Verdicts.{passed, refused}
 use Rattle.scratch.specs.Scratch.{picture_fault}
 use Rattle.scratch.proofs.PictureLaws.{picture-room}
@@ -22,7 +20,7 @@ use Rattle.blocks.specs.Files.{picture_of}
 use Rattle.blocks.specs.Reads.{read_fault}
 use Rattle.blocks.specs.Steps.{ReadDone}
 use Rattle.blocks.specs.declared.Counts.{Counts as Three}
-use Rattle.blocks.specs.declared.Reading.TheVariants.{Tables, Refused as Stops}
+use Rattle.std.specs.Prelude.{Result, Ok, Err}
 use Rattle.blocks.proofs.Order.{read-lengths}
 use Rattle.blocks.proofs.Rooms.{read-stopped, read-tables}
 use Rattle.lines.specs.Text.{text}
@@ -50,16 +48,16 @@ unfolding counts_line
 counts-are boxes rows arrows = refl
 
 -- whether it is refused, with any scratch of so many bytes
-module _ (boxes rows arrows s : List ℕ) (len : 65536 ≡ length s) {v : Verdict}
+module _ (boxes rows arrows s : List ℕ) (len : 65536 ≡ length s) {v : Result Unit Refusal}
     (told : v ≡ verdict_of (picture_fault (picture boxes rows arrows) s)) where
   fault-room : picture_fault (picture boxes rows arrows) (zeros 65536) ≡ picture_fault (picture boxes rows arrows) s
   fault-room = picture-room boxes rows arrows (zeros 65536) s (zeros-length 65536 ∙ len)
 
-  pub picture-refused : (r : Refusal) → v ≡ Refused r → listing_of (picture boxes rows arrows) (zeros 65536) ≡ line_text (Stopped r)
+  pub picture-refused : (r : Refusal) → v ≡ Err r → listing_of (picture boxes rows arrows) (zeros 65536) ≡ line_text (Stopped r)
   unfolding listing_of refused_or
   picture-refused r e = rw (fault-room ∙ refused _ r (sym told ∙ e))
 
-  pub picture-good : v ≡ Passed → listing_of (picture boxes rows arrows) (zeros 65536) ≡ picture_listing (picture boxes rows arrows)
+  pub picture-good : v ≡ Ok tt → listing_of (picture boxes rows arrows) (zeros 65536) ≡ picture_listing (picture boxes rows arrows)
   unfolding listing_of refused_or
   picture-good e = rw (fault-room ∙ passed _ (sym told ∙ e))
 
@@ -72,11 +70,11 @@ module _ (file boxes rows arrows boxes_end rows_end arrows_end : List ℕ)
       read-lengths file (zeros 256) (zeros 2048) (zeros 2048) boxes rows arrows (zeros-length 256 ∙ nb) (zeros-length 2048 ∙ nr)
       (zeros-length 2048 ∙ na)
 
-  pub read-refused : {r : Refusal} → ReadDone file boxes rows arrows boxes_end rows_end arrows_end (Stops r) → file_listing file ≡ line_text (Stopped r)
+  pub read-refused : {r : Refusal} → ReadDone file boxes rows arrows boxes_end rows_end arrows_end (Err r) → file_listing file ≡ line_text (Stopped r)
   unfolding file_listing refused_or
   read-refused d = rw (fault-is ∙ read-stopped file boxes rows arrows boxes_end rows_end arrows_end d)
 
-  pub read-good : {c : Three} → ReadDone file boxes rows arrows boxes_end rows_end arrows_end (Tables c)
+  pub read-good : {c : Three} → ReadDone file boxes rows arrows boxes_end rows_end arrows_end (Ok c)
       → file_listing file
       ≡ listing_of (picture (take c.boxes boxes_end) (take (2 * c.containments) rows_end) (take (4 * c.arrows) arrows_end)) (zeros 65536)
   unfolding file_listing refused_or

@@ -3,7 +3,7 @@ use mathlib.Core.Path.{◌≡◌, refl, sym, ap, subst, ◌∙◌}
 use mathlib.Core.Bool.{Bool, ◌&&◌}
 use mathlib.Core.List.{List}
 use mathlib.Core.Logic.{⊎_elim}
-use mathlib.Core.Option.{Option}
+use Rattle.std.specs.Prelude.{Option}
 use Prim.Native.Nat.{ℕ, ◌+◌, ◌-◌, ◌*◌, ◌<◌}
 use native.Mathlib.Omega.{arith}
 use native.Mathlib.Nat.{eq-or-lt_of_le, eq-zero-or-pos}
@@ -14,10 +14,11 @@ use Rattle.base.specs.Search.{first, given}
 use Rattle.base.proofs.Index.{next_row}
 use Rattle.base.proofs.SearchLaws.{first-is, first-nothing, given-true, given-false}
 use Rattle.base.proofs.Tests.{T_and, and_T, T_true, not-false, false-not}
+use Rattle.std.specs.Prelude.{Result}
 use Rattle.tables.specs.Rows.{Picture, file}
-use Rattle.tables.specs.Refusals.{unclear_pair, verdict_of}
+use Rattle.tables.specs.Refusals.{verdict_of}
+use Rattle.tables.specs.declared.Refusal.TheVariants.{UnclearPair}
 use Rattle.tables.specs.declared.Refusal.{Refusal}
-use Rattle.tables.specs.declared.Verdict.{Verdict}
 use Rattle.tables.proofs.AtomPlaces.{atoms-before, atoms-same}
 use Rattle.meaning.specs.Meaning.{answer, is_unclear}
 use Rattle.meaning.specs.Pairs.{files}
@@ -106,11 +107,11 @@ module _ (t : ℕ → Bool) (r : ℕ → Refusal) (pic : Picture) (x : Set) (is 
           ))
 
 -- it is the row's first unclear pair
-pub row-unclear : (pic : Picture) (m u : ℕ) (fs : List ℕ) (row : Row) (r : Verdict) (w v f : ℕ)
-    → r ≡ verdict_of (given (ltb f 256) (unclear_pair w v f)) → w ≡ m → v ≡ u → f ≡ low row.unclear → fs ≡ files pic
+pub row-unclear : (pic : Picture) (m u : ℕ) (fs : List ℕ) (row : Row) (r : Result Unit Refusal) (v : ℕ)
+    → r ≡ verdict_of (given (ltb (low row.unclear) 256) (UnclearPair m v (low row.unclear))) → v ≡ u → fs ≡ files pic
     → Sorts pic m v (among fs) row → r ≡ verdict_of (row_unclear pic m u fs)
 unfolding user_unclear
-row-unclear pic m u fs row r w v f er ew ev ef efs s =
+row-unclear pic m u fs row r v er ev efs s =
     let sorts : Sorts pic m u (among (files pic)) row = rw (ev, efs) at s in
-    er ∙ rw (ew, ev, ef, efs)
-    (ap verdict_of (first-low (λ f. is_unclear (answer pic m u f)) (unclear_pair m u) pic row.unclear sorts.unclear-are))
+    er ∙ rw (ev, efs)
+    (ap verdict_of (first-low (λ f. is_unclear (answer pic m u f)) (UnclearPair m u) pic row.unclear sorts.unclear-are))

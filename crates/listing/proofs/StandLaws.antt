@@ -1,25 +1,24 @@
 -- A place among the rows: the first, and what it says of a row. Assumes nothing.
-use mathlib.Core.Path.{◌≡◌, sym, ◌∙◌}
+use mathlib.Core.Path.{◌≡◌, refl, sym, ap, ◌∙◌}
+use Rattle.base.proofs.Options.{past, stop}
 use mathlib.Core.List.{List}
-use mathlib.Core.Option.{Option}
+use Rattle.std.specs.Prelude.{Option, None as none, Some as some}
 use Prim.Native.Nat.{ℕ, ◌+◌, ◌*◌, ◌/◌, ◌%◌, ◌<◌, ◌≤◌}
 use native.Mathlib.Omega.{arith}
 use native.Mathlib.Nat.{mul-le-mul}
 use native.Mathlib.Numerals.{add-one}
 use lib.ListN.{length, get_or, take}
 use lib.Seq.{get_or-take}
-use Rattle.base.specs.Search.{first}
+use Rattle.base.specs.Search.{or_else, first}
 use Rattle.base.proofs.FoldLaws.{fold_more, first-fold}
 use Rattle.base.proofs.SearchLaws.{first-zero}
 use Rattle.tables.specs.Rows.{Picture, user, file}
 use Rattle.tables.specs.Refusals.{verdict_of}
-use Rattle.tables.specs.Steps.{either}
+use Rattle.std.specs.Prelude.{Result, Ok}
+use Rattle.std.specs.Result.{result_and}
 use Rattle.tables.specs.declared.Refusal.{Refusal}
-use Rattle.tables.specs.declared.Verdict.{Verdict}
-use Rattle.tables.specs.declared.Verdict.TheVariants.{Passed}
 use Rattle.tables.specs.Atoms.{atoms}
 use Rattle.tables.proofs.AtomPlaces.{atoms-found, atom-there, atoms-most}
-use Rattle.tables.proofs.Verdicts.{either-verdict}
 use Rattle.meaning.specs.Pairs.{files}
 use Rattle.meaning.proofs.PairLaws.{place_in}
 use Rattle.mode_sets.proofs.CallerLaws.{small-arrows}
@@ -30,7 +29,7 @@ use Rattle.listing.proofs.ModeLaws.{few-modes}
 
 pub stands-first : (pic : Picture) (modes : List ℕ) (used : ℕ) → take used modes ≡ used_modes pic.arrows
     → used ≡ length (used_modes pic.arrows)
-    → Stands pic (record { modes = modes; used = used; row = 0; seen = Passed })
+    → Stands pic (record { modes = modes; used = used; row = 0; seen = Ok tt })
 unfolding seen_before
 stands-first pic modes used e n = record {
   modes-are = e;
@@ -44,7 +43,7 @@ module _ {us : List ℕ} {p : Place} (w : Fits us p) (l : p.row < p.used * lengt
   pub row-there : (p.row / length us < p.used) × (p.row % length us < length us)
   row-there = place_in p.used (length us) p.row l
 
-  pub fits_next : (v : Verdict) → Fits us (record { modes = p.modes; used = p.used; row = p.row + 1; seen = v })
+  pub fits_next : (v : Result Unit Refusal) → Fits us (record { modes = p.modes; used = p.used; row = p.row + 1; seen = v })
   fits_next v = record { few-used = w.few-used; within = omega arith }
 
 -- a place is not far
@@ -60,11 +59,10 @@ pub atom-in : (pic : Picture) (side : ℕ) {xs : List ℕ} → xs ≡ atoms pic.
     → get_or xs i 0 < length pic.boxes
 atom-in pic side e i l = rw e (atom-there pic.boxes pic.rows side _ (atoms-found pic.boxes pic.rows side i (rw e at l)))
 
-pub prepared-in-range : {pic : Picture} {closure arrows us fs : List ℕ} → Prepared pic closure arrows us fs → InRange closure arrows us fs
+pub prepared-in-range : {pic : Picture} {closure arrows us fs : List ℕ} → Prepared pic closure arrows us fs → InRange arrows us fs
 prepared-in-range {pic} {closure} {arrows} {us} {fs} d =
     let few = d.drawn.rows-sound.few-boxes in
     record {
-      closure-len = d.drawn.closed.len;
       small = rw d.arrows-are (small-arrows pic.boxes pic.arrows d.drawn.arrows-sound few);
       users-small = λ i l. omega (arith, atom-in pic user d.users-are i l);
       files-small = λ i l. omega (arith, atom-in pic file d.files-are i l);
@@ -74,10 +72,15 @@ prepared-in-range {pic} {closure} {arrows} {us} {fs} d =
 
 -- ---- a place in it
 
+-- the first of two refusals
+and-verdict : (a b : Option Refusal) → verdict_of (or_else a b) ≡ result_and (verdict_of a) (verdict_of b)
+and-verdict none b = ap verdict_of (past none b refl)
+and-verdict (some r) b = ap verdict_of (stop (some r) b refl)
+
 -- the first unclear pair with those of one row more
-first_step : (g : ℕ → Option Refusal) (n : ℕ) → verdict_of (first g (n + 1)) ≡ either (verdict_of (first g n)) (verdict_of (g n))
+first_step : (g : ℕ → Option Refusal) (n : ℕ) → verdict_of (first g (n + 1)) ≡ result_and (verdict_of (first g n)) (verdict_of (g n))
 first_step g n =
-    rw (add-one, first-fold, fold_more, ← first-fold) (sym (either-verdict (first g n) (g n)))
+    rw (add-one, first-fold, fold_more, ← first-fold) (and-verdict (first g n) (g n))
 
 module _ {pic : Picture} {closure arrows us fs : List ℕ} (d : Prepared pic closure arrows us fs) {p : Place} (s : Stands pic p) where
   pub rows_are : line_rows pic ≡ p.used * length us
@@ -93,8 +96,8 @@ module _ {pic : Picture} {closure arrows us fs : List ℕ} (d : Prepared pic clo
     mode-is = sym (get_or-take p.used p.modes (p.row / length us) 0 (row-there stands-fit (rw rows_are at l)).0) ∙ rw (s.modes-are, d.users-are)
 
     -- the place after it
-    pub stands-next : (v : Verdict) → v ≡ verdict_of (row_unclear pic (row_mode pic p.row) (row_user pic p.row) (files pic))
-        → Stands pic (record { modes = p.modes; used = p.used; row = p.row + 1; seen = either p.seen v })
+    pub stands-next : (v : Result Unit Refusal) → v ≡ verdict_of (row_unclear pic (row_mode pic p.row) (row_user pic p.row) (files pic))
+        → Stands pic (record { modes = p.modes; used = p.used; row = p.row + 1; seen = result_and p.seen v })
     unfolding seen_before
     stands-next v e = record {
       modes-are = s.modes-are;

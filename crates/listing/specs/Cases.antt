@@ -1,7 +1,7 @@
 -- The listings of the lettered pictures A to J (document 01), of one with a default answer, and of groups that have emptied (document 02,
 -- P6); B's is the document's text. Numbers in decimal. Assumes nothing.
 use Rattle.std.specs.Prelude.{◌≡◌, refl, List, [], ◌∷◌, map, ℕ, ◌*◌, length}
-use Rattle.std.proofs.Math.Option.{none}
+use Rattle.std.specs.Prelude.{None as none}
 use Prim.Native.String.{String}
 use Rattle.base.specs.Search.{or_else, given, first, lowest, every, select}
 use Rattle.base.specs.Buffers.{zeros}

@@ -1,6 +1,6 @@
 -- The listing of what the program has read (document 01, "The program's listing"). Assumes nothing.
 use Rattle.std.specs.Prelude.{List, ℕ}
-use Rattle.std.proofs.Math.Option.{Option, none, some}
+use Rattle.std.specs.Prelude.{Option, None as none, Some as some}
 use Rattle.base.specs.Buffers.{zeros}
 use Rattle.tables.specs.Rows.{Picture}
 use Rattle.tables.specs.declared.Refusal.{Refusal}

@@ -1,13 +1,13 @@
 -- The pair lines of a listing row by row, as the code goes through them: a row has the lines of one mode and one user. That the rows are
 -- the pair lines of the listing is `rows_whole`, and that the last line is by what was seen in them `seen-whole` (proofs/WholeLaws).
 -- Assumes nothing.
-use Rattle.std.specs.Prelude.{List, ℕ, ◌+◌, ◌*◌, ◌/◌, ◌%◌, length, get_or}
-use Rattle.std.proofs.Math.Option.{Option}
+use Rattle.std.specs.Prelude.{Result, List, ℕ, ◌+◌, ◌*◌, ◌/◌, ◌%◌, length, get_or}
+use Rattle.std.specs.Prelude.{Option}
 use Rattle.base.specs.Search.{select, first, given}
 use Rattle.tables.specs.Rows.{Picture}
-use Rattle.tables.specs.Refusals.{verdict_of, unclear_pair}
+use Rattle.tables.specs.Refusals.{verdict_of}
+use Rattle.tables.specs.declared.Refusal.TheVariants.{UnclearPair}
 use Rattle.tables.specs.declared.Refusal.{Refusal}
-use Rattle.tables.specs.declared.Verdict.{Verdict}
 use Rattle.meaning.specs.Meaning.{answer, is_unclear}
 use Rattle.meaning.specs.Pairs.{users, files}
 use Rattle.blocks.specs.Blocks.{joined}
@@ -27,7 +27,7 @@ module _ (pic : Picture) where
 
   -- mode, user and file where that pair is unclear
   unfoldable pub user_unclear : (mode u f : ℕ) → Option Refusal
-  user_unclear mode u f = given (is_unclear (answer pic mode u f)) (unclear_pair mode u f)
+  user_unclear mode u f = given (is_unclear (answer pic mode u f)) (UnclearPair mode u f)
 
   -- the first n lines of the row of a mode and a user, and its first unclear pair
   abbrev pub row_text : (mode u : ℕ) (fs : List ℕ) (n : ℕ) → List ℕ
@@ -51,5 +51,5 @@ module _ (pic : Picture) where
   rows_from from n = joined (λ k. row_text (row_mode (from + k)) (row_user (from + k)) (files pic) (length (files pic))) n
 
   -- the first unclear pair before row r
-  unfoldable pub seen_before : (r : ℕ) → Verdict
+  unfoldable pub seen_before : (r : ℕ) → Result Unit Refusal
   seen_before r = verdict_of (first (λ k. row_unclear (row_mode k) (row_user k) (files pic)) r)

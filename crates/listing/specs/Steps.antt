@@ -1,23 +1,22 @@
 -- What the functions ask of and promise each other. Assumes nothing.
-use Rattle.std.specs.Prelude.{◌≡◌, List, ℕ, ◌*◌, ◌-◌, ◌<◌, ◌≤◌, length, take}
+use Rattle.std.specs.Prelude.{Result, ◌≡◌, List, ℕ, ◌*◌, ◌-◌, ◌<◌, ◌≤◌, length, take}
 use Rattle.tables.specs.Rows.{Picture}
 use Rattle.tables.specs.Refusals.{verdict_of}
 use Rattle.meaning.specs.Pairs.{users, files}
 use Rattle.boxsets.specs.Sets.{Boxes}
 use Rattle.mode_sets.specs.Steps.{Small}
 use Rattle.certificates.specs.Steps.{Drawn}
-use Rattle.containment.specs.Steps.{closure_words}
-use Rattle.lines.specs.Steps.{Put, Holds}
+use Rattle.tables.specs.declared.Refusal.{Refusal}
+use Rattle.lines.specs.Steps.{Moved, Holds}
+use Rattle.lines.specs.declared.pen.Pen.{Pen}
 use Rattle.listing.specs.PairRows.{used_modes, row_text, row_unclear, line_rows, rows_from, seen_before}
 use Rattle.listing.specs.declared.Place.{Place}
-use Rattle.listing.specs.declared.Told.{Told}
 use Rattle.listing.specs.declared.Chunk.{Chunk}
 
 -- ---- what keeps every index in range
 
 -- the tables that rows are made from
-pub record InRange (closure arrows us fs : List ℕ) : Type 0 where
-  pub closure-len : length closure ≡ closure_words
+pub record InRange (arrows us fs : List ℕ) : Type 0 where
   pub small : Small arrows
   pub users-small : Boxes us
   pub files-small : Boxes fs
@@ -40,9 +39,9 @@ pub record Prepared (pic : Picture) (closure arrows us fs : List ℕ) : Type 0 w
 
 module _ (pic : Picture) where
   -- a row was put from a place on, and its first unclear pair is told
-  pub record RowPut (mode u : ℕ) (fs old : List ℕ) (at : ℕ) (new : List ℕ) (t : Told) : Type 0 where
-    pub put : Put old at (row_text pic mode u fs (length fs)) (length fs * 111) new t.next
-    pub unclear-is : t.unclear ≡ verdict_of (row_unclear pic mode u fs)
+  pub record RowPut (mode u : ℕ) (fs : List ℕ) (old new : Pen) (told : Result Unit Refusal) : Type 0 where
+    pub put : Moved old (row_text pic mode u fs (length fs)) (length fs * 111) new
+    pub unclear-is : told ≡ verdict_of (row_unclear pic mode u fs)
 
   -- a place among the rows: the modes with an arrow, the next row, and the first unclear pair before it
   pub record Stands (p : Place) : Type 0 where

@@ -6,7 +6,7 @@ mod row;
 
 ghost use Rattle.std.specs.Prelude.{◌≡◌, ◌+◌, ◌*◌, ◌<◌, ◌≤◌, length};
 ghost use Rattle.base.specs.Buffers.{written};
-ghost use Rattle.tables.specs.Steps.{either};
+ghost use Rattle.std.specs.Result.{result_and};
 ghost use Rattle.tables.specs.Rows.{Picture};
 ghost use Rattle.lines.specs.Lines.{line_text};
 ghost use Rattle.listing.specs.Listing.{used};
@@ -14,9 +14,10 @@ ghost use Rattle.listing.specs.PairRows.{used_modes};
 ghost use Rattle.lines.specs.Steps.{Holds};
 ghost use Rattle.listing.specs.Steps.{InRange, Fits, Prepared, Stands, Filled};
 
-use lines::{Line, put_line};
+use containment::Closure;
+use lines::{Line, Pen, put_line};
 use row::put_row;
-use tables::{Arrow, Refusal, Verdict};
+use tables::{Arrow, Refusal};
 
 // ---- The lines that are no pair lines, each alone at the start of the buffer: its length.
 
@@ -36,7 +37,7 @@ pub fn counts_line(boxes: usize, rows: usize, arrows: usize, out: &mut [u8]) -> 
 }
 
 // The last line, by the first unclear pair.
-pub fn last_line(seen: Verdict, out: &mut [u8]) -> usize
+pub fn last_line(seen: Result<(), Refusal>, out: &mut [u8]) -> usize
     requires { 111 ≤ length out.old }
     ensures { Holds (line_text (Line.Last seen)) out.old out.new result }
 {
@@ -54,33 +55,31 @@ pub fn stopped(r: Refusal, out: &mut [u8]) -> usize
 // ---- The pair lines, row by row: a row is the lines of one mode and one user.
 
 // A place among the rows: the modes with an arrow, rising, and how many; the next row; and the first unclear pair of the rows before it,
-// so that no pair is answered again for the last line.
+// so that no pair is answered again for the last line. Kept: the modes with their number beside them, since there is no heap here and a
+// place is copied.
 #[derive(Clone, Copy)]
 pub struct Place {
     pub modes: [u16; 8],
     pub used: usize,
     pub row: usize,
-    pub seen: Verdict,
+    pub seen: Result<(), Refusal>,
 }
 
 impl Place {
     // The place after a row, by the row's first unclear pair.
-    fn after(self, unclear: Verdict) -> Self
+    fn after(self, unclear: Result<(), Refusal>) -> Self
         requires { self.row < 65536 }
         ensures { result ≡ record {
           modes = self.modes;
           used = self.used;
           row = self.row + 1;
-          seen = either self.seen unclear;
+          seen = result_and self.seen unclear;
         } }
     {
-        let modes = self.modes;
-        let seen = self.seen;
         Self {
-            modes,
-            used: self.used,
             row: self.row + 1,
-            seen: seen.or_else(unclear),
+            seen: self.seen.and(unclear),
+            ..self
         }
     }
 }
@@ -89,16 +88,10 @@ impl Place {
 fn is_used(arrows: &[u16], mode: u16) -> bool
     ensures { result ≡ used arrows.now mode }
 {
-    for k in 0..arrows.len() / 4 {
-        let a = Arrow::at(arrows, k);
-        if a.mode == mode {
-            return true;
-        }
-    }
-    false
+    (0..arrows.len() / 4).any(|k| Arrow::at(arrows, k).mode == mode)
 }
 
-// Writes the modes with an arrow, rising, and answers how many.
+// Writes the modes with an arrow, rising, and answers how many. Kept: a place that is counted, since the modes go into fixed memory.
 fn used_modes(arrows: &[u16], out: &mut [u16]) -> usize
     requires { 8 ≤ length out.old }
     ensures value { result ≡ length (used_modes arrows.now) }
@@ -125,7 +118,7 @@ pub fn start(arrows: &[u16]) -> Place
         modes,
         used,
         row: 0,
-        seen: Verdict::Passed,
+        seen: Ok(()),
     }
 }
 
@@ -137,13 +130,6 @@ pub fn row_count(users: &[u16], place: Place) -> usize
     place.used * users.len()
 }
 
-// The place in the buffer after a row, and the row's first unclear pair.
-#[derive(Clone, Copy)]
-pub struct Told {
-    pub next: usize,
-    pub unclear: Verdict,
-}
-
 // So many bytes are whole rows, and the place after them.
 #[derive(Clone, Copy)]
 pub struct Chunk {
@@ -153,14 +139,14 @@ pub struct Chunk {
 
 // Puts as many whole rows as are sure to fit at the start of the buffer, from a place on.
 pub fn fill(
-    closure: &[u64],
+    closure: &Closure,
     arrows: &[u16],
     users: &[u16],
     files: &[u16],
     from: Place,
     out: &mut [u8],
 ) -> Chunk
-    requires in_range { InRange closure.now arrows.now users.now files.now × Fits users.now from }
+    requires in_range { InRange arrows.now users.now files.now × Fits users.now from }
     requires files_in_bounds { length files.now * 111 ≤ length out.old }
     ensures { (pic : Picture)
         → Prepared pic closure.now arrows.now users.now files.now
@@ -168,18 +154,17 @@ pub fn fill(
 {
     let count = row_count(users, from);
     let most = out.len() - files.len() * Line::MOST;
-    let mut at = 0;
+    let mut pen = Pen { out, at: 0 };
     let mut place = from;
-    while place.row < count && at <= most {
+    // Kept: a `for` would count the rows beside the place, which counts them for the caller.
+    while place.row < count && pen.at <= most {
         let mode = place.modes[place.row / users.len()];
         let user = users[place.row % users.len()];
-        let told = put_row(closure, arrows, mode, user, files, out, at);
-        at = told.next;
-        let unclear = told.unclear;
+        let unclear = put_row(closure, arrows, mode, user, files, &mut pen);
         place = place.after(unclear);
     }
     Chunk {
-        bytes: at,
+        bytes: pen.at,
         next: place,
     }
 }

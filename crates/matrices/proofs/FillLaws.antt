@@ -45,7 +45,8 @@ module _ (pic : Picture) (m : ℕ) (us fs : List ℕ) where
       (byte j ≡ byte_of e) × (number j ≡ number_of e)
 
   -- those that the matrix has in row i are
-  places : us ≡ users pic → fs ≡ files pic → (i : ℕ) → CellsOf i (λ j. byte_at pic m (i * length fs + j)) (λ j. number_at pic m (i * length fs + j))
+  places : us ≡ users pic → fs ≡ files pic → (i : ℕ)
+      → CellsOf i (λ j. byte_at pic m (i * length fs + j)) (λ j. number_at pic m (i * length fs + j))
   places eu ef i j = rw (eu, ef) (λ l. (byte-place pic m i j l, number-place pic m i j l))
 
 module _ (closure arrows : List ℕ) (m : ℕ) (us fs : List ℕ) where
@@ -84,7 +85,8 @@ module _ {closure arrows us fs bytes numbers notes : List ℕ} {m : ℕ} where
 
     -- what stands in the row of user k before, who has the same answers, are cells of row i
     pub alike-cells : {count : ℕ} {own heads : List ℕ} {k : ℕ} → Taken arrows m count own heads → k < i
-        → ((pic : Picture) (m : ℕ) → Drawn pic closure → ModeSets pic.arrows m heads → us ≡ users pic → Alike pic m (get_or us k 0) (get_or us i 0))
+        → ((pic : Picture) (m : ℕ) → Drawn pic closure → ModeSets pic.arrows m heads → us ≡ users pic
+        → Alike pic m (get_or us k 0) (get_or us i 0))
         → Cells closure arrows m us fs i (λ j. get_or b (k * length fs + j) 0) (λ j. get_or n (k * length fs + j) 0)
     alike-cells {k} mode before alike pic d a eu ef j there =
         let e = rows.filled pic d a eu ef in
@@ -110,7 +112,8 @@ module _ {closure arrows us fs bytes numbers notes : List ℕ} {m : ℕ} where
       row_room all = let there = row_step (length fs) i (length us) l in (omega arith, omega arith)
 
       -- a turn: the cells of row i are written at its places
-      pub rows_more : {notes' b' n' : List ℕ} {byte number : ℕ → ℕ} → Room fs i b n → Noted (i + 1) notes' → Cells closure arrows m us fs i byte number
+      pub rows_more : {notes' b' n' : List ℕ} {byte number : ℕ → ℕ} → Room fs i b n → Noted (i + 1) notes'
+          → Cells closure arrows m us fs i byte number
           → Emitted byte (i * length fs) (length fs) b b' × Emitted number (i * length fs) (length fs) n n'
           → Rows closure arrows m us fs bytes numbers (i + 1) notes' b' n'
       rows_more room noted cells w = record {

@@ -1,6 +1,6 @@
 -- For the crates above: the first unclear pair mode by mode, and modes without an unclear pair or without an arrow. Assumes nothing.
 use mathlib.Core.Path.{◌≡◌, refl, ap, ◌∙◌}
-use mathlib.Core.Option.{none}
+use Rattle.std.specs.Prelude.{None as none}
 use Prim.Native.Nat.{ℕ, ◌<◌, ◌≤◌}
 use native.Mathlib.Omega.{arith}
 use lib.Dec.{T}
@@ -8,7 +8,7 @@ use lib.ListN.{length}
 use Rattle.base.specs.Search.{first, select}
 use Rattle.tables.specs.Rows.{Picture, user, file, arrow_count, arrow_at}
 use Rattle.tables.specs.Atoms.{atom}
-use Rattle.tables.specs.Refusals.{unclear_pair}
+use Rattle.tables.specs.declared.Refusal.TheVariants.{UnclearPair}
 use Rattle.base.proofs.Tests.{T-eqb}
 use Rattle.base.proofs.SearchLaws.{first-nothing}
 use Rattle.base.proofs.SelectLaws.{select_has}
@@ -30,7 +30,7 @@ module _ (pic : Picture) where
     -- a mode in which no pair is unclear
     pub all-clear : ((u f : ℕ) → T (atom pic.boxes pic.rows user u) → T (atom pic.boxes pic.rows file f)
         → T (is_unclear (answer pic m u f)) → ⊥) → unclear_fault pic m ≡ none
-    all-clear clear = unclear-first pic m ∙ first_pair-nothing pic (λ u f. is_unclear (answer pic m u f)) (unclear_pair m) clear
+    all-clear clear = unclear-first pic m ∙ first_pair-nothing pic (λ u f. is_unclear (answer pic m u f)) (UnclearPair m) clear
 
     no-arrow : length (mode_arrows pic.arrows m) ≤ 0 → (k : ℕ) → k < arrow_count pic.arrows → (arrow_at pic.arrows k).mode ≡ m → ⊥
     unfolding has_mode

@@ -2,7 +2,7 @@
 -- Assumes nothing.
 use mathlib.Core.Path.{◌≡◌, refl, ap}
 use mathlib.Core.Bool.{Bool, false, cond}
-use mathlib.Core.Option.{none}
+use Rattle.std.specs.Prelude.{None as none}
 use Prim.Native.Nat.{ℕ, ◌+◌, ◌*◌, ◌<◌}
 use lib.Dec.{T}
 use lib.ListN.{length, get_or}
@@ -11,7 +11,7 @@ use Rattle.base.specs.Buffers.{build}
 use Rattle.base.proofs.Tests.{not-false}
 use Rattle.tables.specs.Rows.{Picture, user, file}
 use Rattle.tables.specs.Atoms.{atom}
-use Rattle.tables.specs.Refusals.{unclear_pair}
+use Rattle.tables.specs.declared.Refusal.TheVariants.{UnclearPair}
 use Rattle.tables.specs.declared.Refusal.{Refusal}
 use Rattle.tables.proofs.AtomPlaces.{pair_count-is}
 use Rattle.meaning.specs.Meaning.{answer, byte_of, number_of, is_granted, is_unclear}
@@ -63,7 +63,7 @@ first_pair-places pic t r = refl
 -- ---- the first unclear pair
 
 module _ (pic : Picture) (m : ℕ) where
-  pub unclear-first : unclear_fault pic m ≡ first_pair pic (λ u f. is_unclear (answer pic m u f)) (unclear_pair m)
+  pub unclear-first : unclear_fault pic m ≡ first_pair pic (λ u f. is_unclear (answer pic m u f)) (UnclearPair m)
   unfolding unclear_fault first_pair answer_at
   unclear-first = refl
 
@@ -72,4 +72,4 @@ module _ (pic : Picture) (m : ℕ) where
       → is_unclear (answer pic m u f) ≡ false
   clear-pair clear u f a b =
       not-false (is_unclear (answer pic m u f))
-      (first_pair-none pic (λ u f. is_unclear (answer pic m u f)) (unclear_pair m) (rw unclear-first at clear) u f a b)
+      (first_pair-none pic (λ u f. is_unclear (answer pic m u f)) (UnclearPair m) (rw unclear-first at clear) u f a b)

@@ -3,7 +3,7 @@ use mathlib.Core.Path.{◌≡◌, refl, ap}
 use mathlib.Core.Logic.{⊎_elim}
 use mathlib.Core.Bool.{Bool, false}
 use mathlib.Core.List.{List}
-use mathlib.Core.Option.{Option, none, some}
+use Rattle.std.specs.Prelude.{Option, None as none, Some as some}
 use Prim.Native.Nat.{ℕ, ◌+◌, ◌*◌, ◌/◌, ◌%◌, ◌<◌}
 use native.Mathlib.Nat.{mod-lt, div-lt_iff_lt-mul, eq-zero-or-pos, mul-zero}
 use native.Mathlib.Omega.{arith}
@@ -12,7 +12,7 @@ use lib.ListN.{length, get_or}
 use Rattle.base.specs.Search.{given, first}
 use Rattle.tables.specs.Rows.{Picture, user, file}
 use Rattle.tables.specs.Atoms.{atom}
-use Rattle.tables.specs.Refusals.{unclear_pair}
+use Rattle.tables.specs.declared.Refusal.TheVariants.{UnclearPair}
 use Rattle.tables.specs.declared.Refusal.{Refusal}
 use Rattle.base.proofs.SearchLaws.{first-none, first_some, given-some, given-none, given-false}
 use Rattle.tables.proofs.AtomPlaces.{pair_count-is, atoms-found, atoms-has, atoms-before, atoms-same}
@@ -130,7 +130,7 @@ module _ (pic : Picture) where
 -- the loop that looks for the first unclear pair of a mode
 module _ (pic : Picture) (m : ℕ) where
   abbrev pub unclear_at : ℕ → Option Refusal
-  unclear_at p = given (is_unclear (answer_at pic m p)) (unclear_pair m (user_at pic p) (file_at pic p))
+  unclear_at p = given (is_unclear (answer_at pic m p)) (UnclearPair m (user_at pic p) (file_at pic p))
 
   pub unclear-none : (p : ℕ) → is_unclear (answer_at pic m p) ≡ false → unclear_at p ≡ none
   unclear-none p e = given-false _ _ e

@@ -1,6 +1,6 @@
 -- What a picture says of a pair (document 01, "Meaning"; source 002, section 4). Assumes nothing.
 use Rattle.std.specs.Prelude.{Bool, not, ◌&&◌, ◌||◌, List, ℕ, eqb}
-use Rattle.std.proofs.Math.Option.{Option, none, some}
+use Rattle.std.specs.Prelude.{Option, None as none, Some as some}
 use Rattle.base.specs.Search.{implies, every, lowest, select}
 use Rattle.tables.specs.Rows.{Picture, no_arrow, arrow_count, arrow_at}
 use Rattle.tables.specs.declared.Arrow.{Arrow}

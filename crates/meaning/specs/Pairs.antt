@@ -1,11 +1,11 @@
 -- The pairs of an atomic user and an atomic file: rows are the users, columns the files, both by rising number. Assumes nothing.
 use Rattle.std.specs.Prelude.{◌≡◌, ◌⊎◌, List, ℕ, ◌/◌, ◌%◌, ◌<◌, length, get_or}
-use Rattle.std.proofs.Math.Option.{Option}
+use Rattle.std.specs.Prelude.{Option}
 use Rattle.base.specs.Search.{first, given}
 use Rattle.base.specs.Buffers.{build}
 use Rattle.tables.specs.Rows.{Picture, user, file}
 use Rattle.tables.specs.Atoms.{atoms, pair_count}
-use Rattle.tables.specs.Refusals.{unclear_pair}
+use Rattle.tables.specs.declared.Refusal.TheVariants.{UnclearPair}
 use Rattle.tables.specs.declared.Refusal.{Refusal}
 use Rattle.meaning.specs.Meaning.{answer, byte_of, number_of, is_unclear}
 use Rattle.meaning.specs.declared.Entry.{Entry}
@@ -45,7 +45,7 @@ module _ (pic : Picture) where
 
   -- 12: the mode has an unclear pair; the first, by user, then file
   unfoldable pub unclear_fault : (mode : ℕ) → Option Refusal
-  unclear_fault mode = first (λ p. given (is_unclear (answer_at mode p)) (unclear_pair mode (user_at p) (file_at p))) pairs
+  unclear_fault mode = first (λ p. given (is_unclear (answer_at mode p)) (UnclearPair mode (user_at p) (file_at p))) pairs
 
   -- the first unclear pair by mode, then user, then file
   unfoldable pub any_unclear : Option Refusal

@@ -1,6 +1,6 @@
 -- What the functions promise each other is said with these. Assumes nothing.
 use Rattle.std.specs.Prelude.{Bool, cond, ℕ}
-use Rattle.std.proofs.Math.Option.{Option}
+use Rattle.std.specs.Prelude.{Option}
 use Rattle.base.specs.Search.{first, given}
 use Rattle.tables.specs.Rows.{Picture, no_arrow}
 use Rattle.tables.specs.declared.Refusal.{Refusal}

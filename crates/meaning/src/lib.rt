@@ -7,7 +7,7 @@ ghost use Rattle.meaning.specs.Steps.{granting_of};
 use tables::Arrow;
 
 // The answer to one question (document 01, "Meaning").
-#[derive(Clone, Copy)]
+#[derive(Clone, Copy, Debug, PartialEq, Eq)]
 pub enum Entry {
     // Granted, with the lowest positive certificate.
     Granted(u16),
@@ -20,6 +20,7 @@ pub enum Entry {
 }
 
 // The arrow that grants: it is taken out of the answer, and the other three answers are turned away with the number of no arrow.
+// Kept: a number, and no Option, since the promise of `granting` is `granting_of`, and the theorem `grants-by` reads its 65,535.
 pub fn granting(e: Entry) -> u16
     ensures { result ≡ granting_of e }
 {

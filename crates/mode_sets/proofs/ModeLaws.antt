@@ -5,7 +5,6 @@ use mathlib.Core.Logic.{⊎_elim}
 use mathlib.Core.Bool.{Bool, true, false, not, ◌&&◌, ◌||◌}
 use mathlib.Core.List.{List}
 use Prim.Native.Nat.{ℕ, ◌+◌, ◌*◌, ◌<◌, ◌≤◌}
-use native.Mathlib.Omega.{arith}
 use borrow.Author.Tests.{ne_eqb}
 use lib.Dec.{T, eqb, eqb→eq}
 use lib.ListN.{length, set}
@@ -16,75 +15,18 @@ use Rattle.base.proofs.AnyLaws.{any-zero, any-more, any_found, any-is}
 use Rattle.base.proofs.BufferLaws.{zeros-length, Selected, selected-yes, selected-no}
 use Rattle.tables.specs.Rows.{arrow_at}
 use Rattle.tables.specs.declared.Arrow.{Arrow}
-use Rattle.boxsets.specs.Sets.{has, Added}
+use Rattle.boxsets.specs.Sets.{has}
 use Rattle.boxsets.proofs.TableLaws.{zeros-has}
-use Rattle.boxsets.proofs.WordLaws.{eqb-turned, eqb-shifted}
+use Rattle.boxsets.proofs.WordLaws.{eqb-turned}
 use Rattle.meaning.specs.Meaning.{has_mode}
 use Rattle.meaning.proofs.ModeLaws.{has_mode-is}
 use Rattle.mode_sets.specs.Mode.{same, leaves, heads_below, tails_below, is_own}
 use Rattle.mode_sets.specs.Steps.{SetsBelow, Took, heads_words}
 use Rattle.mode_sets.proofs.SameLaws.{same_parts, same-is}
 
--- ---- one arrow is added
-
--- a set of heads is that of one sign and one tail
-heads-place : (s t a b : ℕ) → t < 256 → b < 256 → eqb (256 * s + t) (256 * a + b) ≡ (eqb s a && eqb t b)
-heads-place s t a b l h =
-    T-same (eqb (256 * s + t) (256 * a + b)) (eqb s a && eqb t b)
-    (λ e.
-    let i = eqb→eq (256 * s + t) (256 * a + b) e in
-    let j : s ≡ a = omega arith in
-    let k : t ≡ b = omega arith in
-    T_and (eqb s a) (eqb t b) (T-eqb j) (T-eqb k))
-    (λ e.
-    let p = and_T (eqb s a) (eqb t b) e in
-    let j = eqb→eq s a p.0 in
-    let k = eqb→eq t b p.1 in
-    let i : 256 * s + t ≡ 256 * a + b = omega arith in
-    T-eqb i)
-
 -- what is there already changes nothing
 or-there : (x y : Bool) → (T y → T x) → x ≡ (x || y)
 or-there x y h = T-same x (x || y) (T-or₁ x y) (λ t. ⊎_elim (λ a. a) h (or-T x y t))
-
--- another set than the one that was added to
-or-other : (x p q : Bool) → p ≡ false → (x || p && q) ≡ x
-or-other true p q e = refl
-or-other false p q e = rw e
-
-module _ (heads : List ℕ) (a : Arrow) (tail head sign : ℕ) (et : tail ≡ a.tail) (eh : head ≡ a.head) (es : sign ≡ a.sign) where
-  pub took-none : has heads (256 * sign + tail) head ≡ true → Took heads a false heads
-  took-none e =
-      let there : has heads (256 * a.sign + a.tail) a.head ≡ true = rw (← et, ← eh, ← es) e in
-      record {
-        len = refl;
-        taken = rw there;
-        heads-are = λ s t g ls lt. or-there _ _ (λ h.
-            let p = and_T (eqb s a.sign && eqb t a.tail) (eqb g a.head) h in
-            let q = and_T (eqb s a.sign) (eqb t a.tail) p.0 in
-            rw (eqb→eq s a.sign q.0, eqb→eq t a.tail q.1, eqb→eq g a.head p.1) (true-T _ there));
-        tails-are = λ s t ls h. absurd h;
-        tails-stay = λ h s t ls. refl;
-      }
-
-  pub took_one : (mid last : List ℕ) → a.sign ≤ 1 → a.tail < 256 → has heads (256 * sign + tail) head ≡ false
-      → Added heads (256 * sign + tail) head mid → Added mid (512 + sign) tail last → Took heads a true last
-  took_one mid last small tail-small e first second =
-      let gone : has heads (256 * a.sign + a.tail) a.head ≡ false = rw (← et, ← eh, ← es) e in
-      record {
-        len = second.len ∙ first.len;
-        taken = rw gone;
-        heads-are = λ s t g ls lt.
-            second.each (256 * s + t) g
-            ∙ or-other _ _ _ (ne_eqb (256 * s + t) (512 + sign) (λ i. omega arith))
-            ∙ first.each (256 * s + t) g
-            ∙ rw (et, eh, es, heads-place s t a.sign a.tail lt tail-small);
-        tails-are = λ s t ls h.
-            let stay : has mid (512 + s) t ≡ has heads (512 + s) t =
-            first.each (512 + s) t ∙ or-other _ _ _ (ne_eqb (512 + s) (256 * sign + tail) (λ i. omega arith)) in
-            second.each (512 + s) t ∙ rw (stay, es, et, eqb-shifted 512 s a.sign);
-        tails-stay = λ h. absurd (h tt);
-      }
 
 -- ---- the sets of the arrows below k
 

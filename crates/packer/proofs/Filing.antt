@@ -1,7 +1,8 @@
 -- The file made of its kinds, and the stages of the call: a refusal by checks 1 to 7, one by check 9, and none. Assumes nothing.
-use mathlib.Core.Path.{◌≡◌, sym, ap, ◌∙◌}
+use mathlib.Core.Path.{◌≡◌, sym, ap, fun_ext, ◌∙◌}
+use Rattle.std.proofs.Common.{Ok, Err}
 use mathlib.Core.List.{List, [], ◌++◌, append_assoc}
-use Prim.Native.Nat.{ℕ, ◌+◌, ◌*◌, ◌≤◌}
+use Prim.Native.Nat.{ℕ, ◌+◌, ◌*◌, ◌-◌, ◌≤◌}
 use native.Mathlib.Omega.{arith}
 use lib.ListN.{length, length-append}
 use lib.Seq.{sets}
@@ -11,23 +12,45 @@ use Rattle.tables.specs.Faults.{table_fault, room_fault}
 use Rattle.tables.specs.Refusals.{verdict_of}
 use Rattle.tables.specs.Steps.{SoundRows, SoundArrows}
 use Rattle.tables.specs.declared.Refusal.{Refusal}
-use Rattle.tables.specs.declared.Verdict.TheVariants.{Passed, Refused as Stopped}
 use Rattle.base.proofs.BufferLaws.{written_none, written-run}
 use Rattle.tables.proofs.TableLaws.{room-passed, sound-rows, sound-arrows}
 use Rattle.tables.proofs.Verdicts.{passed, refused}
-use Rattle.blocks.proofs.MadeBlocks.{capacities, record-sizes}
-use Rattle.packing.specs.Packed.{blocks_for, blocks_of, kind_bytes, packed}
+use Rattle.blocks.specs.Blocks.{capacity, joined}
+use Rattle.blocks.proofs.MadeBlocks.{capacities}
+use Rattle.packing.specs.Packed.{box_bytes, containment_bytes, arrow_bytes, block_of, least, blocks_for, packed}
+use Rattle.packing.specs.Packed.{rows_of, record_bytes, blocks_of, first_of, kind_block, kind_bytes}
 use Rattle.packing.specs.Packs.{pack_fault, pack_answer, file_after}
-use Rattle.packer.specs.Kinds.{box_kind, containment_kind, arrow_kind, OfKind, BlocksFit}
-use Rattle.packing.specs.declared.Packing.TheVariants.{Packed, Refused}
-use Rattle.packing.proofs.PackedLaws.{by-kinds}
+use Rattle.packer.specs.Kinds.{Kind, kind_of, block_in, BlocksFit}
+use Rattle.packing.proofs.PackedLaws.{record-by-kind, count-in, kind-block, kind-bytes, by-kinds}
 use Rattle.packing.proofs.CallLaws.{fault-of-tables, fault-of-room, pack-refused, pack-done}
 use Rattle.packing.proofs.Lengths.{kind-length, packed-length}
 use Rattle.packing.proofs.Regular.{rows-by-kind, blocks-by-kind, first-by-kind, fills-1, fills-2, fills-3, box-block}
 
+-- the three kinds as the call knows them
+abbrev pub box_kind : (pic : Picture) → Kind
+box_kind pic = kind_of 1 1 500 (length pic.boxes) 0 (box_bytes pic.boxes)
+
+abbrev pub containment_kind : (pic : Picture) → Kind
+containment_kind pic = kind_of 2 4 125 (row_count pic.rows) 1 (containment_bytes pic.rows)
+
+abbrev pub arrow_kind : (pic : Picture) (second : ℕ) → Kind
+arrow_kind pic second = kind_of 3 6 83 (arrow_count pic.arrows) (1 + second) (arrow_bytes pic.arrows)
+
+-- a kind of a picture has the blocks of the packed file
+kind-made : (pic : Picture) (kind : Kind) → kind.capacity ≡ capacity kind.number → kind.rows ≡ rows_of pic kind.number
+    → kind.first ≡ first_of pic kind.number → ((i : ℕ) → kind.bytes i ≡ record_bytes pic kind.number i)
+    → (blocks : ℕ) → blocks ≡ blocks_of pic kind.number → joined (block_in kind) blocks ≡ kind_bytes pic kind.number
+unfolding block_in
+kind-made pic kind c r f b blocks e =
+    let at : (k : ℕ) → block_in kind k ≡ kind_block pic kind.number k = λ k.
+    rw (kind-block, count-in, c, r, f)
+    (ap (block_of kind.number (first_of pic kind.number + k) (least (rows_of pic kind.number - capacity kind.number * k) (capacity kind.number)))
+    (fun_ext (λ j. b (capacity kind.number * k + j)))) in
+    rw (kind-bytes, e) (ap (λ (g : ℕ → List ℕ). joined g (blocks_of pic kind.number)) (fun_ext at))
+
 -- the tables pass checks 1 to 7, and so many blocks of containments and of arrows are needed
 pub record Counted (pic : Picture) (second third : ℕ) : Type 0 where
-  pub tabled : verdict_of (table_fault pic) ≡ Passed
+  pub tabled : verdict_of (table_fault pic) ≡ Ok tt
   pub second-for : second ≡ blocks_for 125 (row_count pic.rows)
   pub third-for : third ≡ blocks_for 83 (arrow_count pic.arrows)
 
@@ -64,59 +87,54 @@ module _ {pic : Picture} {second third : ℕ} (counted : Counted pic second thir
   need-is : 512 * (1 + second + third) ≡ length (packed pic)
   need-is = sym (packed-length pic ∙ rw (box-blocks, second_is, third-is))
 
-  -- the three kinds as the call knows them
-  boxes-known : OfKind pic (box_kind (length pic.boxes))
-  boxes-known = record {
-    low = omega arith;
-    high = omega arith;
-    few = let b = the-rows.few-boxes in omega arith;
-    the_size = sym record-sizes.0;
-    the-capacity = sym capacities.0;
-    the-rows = sym (rows-by-kind pic).0;
-    the-first = sym (first-by-kind pic).0;
-  }
-
-  containments-known : OfKind pic (containment_kind (row_count pic.rows) 1)
-  containments-known = record {
-    low = omega arith;
-    high = omega arith;
-    few = the-rows.few-rows;
-    the_size = sym record-sizes.1;
-    the-capacity = sym capacities.1;
-    the-rows = sym (rows-by-kind pic).1;
-    the-first = sym ((first-by-kind pic).1 ∙ box-blocks);
-  }
-
-  arrows-known : OfKind pic (arrow_kind (arrow_count pic.arrows) (1 + second))
-  arrows-known = record {
-    low = omega arith;
-    high = omega arith;
-    few = let a = the-arrows.few-arrows in omega arith;
-    the_size = sym record-sizes.2;
-    the-capacity = sym capacities.2;
-    the-rows = sym (rows-by-kind pic).2;
-    the-first = sym ((first-by-kind pic).2 ∙ rw (box-blocks, second_is));
-  }
-
-  -- what is asked to write each: its blocks, and room for them where there is room for all
+  -- what is asked to write each kind: its blocks, and room for them where there is room for all
   module _ (len : ℕ) (room : 512 * (1 + second + third) ≤ len) where
-    pub boxes-asked : OfKind pic (box_kind (length pic.boxes)) × (1 ≡ blocks_of pic 1)
-        × BlocksFit (box_kind (length pic.boxes)) 1 len
-    boxes-asked = (boxes-known, sym box-blocks, record { numbers = omega arith; room = omega arith })
+    pub boxes-asked : BlocksFit (box_kind pic) 1 len
+    boxes-asked = record {
+      few = let b = the-rows.few-boxes in omega arith;
+      full = omega arith;
+      numbers = omega arith;
+      room = omega arith;
+    }
 
-    pub containments-asked : OfKind pic (containment_kind (row_count pic.rows) 1) × (second ≡ blocks_of pic 2)
-        × BlocksFit (containment_kind (row_count pic.rows) 1) second len
-    containments-asked = (containments-known, sym second_is, record { numbers = omega (arith, blocks-most.0); room = omega arith })
+    pub containments-asked : BlocksFit (containment_kind pic) second len
+    containments-asked = record {
+      few = the-rows.few-rows;
+      full = rw second_is at (fills-2 pic).few;
+      numbers = omega (arith, blocks-most.0);
+      room = omega arith;
+    }
 
-    pub arrows-asked : OfKind pic (arrow_kind (arrow_count pic.arrows) (1 + second)) × (third ≡ blocks_of pic 3)
-        × BlocksFit (arrow_kind (arrow_count pic.arrows) (1 + second)) third len
-    arrows-asked = (arrows-known, sym third-is, record { numbers = omega (arith, blocks-most.0, blocks-most.1); room = omega arith })
+    pub arrows-asked : BlocksFit (arrow_kind pic second) third len
+    arrows-asked = record {
+      few = let a = the-arrows.few-arrows in omega arith;
+      full = rw third-is at (fills-3 pic).few;
+      numbers = omega (arith, blocks-most.0, blocks-most.1);
+      room = omega arith;
+    }
+
+  -- the blocks of each are those of the packed file
+  boxes-made : joined (block_in (box_kind pic)) 1 ≡ kind_bytes pic 1
+  boxes-made = kind-made pic (box_kind pic) (sym capacities.0) (sym (rows-by-kind pic).0) (sym (first-by-kind pic).0)
+      (λ i. sym (record-by-kind pic i).0) 1 (sym box-blocks)
+
+  containments-made : joined (block_in (containment_kind pic)) second ≡ kind_bytes pic 2
+  containments-made = kind-made pic (containment_kind pic) (sym capacities.1) (sym (rows-by-kind pic).1)
+      (sym ((first-by-kind pic).1 ∙ box-blocks)) (λ i. sym (record-by-kind pic i).1) second (sym second_is)
+
+  arrows-made : joined (block_in (arrow_kind pic second)) third ≡ kind_bytes pic 3
+  arrows-made = kind-made pic (arrow_kind pic second) (sym capacities.2) (sym (rows-by-kind pic).2)
+      (sym ((first-by-kind pic).2 ∙ rw (box-blocks, second_is))) (λ i. sym (record-by-kind pic i).2) third (sym third-is)
 
   -- the kinds written one after the other
-  pub file-made : (l₀ l₁ l₂ l₃ : List ℕ) → 512 * (1 + second + third) ≤ length l₀ → l₁ ≡ sets l₀ (512 * 0) (kind_bytes pic 1)
-      → l₂ ≡ sets l₁ (512 * 1) (kind_bytes pic 2) → l₃ ≡ sets l₂ (512 * (1 + second)) (kind_bytes pic 3)
+  pub file-made : (l₀ l₁ l₂ l₃ : List ℕ) → 512 * (1 + second + third) ≤ length l₀ → l₁ ≡ sets l₀ (512 * 0) (joined (block_in (box_kind pic)) 1)
+      → l₂ ≡ sets l₁ (512 * 1) (joined (block_in (containment_kind pic)) second)
+      → l₃ ≡ sets l₂ (512 * (1 + second)) (joined (block_in (arrow_kind pic second)) third)
       → l₃ ≡ written (packed pic) l₀
-  file-made l₀ l₁ l₂ l₃ room p q r =
+  file-made l₀ l₁ l₂ l₃ room p₁ p₂ p₃ =
+      let p : l₁ ≡ sets l₀ (512 * 0) (kind_bytes pic 1) = rw boxes-made at p₁ in
+      let q : l₂ ≡ sets l₁ (512 * 1) (kind_bytes pic 2) = rw containments-made at p₂ in
+      let r : l₃ ≡ sets l₂ (512 * (1 + second)) (kind_bytes pic 3) = rw arrows-made at p₃ in
       let f = kind_bytes pic 1 in
       let g = kind_bytes pic 2 in
       let h = kind_bytes pic 3 in
@@ -132,8 +150,8 @@ module _ {pic : Picture} {second third : ℕ} (counted : Counted pic second thir
       rw by-kinds (rw append_assoc at three)
 
 -- refused by checks 1 to 7
-pub by-tables : (pic : Picture) (file : List ℕ) (r : Refusal) → verdict_of (table_fault pic) ≡ Stopped r
-    → (Refused r ≡ pack_answer pic file) × (file ≡ file_after pic file)
+pub by-tables : (pic : Picture) (file : List ℕ) (r : Refusal) → verdict_of (table_fault pic) ≡ Err r
+    → (Err r ≡ pack_answer pic file) × (file ≡ file_after pic file)
 by-tables pic file r e = pack-refused pic file r (fault-of-tables pic file r (refused _ r e))
 
 module _ {pic : Picture} {second third : ℕ} (counted : Counted pic second third) (file : List ℕ) where
@@ -141,17 +159,17 @@ module _ {pic : Picture} {second third : ℕ} (counted : Counted pic second thir
   by-nine = fault-of-room pic file (passed _ counted.tabled) ∙ rw (← need-is counted)
 
   -- refused by check 9
-  pub by-room : (r : Refusal) → verdict_of (room_fault 8 (length file) (512 * (1 + second + third))) ≡ Stopped r
-      → (Refused r ≡ pack_answer pic file) × (file ≡ file_after pic file)
+  pub by-room : (r : Refusal) → verdict_of (room_fault 8 (length file) (512 * (1 + second + third))) ≡ Err r
+      → (Err r ≡ pack_answer pic file) × (file ≡ file_after pic file)
   by-room r e = pack-refused pic file r (by-nine ∙ refused _ r e)
 
   -- not refused
-  module _ (fits : verdict_of (room_fault 8 (length file) (512 * (1 + second + third))) ≡ Passed) where
+  module _ (fits : verdict_of (room_fault 8 (length file) (512 * (1 + second + third))) ≡ Ok tt) where
     pub room-there : 512 * (1 + second + third) ≤ length file
     room-there = room-passed 8 (length file) _ (passed _ fits)
 
     pub by-none : (end : List ℕ) → end ≡ written (packed pic) file
-        → (Packed (512 * (1 + second + third)) ≡ pack_answer pic file) × (end ≡ file_after pic file)
+        → (Ok (512 * (1 + second + third)) ≡ pack_answer pic file) × (end ≡ file_after pic file)
     by-none end e =
         let done = pack-done pic file (by-nine ∙ passed _ fits) in
         (rw (need-is counted) done.0, e ∙ done.1)

@@ -1,5 +1,9 @@
 -- The blocks of so many rows counted one by one. Assumes nothing.
 use mathlib.Core.Path.{◌≡◌, sym, ◌∙◌}
+use Rattle.std.proofs.Common.{min, refl, Bool, true, false}
+use Rattle.packing.proofs.Chunks.{least-low, least-high}
+use borrow.Author.Tests.{ltb-true, ltb-false}
+use lib.Dec.{ltb}
 use Prim.Native.Nat.{ℕ, ◌+◌, ◌*◌, ◌-◌, ◌<◌, ◌≤◌}
 use native.Mathlib.Omega.{arith}
 use native.Mathlib.Nat.{mul-zero, mul-suc}
@@ -7,6 +11,20 @@ use native.Mathlib.Numerals.{add-one}
 use Rattle.packing.specs.Packed.{least, blocks_for}
 use Rattle.packing.proofs.Lengths.{least-most}
 use Rattle.packing.proofs.Regular.{least_above, least-second, blocks-are}
+
+-- the library's smaller of two
+pub least-of : (a b : ℕ) → min a b ≡ least a b
+least-of a b = go (ltb a b) refl
+  where
+    go : (t : Bool) → ltb a b ≡ t → min a b ≡ least a b
+    go true e =
+        let h = ltb-true a b e in
+        let m : min a b ≡ a = omega arith in
+        m ∙ sym (least-low a b (omega arith))
+    go false e =
+        let h = ltb-false a b e in
+        let m : min a b ≡ b = omega arith in
+        m ∙ sym (least-high a b h)
 
 -- a loop that has taken the rows of m blocks, each full or with the rows that were left
 pub record Taken (c n m row : ℕ) : Type 0 where

@@ -24,9 +24,6 @@ kinds (suc (suc zero)) h l = inr (inl refl)
 kinds (suc (suc (suc zero))) h l = inr (inr refl)
 kinds (suc (suc (suc (suc k)))) h l = absurd (omega arith)
 
-pub third-kind : (kind : ℕ) → 1 ≤ kind → kind ≤ 3 → (kind ≡ 1 → ⊥) → (kind ≡ 2 → ⊥) → kind ≡ 3
-third-kind kind low high a b = ⊎_elim (λ e. absurd (a e)) (λ d. ⊎_elim (λ e. absurd (b e)) (λ e. e) d) (kinds kind low high)
-
 -- the smaller of two
 pub least-most : (a b : ℕ) → (least a b ≤ a) × (least a b ≤ b)
 unfolding least
@@ -97,7 +94,7 @@ module _ (kind : ℕ) (low : 1 ≤ kind) (high : kind ≤ 3) where
         let fit = records-fit count most in
         simp (length-append, head-length kind number count, joined_length records (record_size kind) count (λ j h. len j), zeros-length) (omega arith)
 
-    block-length : length (block_of kind number count records) ≡ 512
+    pub block-length : length (block_of kind number count records) ≡ 512
     unfolding block_of bytes32 bytes16
     block-length = simp (length-append, covered-length)
 

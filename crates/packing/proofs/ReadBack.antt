@@ -1,8 +1,10 @@
 -- Document 02, P1: the packed file of a picture that checks 1 to 7 pass is good and says the picture's tables, so reading it returns
 -- them, and pictures with the same packed bytes are the same. Assumes nothing.
 use mathlib.Core.Path.{◌≡◌, sym, ap, ◌∙◌}
+use Rattle.std.proofs.Common.{Result, Ok}
+use Rattle.tables.specs.declared.Refusal.{Refusal}
 use mathlib.Core.List.{List}
-use mathlib.Core.Option.{none}
+use Rattle.std.specs.Prelude.{None as none}
 use Prim.Native.Nat.{ℕ, ◌<◌, ◌≤◌}
 use native.Mathlib.Omega.{arith}
 use lib.ListN.{length}
@@ -15,7 +17,6 @@ use Rattle.blocks.specs.Files.{file_fault, table_of, picture_of}
 use Rattle.blocks.specs.Reads.{row_counts, read_fault, answer_of}
 use Rattle.blocks.specs.Steps.{table_in, counts_of}
 use Rattle.blocks.specs.declared.Counts.{Counts}
-use Rattle.blocks.specs.declared.Reading.TheVariants.{Tables}
 use Rattle.blocks.proofs.Made.{made_table, made-counts, made-good, made-read}
 use Rattle.blocks.proofs.MadeBlocks.{counts-in, tables-passed}
 use Rattle.packing.specs.Packed.{packed}
@@ -78,13 +79,13 @@ module _ (pic : Picture) (sound : table_fault pic ≡ none) where
   pub read_back : (b r a : List ℕ) → length pic.boxes ≤ length b → length pic.rows ≤ length r → length pic.arrows ≤ length a
       → let fault = read_fault (packed pic) b r a in
       (answer_of fault (row_counts (picture_of (packed pic)))
-      ≡ Tables (record { boxes = length pic.boxes; containments = row_count pic.rows; arrows = arrow_count pic.arrows }))
+      ≡ Ok (record { boxes = length pic.boxes; containments = row_count pic.rows; arrows = arrow_count pic.arrows }))
       × (unless_refused fault (picture_of (packed pic)).boxes b ≡ written pic.boxes b)
       × (unless_refused fault (picture_of (packed pic)).rows r ≡ written pic.rows r)
       × (unless_refused fault (picture_of (packed pic)).arrows a ≡ written pic.arrows a)
   read_back b r a p q s =
       let e = no-fault b r a p q s in (
-        rw e (ap (λ (c : Counts). Tables c) packed-counts),
+        rw e (ap {B = Result Counts Refusal} (λ (c : Counts). Ok c) packed-counts),
         rw e (ap (λ (l : List ℕ). written l b) packed-boxes),
         rw e (ap (λ (l : List ℕ). written l r) packed-containments),
         rw e (ap (λ (l : List ℕ). written l a) packed-arrows),

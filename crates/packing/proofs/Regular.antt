@@ -51,15 +51,6 @@ blocks-are c n m some enough few =
     let l : r < c = omega arith in
     rw e (mul-add-div some m r ∙ rw (div-eq_of_lt l) (add-zero m))
 
--- a block begins within the rows
-fills-begun : (c n m k : ℕ) → Fills c n m → k < m → c * k ≤ n
-fills-begun c n m k f h =
-    let l : suc k ≤ m = omega arith in
-    let p = mul-le-mul_left c l in
-    let e : c * suc k ≡ c * k + c = rw mul-suc in
-    let q = f.few in
-    omega arith
-
 -- all but the last block are full
 fills-full : (c n m k : ℕ) → Fills c n m → k + 1 < m → c ≤ n - c * k
 fills-full c n m k f h =
@@ -149,10 +140,6 @@ module _ (pic : Picture) where
     -- every row is in a block
     pub all-packed : rows_of pic kind ≤ capacity kind * blocks_of pic kind
     all-packed = fills.enough
-
-    -- a block of a kind begins within its rows
-    pub block-begun : (k : ℕ) → k < blocks_of pic kind → capacity kind * k ≤ rows_of pic kind
-    block-begun k h = fills-begun (capacity kind) _ _ k fills h
 
     -- all blocks of a kind but the last are full
     pub full-but-last : (k : ℕ) → k + 1 < blocks_of pic kind → count_in pic kind k ≡ capacity kind

@@ -1,7 +1,7 @@
 -- Document 02, P1: a regular block file: blocks of each kind are full but the last, and no block is empty, except that a picture without
 -- boxes has one box block of count 0. Assumes nothing.
 use Rattle.std.specs.Prelude.{◌≡◌, List, ℕ, ◌<◌, get_or}
-use Rattle.std.proofs.Math.Option.{none}
+use Rattle.std.specs.Prelude.{None as none}
 use Rattle.tables.specs.Rows.{Picture}
 use Rattle.blocks.specs.Blocks.{head_of, capacity}
 use Rattle.blocks.specs.Files.{block_count, block_at, file_fault, picture_of}

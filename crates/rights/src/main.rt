@@ -4,179 +4,148 @@
 #![tactic(auto)]
 
 mod messages;
-mod watched;
 
-ghost use Rattle.std.specs.Prelude.{◌≡◌, ◌*◌, ◌≤◌, length, take};
+ghost use Rattle.std.specs.Prelude.{◌≡◌, ◌*◌, ◌≤◌, length, take, IfOk};
 ghost use Rattle.base.specs.Buffers.{zeros};
 ghost use Rattle.tables.specs.Rows.{picture};
+ghost use Rattle.tables.specs.Rows.{shown};
 ghost use Rattle.certificates.specs.Steps.{Drawn};
 ghost use Rattle.listing.specs.Files.{listing_of, file_listing};
 ghost use Rattle.listing.specs.Listing.{picture_listing};
 ghost use Rattle.sending.specs.Steps.{SentAll, WroteAll};
-ghost use Rattle.rights.specs.Steps.{GotMost};
 
-use blocks::{Counts, Reading};
-use messages::{fail, usage};
-use sending::{Sent, send_picture, send_stopped};
+use base::filled;
+use blocks::{Check, Counts};
+use containment::Closure;
+use messages::{Failure, fail, usage};
+use sending::{send_picture, send_stopped};
 use std::env::{Env, FillError};
 use std::fs;
 use std::fs::Files;
 use std::io::{Error, Read, Write};
-use tables::{BoxRow, Verdict};
-use watched::Watched;
+use tables::{BoxRow, Tables};
 
 // ---- Input.
 
-// How many bytes were read, or that a read failed.
-#[derive(Clone, Copy)]
-enum Input {
-    Bytes(usize),
-    Failed,
-}
-
-// Reads until the buffer is full, the input ends or a read fails.
-fn read_all<R: Read>(from: &mut R, file: &mut [u8]) -> Input
-    ensures { GotMost (length file.new) result }
+// Reads until the buffer is full, the input ends or a read fails, and answers how many bytes came.
+// Kept: a loop over `read`, since no method of `Read` fills a buffer as far as the input goes (`read_exact` fails at its end).
+fn read_all<R: Read>(from: &mut R, file: &mut [u8]) -> Result<usize, Error>
+    ensures { IfOk result (λ n. n ≤ length file.new) }
 {
     let mut at = 0;
     while at < file.len() {
-        let Ok(n) = from.read(&mut file[at..]) else {
-            return Input::Failed;
-        };
+        let n = from.read(&mut file[at..])?;
         if n == 0 {
-            return Input::Bytes(at);
+            break;
         }
         at += n;
     }
-    Input::Bytes(at)
+    Ok(at)
 }
 
 // ---- The listing goes out: unless a write failed, what went out has the check of the listing, and a writer whose bytes a contract can
 // speak of has just the listing more.
 
 // Of a picture without faults.
-fn list_picture<W: Write>(
-    to: &mut W,
-    boxes: &[u8],
-    rows: &[u16],
-    arrows: &[u16],
-    closure: &[u64],
-) -> Sent
-    requires { Drawn (picture boxes.now rows.now arrows.now) closure.now }
-    ensures check { SentAll (picture_listing (picture boxes.now rows.now arrows.now)) result }
-    ensures bytes { let pic = picture boxes.now rows.now arrows.now in
-        WroteAll (W.contents to.old) (W.contents to.new) (picture_listing pic) result }
+fn list_picture<W: Write>(to: &mut W, t: Tables, closure: &Closure) -> Result<Check, Error>
+    requires { Drawn (shown t) closure.now }
+    ensures check { SentAll (picture_listing (shown t.entry)) result }
+    ensures bytes { WroteAll (W.contents to.old) (W.contents to.new) (picture_listing (shown t.entry)) result }
 {
-    let mut users = atoms::box_room();
-    let mut files = atoms::box_room();
-    let user_count = atoms::atoms_of(boxes, rows, BoxRow::USER, &mut users);
-    let file_count = atoms::atoms_of(boxes, rows, BoxRow::FILE, &mut files);
-    send_picture(
-        to,
-        boxes,
-        rows,
-        arrows,
-        closure,
-        &users[..user_count],
-        &files[..file_count],
-    )
+    // Kept, as in what follows: arrays with counts beside them, since there is no heap here.
+    let mut users: [u16; BoxRow::LIMIT] = filled(0);
+    let mut files: [u16; BoxRow::LIMIT] = filled(0);
+    let user_count = atoms::atoms_of(t.boxes, t.rows, BoxRow::USER, &mut users);
+    let file_count = atoms::atoms_of(t.boxes, t.rows, BoxRow::FILE, &mut files);
+    send_picture(to, t, closure, &users[..user_count], &files[..file_count])
 }
 
 // Of any picture.
-fn list_tables<W: Write>(to: &mut W, boxes: &[u8], rows: &[u16], arrows: &[u16]) -> Sent
-    ensures check { let pic = picture boxes.now rows.now arrows.now in
-        SentAll (listing_of pic (zeros 65536)) result }
-    ensures bytes { let pic = picture boxes.now rows.now arrows.now in
+fn list_tables<W: Write>(to: &mut W, t: Tables) -> Result<Check, Error>
+    ensures check { SentAll (listing_of (shown t.entry) (zeros 65536)) result }
+    ensures bytes { let pic = shown t.entry in
         WroteAll (W.contents to.old) (W.contents to.new) (listing_of pic (zeros 65536)) result }
 {
     let mut scratch = io::large_buffer();
-    let mut closure = containment::closure_room();
-    let early = scratch::early_picture(boxes, rows, arrows, &scratch);
-    let v = scratch::prepare(early, boxes, rows, &mut scratch, &mut closure);
-    if let Verdict::Refused(r) = v {
-        return send_stopped(to, r);
+    let mut closure: Closure = filled(0);
+    let early = scratch::early_picture(t, &scratch);
+    match scratch::prepare(early, t.boxes, t.rows, &mut scratch, &mut closure) {
+        Ok(()) => list_picture(to, t, &closure),
+        Err(r) => send_stopped(to, r),
     }
-    list_picture(to, boxes, rows, arrows, &closure)
 }
 
 // Of tables that were read, by their row counts.
-fn list_counted<W: Write>(to: &mut W, c: Counts, boxes: &[u8], rows: &[u16], arrows: &[u16]) -> Sent
-    requires { (c.boxes ≤ length boxes.now) × (2 * c.containments ≤ length rows.now)
-        × (4 * c.arrows ≤ length arrows.now) }
-    ensures check { let pic = picture (take c.boxes boxes.now)
-        (take (2 * c.containments) rows.now) (take (4 * c.arrows) arrows.now) in
+fn list_counted<W: Write>(to: &mut W, t: Tables, c: Counts) -> Result<Check, Error>
+    requires { (c.boxes ≤ length t.boxes.now) × (2 * c.containments ≤ length t.rows.now)
+        × (4 * c.arrows ≤ length t.arrows.now) }
+    ensures check { let pic = picture (take c.boxes t.entry.boxes.now)
+        (take (2 * c.containments) t.entry.rows.now) (take (4 * c.arrows) t.entry.arrows.now) in
         SentAll (listing_of pic (zeros 65536)) result }
-    ensures bytes { let pic = picture (take c.boxes boxes.now)
-        (take (2 * c.containments) rows.now) (take (4 * c.arrows) arrows.now) in
+    ensures bytes { let pic = picture (take c.boxes t.entry.boxes.now)
+        (take (2 * c.containments) t.entry.rows.now) (take (4 * c.arrows) t.entry.arrows.now) in
         WroteAll (W.contents to.old) (W.contents to.new) (listing_of pic (zeros 65536)) result }
 {
-    let nb = c.boxes;
-    let nr = 2 * c.containments;
-    let na = 4 * c.arrows;
-    list_tables(to, &boxes[..nb], &rows[..nr], &arrows[..na])
-}
-
-// Room for the tables, and for the file with a byte more than the longest.
-fn box_bytes() -> [u8; BoxRow::LIMIT]
-    ensures { 256 ≡ length result }
-{
-    [0; BoxRow::LIMIT]
-}
-
-fn table_numbers() -> [u16; 2048]
-    ensures { 2048 ≡ length result }
-{
-    [0; 2048]
-}
-
-fn file_bytes() -> [u8; 32769]
-    ensures { 32769 ≡ length result }
-{
-    [0; 32769]
+    let cut = Tables {
+        boxes: &t.boxes[..c.boxes],
+        rows: &t.rows[..2 * c.containments],
+        arrows: &t.arrows[..4 * c.arrows],
+    };
+    list_tables(to, cut)
 }
 
 // Of a file that was read.
-fn list<W: Write>(to: &mut W, file: &[u8]) -> Sent
+fn list<W: Write>(to: &mut W, file: &[u8]) -> Result<Check, Error>
     ensures check { SentAll (file_listing file.now) result }
     ensures bytes { WroteAll (W.contents to.old) (W.contents to.new) (file_listing file.now) result }
 {
-    let mut boxes = box_bytes();
-    let mut rows = table_numbers();
-    let mut arrows = table_numbers();
-    let reading = block_files::read(file, &mut boxes, &mut rows, &mut arrows);
-    match reading {
-        Reading::Refused(r) => send_stopped(to, r),
-        Reading::Tables(c) => list_counted(to, c, &boxes, &rows, &arrows),
+    let mut boxes: [u8; BoxRow::LIMIT] = filled(0);
+    let mut rows: [u16; 2048] = filled(0);
+    let mut arrows: [u16; 2048] = filled(0);
+    match block_files::read(file, &mut boxes, &mut rows, &mut arrows) {
+        Ok(counts) => {
+            let t = Tables {
+                boxes: &boxes,
+                rows: &rows,
+                arrows: &arrows,
+            };
+            list_counted(to, t, counts)
+        }
+        Err(r) => send_stopped(to, r),
     }
 }
 
-// ---- Which file is read.
+// ---- Which file is read. What fails goes up to `main`, which says it.
 
-fn list_from<R: Read + Drop, W: Write + Drop, E: Write>(from: R, to: W, err: &mut E) {
-    let mut from = Watched::new(from);
-    let mut to = Watched::new(to);
-    let mut file = file_bytes();
-    let input = read_all(&mut from, &mut file);
-    let Input::Bytes(n) = input else {
-        fail(err, b"cannot read the file", from.why);
-        return;
-    };
-    let sent = list(&mut to, &file[..n]);
-    if sent.failed {
-        fail(err, b"cannot write the listing", to.why);
-    }
+fn list_from<'a, R: Read + Drop, W: Write + Drop>(
+    mut from: R,
+    mut to: W,
+) -> Result<(), Failure<'a>> {
+    // A byte more than the longest file has.
+    let mut file: [u8; 32769] = filled(0);
+    let n = read_all(&mut from, &mut file).map_err(|why| Failure {
+        what: b"cannot read the file",
+        why,
+    })?;
+    list(&mut to, &file[..n]).map_err(|why| Failure {
+        what: b"cannot write the listing",
+        why,
+    })?;
+    Ok(())
 }
 
 // A name that is not UTF-8 is the name of no file that std can open.
-fn list_named<F: Files, W: Write + Drop, E: Write>(files: &F, name: &[u8], to: W, err: &mut E) {
-    let Ok(path) = std::str::from_utf8(name) else {
-        fail(err, name, Some(Error::from_raw_os_error(NO_SUCH_FILE)));
-        return;
-    };
-    match fs::open(files, path) {
-        Ok(file) => list_from(file, to, err),
-        Err(e) => fail(err, name, Some(e)),
-    }
+fn list_named<'a, F: Files, W: Write + Drop>(
+    files: &F,
+    name: &'a [u8],
+    to: W,
+) -> Result<(), Failure<'a>> {
+    let path = std::str::from_utf8(name).map_err(|_| Failure {
+        what: name,
+        why: Error::from_raw_os_error(NO_SUCH_FILE),
+    })?;
+    let file = fs::open(files, path).map_err(|why| Failure { what: name, why })?;
+    list_from(file, to)
 }
 
 // Linux's numbers of two errors.
@@ -191,20 +160,23 @@ fn main(rt: HostRuntime) {
         return;
     }
     let mut name = io::buffer();
-    match rt.arg(1, &mut name) {
-        Err(FillError::NotPresent) => list_from(rt.stdin(), rt.stdout(), &mut err),
-        Err(FillError::TooLong) => fail(
-            &mut err,
-            b"argument",
-            Some(Error::from_raw_os_error(NAME_TOO_LONG)),
-        ),
+    let listed = match rt.arg(1, &mut name) {
+        Err(FillError::NotPresent) => list_from(rt.stdin(), rt.stdout()),
+        Err(FillError::TooLong) => Err(Failure {
+            what: b"argument",
+            why: Error::from_raw_os_error(NAME_TOO_LONG),
+        }),
         Ok(n) => {
             let name = &name[..n];
             if name == b"--help".as_slice() {
                 usage(&mut err);
+                Ok(())
             } else {
-                list_named(&rt, name, rt.stdout(), &mut err);
+                list_named(&rt, name, rt.stdout())
             }
         }
+    };
+    if let Err(failure) = listed {
+        fail(&mut err, failure);
     }
 }

@@ -1,7 +1,7 @@
 -- What the answer of each call is as a reply, by the call's fault. Assumes nothing.
 use mathlib.Core.Path.{◌≡◌, refl, sym, ap}
 use mathlib.Core.List.{List}
-use mathlib.Core.Option.{Option, none, some}
+use Rattle.std.specs.Prelude.{Option, None as none, Some as some, Result, Ok, Err}
 use Prim.Native.Nat.{ℕ}
 use lib.ListN.{length}
 use Rattle.base.specs.Search.{or_else}
@@ -23,40 +23,43 @@ use Rattle.packing.specs.Packed.{packed}
 use Rattle.packing.specs.Packs.{pack_fault, pack_answer}
 use Rattle.packing.proofs.CallLaws.{pack-refused, pack-done}
 use Rattle.rights_c.specs.Replies.{done_reply, reply_by, entry_reply}
-use Rattle.rights_c.specs.Steps.{verdict_reply, asked_reply, list_reply, heading_reply, counts_reply, read_reply, pack_reply}
+use Rattle.rights_c.specs.Steps.{answer_reply, counts_reply}
+use Rattle.rights_c.specs.declared.Reply.{Reply}
 
-pub verdict-reply : (fault : Option Refusal) → verdict_reply (verdict_of fault) ≡ reply_by fault (done_reply 0 0 0)
-verdict-reply none = refl
-verdict-reply (some r) = refl
+-- a call that answers x where it finds no fault, and else the fault
+by-fault : {A : Type 0} (f : A → Reply) (x : A) (answer : Option Refusal → Result A Refusal) → answer none ≡ Ok x
+    → ((r : Refusal) → answer (some r) ≡ Err r) → (fault : Option Refusal) → answer_reply f (answer fault) ≡ reply_by fault (f x)
+by-fault f x answer done stopped none = ap (answer_reply f) done
+by-fault f x answer done stopped (some r) = ap (answer_reply f) (stopped r)
 
-pub asked-reply : (fault : Option Refusal) (e : Entry) → asked_reply (reply_of fault e) ≡ reply_by fault (entry_reply e)
-asked-reply none e = ap asked_reply (reply-answered e)
-asked-reply (some r) e = ap asked_reply (reply-refused r e)
+-- the same, where the fault is found on the way
+found-fault : {A : Type 0} (f : A → Reply) (x : A) (answer : Result A Refusal) (fault : Option Refusal) → (fault ≡ none → answer ≡ Ok x)
+    → ((r : Refusal) → fault ≡ some r → answer ≡ Err r) → answer_reply f answer ≡ reply_by fault (f x)
+found-fault f x answer none done stopped = ap (answer_reply f) (done refl)
+found-fault f x answer (some r) done stopped = ap (answer_reply f) (stopped r refl)
+
+pub verdict-reply : (fault : Option Refusal) → answer_reply (λ _. done_reply 0 0 0) (verdict_of fault) ≡ reply_by fault (done_reply 0 0 0)
+verdict-reply = by-fault (λ _. done_reply 0 0 0) tt verdict_of refl (λ r. refl)
+
+pub asked-reply : (fault : Option Refusal) (e : Entry) → answer_reply entry_reply (reply_of fault e) ≡ reply_by fault (entry_reply e)
+asked-reply fault e = by-fault entry_reply e (λ o. reply_of o e) (reply-answered e) (λ r. reply-refused r e) fault
 
 pub heading-reply : (boxes rows : List ℕ) (fault : Option Refusal)
-    → heading_reply (headings_of boxes rows fault)
+    → answer_reply (λ p. done_reply p.0 p.1 0) (headings_of boxes rows fault)
     ≡ reply_by fault (done_reply (length (atoms boxes rows user)) (length (atoms boxes rows file)) 0)
-heading-reply boxes rows none = ap heading_reply (headings-written boxes rows)
-heading-reply boxes rows (some r) = ap heading_reply (headings-refused boxes rows r)
+heading-reply boxes rows =
+    by-fault (λ p. done_reply p.0 p.1 0) _ (headings_of boxes rows) (headings-written boxes rows) (headings-refused boxes rows)
 
-pub read-reply : (fault : Option Refusal) (counts : Counts) → read_reply (answer_of fault counts) ≡ reply_by fault (counts_reply counts)
-read-reply none counts = refl
-read-reply (some r) counts = refl
+pub read-reply : (fault : Option Refusal) (counts : Counts)
+    → answer_reply counts_reply (answer_of fault counts) ≡ reply_by fault (counts_reply counts)
+read-reply fault counts = by-fault counts_reply counts (λ o. answer_of o counts) refl (λ r. refl) fault
 
 pub list-reply : (pic : Picture) (m : ℕ) (fault : Option Refusal)
-    → list_reply (list_answer pic m fault) ≡ reply_by (or_else fault (order_fault pic m)) (done_reply (length (greedy pic m)) 0 0)
-list-reply pic m fault = go (or_else fault (order_fault pic m)) refl
-  where
-    go : (all : Option Refusal) → or_else fault (order_fault pic m) ≡ all
-        → list_reply (list_answer pic m fault) ≡ reply_by all (done_reply (length (greedy pic m)) 0 0)
-    go none e = ap list_reply (list_written pic m fault e)
-    go (some r) e = ap list_reply (list-refused pic m fault r e)
+    → answer_reply (λ n. done_reply n 0 0) (list_answer pic m fault)
+    ≡ reply_by (or_else fault (order_fault pic m)) (done_reply (length (greedy pic m)) 0 0)
+list-reply pic m fault = found-fault (λ n. done_reply n 0 0) _ _ _ (list_written pic m fault) (list-refused pic m fault)
 
 pub pack-reply : (pic : Picture) (lent : List ℕ)
-    → pack_reply (pack_answer pic lent) ≡ reply_by (pack_fault pic lent) (done_reply (length (packed pic)) 0 0)
-pack-reply pic lent = go (pack_fault pic lent) refl
-  where
-    go : (fault : Option Refusal) → pack_fault pic lent ≡ fault
-        → pack_reply (pack_answer pic lent) ≡ reply_by fault (done_reply (length (packed pic)) 0 0)
-    go none e = ap pack_reply (sym (pack-done pic lent e).0)
-    go (some r) e = ap pack_reply (sym (pack-refused pic lent r e).0)
+    → answer_reply (λ n. done_reply n 0 0) (pack_answer pic lent) ≡ reply_by (pack_fault pic lent) (done_reply (length (packed pic)) 0 0)
+pack-reply pic lent =
+    found-fault (λ n. done_reply n 0 0) _ _ _ (λ e. sym (pack-done pic lent e).0) (λ r e. sym (pack-refused pic lent r e).0)

@@ -18,16 +18,14 @@ ghost use Rattle.blocks.specs.Reads.{row_counts, read_fault};
 ghost use Rattle.packing.specs.Packed.{packed};
 ghost use Rattle.packing.specs.Packs.{pack_fault, file_after};
 ghost use Rattle.rights_c.specs.Replies.{reply, done_reply, reply_by, entry_reply};
-ghost use Rattle.rights_c.specs.Steps.{refused_reply, verdict_reply, asked_reply, list_reply, heading_reply, read_reply, pack_reply};
+ghost use Rattle.rights_c.specs.Steps.{refused_reply, answer_reply, counts_reply};
 
-use blocks::Reading;
-use headings::Headings;
-use list_meaning::Listed;
+use blocks::Counts;
 use meaning::Entry;
-use packing::Packing;
-use tables::{Refusal, Verdict};
+use tables::{Numbers, Refusal, Tables};
 
 // What a call answers: its kind, a refusal's number, and three numbers; 0 where nothing is named.
+// Kept: numbers for the kind and the refusal, since the C interface needs them.
 #[repr(C)]
 #[derive(Clone, Copy)]
 pub struct Reply {
@@ -36,6 +34,32 @@ pub struct Reply {
     pub a: u64,
     pub b: u64,
     pub c: u64,
+}
+
+impl From<Refusal> for Reply {
+    ghost from_gives = { λ r x. x ≡ refused_reply r };
+
+    fn from(r: Refusal) -> Self {
+        let n = Numbers::from(r);
+        Self {
+            kind: 4,
+            number: u32::from(n.number),
+            a: n.first as u64,
+            b: n.second as u64,
+            c: n.third as u64,
+        }
+    }
+}
+
+// What a call answers where it is not refused.
+trait Answer {
+    ghost use Rattle.rights_c.specs.declared.Reply.{Reply};
+
+    // the reply that shows it
+    ghost shown_as: { Self → Reply };
+
+    fn reply(self) -> Reply
+        ensures { result ≡ shown_as self };
 }
 
 fn done(a: usize, b: usize, c: usize) -> Reply
@@ -50,24 +74,39 @@ fn done(a: usize, b: usize, c: usize) -> Reply
     }
 }
 
-fn of_refusal(x: Refusal) -> Reply
-    ensures { result ≡ refused_reply x }
-{
-    Reply {
-        kind: 4,
-        number: x.number as u32,
-        a: x.first as u64,
-        b: x.second as u64,
-        c: x.third as u64,
+// The judge and the matrix.
+impl Answer for () {
+    ghost shown_as = { λ _. done_reply 0 0 0 };
+
+    fn reply(self) -> Reply {
+        done(0, 0, 0)
     }
 }
 
-fn of_verdict(v: Verdict) -> Reply
-    ensures { result ≡ verdict_reply v }
-{
-    match v {
-        Verdict::Passed => done(0, 0, 0),
-        Verdict::Refused(x) => of_refusal(x),
+// The count of the list, and the length of a packed file.
+impl Answer for usize {
+    ghost shown_as = { λ n. done_reply n 0 0 };
+
+    fn reply(self) -> Reply {
+        done(self, 0, 0)
+    }
+}
+
+// The two counts of the headings.
+impl Answer for (usize, usize) {
+    ghost shown_as = { λ p. done_reply p.0 p.1 0 };
+
+    fn reply(self) -> Reply {
+        done(self.0, self.1, 0)
+    }
+}
+
+// The three row counts of a file.
+impl Answer for Counts {
+    ghost shown_as = { counts_reply };
+
+    fn reply(self) -> Reply {
+        done(self.boxes, self.containments, self.arrows)
     }
 }
 
@@ -77,65 +116,32 @@ fn shown(kind: u32, a: u16, b: u16) -> Reply
     Reply {
         kind,
         number: 0,
-        a: a as u64,
-        b: b as u64,
+        a: u64::from(a),
+        b: u64::from(b),
         c: 0,
     }
 }
 
-fn of_entry(e: Entry) -> Reply
-    ensures { result ≡ entry_reply e }
-{
-    match e {
-        Entry::Granted(k) => shown(1, k, 0),
-        Entry::Denied(k) => shown(0, k, 0),
-        Entry::Default => shown(3, 0, 0),
-        Entry::Unclear(p, n) => shown(2, p, n),
+impl Answer for Entry {
+    ghost shown_as = { entry_reply };
+
+    fn reply(self) -> Reply {
+        match self {
+            Entry::Granted(k) => shown(1, k, 0),
+            Entry::Denied(k) => shown(0, k, 0),
+            Entry::Default => shown(3, 0, 0),
+            Entry::Unclear(p, n) => shown(2, p, n),
+        }
     }
 }
 
-fn of_asked(x: answers::EntryReply) -> Reply
-    ensures { result ≡ asked_reply x }
+// A call's reply.
+fn reply_of<T: Answer>(answer: Result<T, Refusal>) -> Reply
+    ensures { result ≡ answer_reply T.shown_as answer }
 {
-    match x {
-        answers::EntryReply::Answered(e) => of_entry(e),
-        answers::EntryReply::Refused(y) => of_refusal(y),
-    }
-}
-
-fn of_list(l: Listed) -> Reply
-    ensures { result ≡ list_reply l }
-{
-    match l {
-        Listed::Written(count) => done(count, 0, 0),
-        Listed::Refused(x) => of_refusal(x),
-    }
-}
-
-fn of_headings(h: Headings) -> Reply
-    ensures { result ≡ heading_reply h }
-{
-    match h {
-        Headings::Written(users, files) => done(users, files, 0),
-        Headings::Refused(x) => of_refusal(x),
-    }
-}
-
-fn of_reading(x: Reading) -> Reply
-    ensures { result ≡ read_reply x }
-{
-    match x {
-        Reading::Tables(c) => done(c.boxes, c.containments, c.arrows),
-        Reading::Refused(y) => of_refusal(y),
-    }
-}
-
-fn of_packing(x: Packing) -> Reply
-    ensures { result ≡ pack_reply x }
-{
-    match x {
-        Packing::Packed(len) => done(len, 0, 0),
-        Packing::Refused(y) => of_refusal(y),
+    match answer {
+        Ok(x) => x.reply(),
+        Err(r) => Reply::from(r),
     }
 }
 
@@ -152,7 +158,12 @@ pub extern "C" fn rights_judge(
         scratch.new ≡ scratch_after (early_fault pic scratch.old) boxes.now rows.now
         scratch.old }
 {
-    of_verdict(answers::judge(boxes, rows, arrows, scratch))
+    let t = Tables {
+        boxes,
+        rows,
+        arrows,
+    };
+    reply_of(answers::judge(t, scratch))
 }
 
 #[unsafe(no_mangle)]
@@ -171,7 +182,12 @@ pub extern "C" fn rights_entry(
         scratch.new ≡ scratch_after (mode_early pic scratch.old mode) boxes.now rows.now
         scratch.old }
 {
-    of_asked(answers::one_entry(boxes, rows, arrows, scratch, user, file, mode))
+    let t = Tables {
+        boxes,
+        rows,
+        arrows,
+    };
+    reply_of(answers::one_entry(t, scratch, user, file, mode))
 }
 
 #[unsafe(no_mangle)]
@@ -194,7 +210,12 @@ pub extern "C" fn rights_matrix(
     ensures numbers_after { let pic = picture boxes.now rows.now arrows.now in
         numbers.new ≡ numbers_after pic scratch.old mode bytes.old numbers.old }
 {
-    of_verdict(answers::matrix(boxes, rows, arrows, scratch, mode, bytes, numbers))
+    let t = Tables {
+        boxes,
+        rows,
+        arrows,
+    };
+    reply_of(answers::matrix(t, scratch, mode, bytes, numbers))
 }
 
 #[unsafe(no_mangle)]
@@ -220,7 +241,12 @@ pub extern "C" fn rights_list(
         work.new ≡ work_after pic mode (list_before pic mode scratch.old list.old work.old)
         work.old }
 {
-    of_list(lists::list(boxes, rows, arrows, scratch, mode, list, work))
+    let t = Tables {
+        boxes,
+        rows,
+        arrows,
+    };
+    reply_of(lists::list(t, scratch, mode, list, work))
 }
 
 #[unsafe(no_mangle)]
@@ -238,7 +264,7 @@ pub extern "C" fn rights_atoms(
     ensures files_after { files.new
         ≡ files_after boxes.now rows.now users.old files.old }
 {
-    of_headings(headings::atomic_boxes(boxes, rows, users, files))
+    reply_of(headings::atomic_boxes(boxes, rows, users, files))
 }
 
 #[unsafe(no_mangle)]
@@ -258,7 +284,7 @@ pub extern "C" fn rights_read(
     ensures arrows_after { let fault = read_fault file.now boxes.old rows.old arrows.old in
         arrows.new ≡ unless_refused fault (picture_of file.now).arrows arrows.old }
 {
-    of_reading(block_files::read(file, boxes, rows, arrows))
+    reply_of(block_files::read(file, boxes, rows, arrows))
 }
 
 #[unsafe(no_mangle)]
@@ -268,7 +294,12 @@ pub extern "C" fn rights_pack(boxes: &[u8], rows: &[u16], arrows: &[u16], file: 
     ensures file_after { let pic = picture boxes.now rows.now arrows.now in
         file.new ≡ file_after pic file.old }
 {
-    of_packing(packer::pack(boxes, rows, arrows, file))
+    let t = Tables {
+        boxes,
+        rows,
+        arrows,
+    };
+    reply_of(packer::pack(t, file))
 }
 
 // The version of these calls: major × 65,536 + minor × 256 + patch, of which major is 4 and the others 0.

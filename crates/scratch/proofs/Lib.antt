@@ -2,6 +2,5 @@
 pub mod DrawnLaws
 pub mod ScratchLaws
 pub mod PictureLaws
-mod OnesLaws
 mod SpreadLaws
 mod MarkLaws

@@ -1,17 +1,13 @@
 -- What holds of a picture that passes checks 1 to 7, 9 for the scratch, and 10; and 8 for a mode. Assumes nothing.
-use mathlib.Core.Path.{◌≡◌, refl, sym, ◌∙◌}
+use mathlib.Core.Path.{◌≡◌, refl}
 use mathlib.Core.List.{List}
-use mathlib.Core.Option.{Option, none}
+use Rattle.std.specs.Prelude.{None as none}
 use Prim.Native.Nat.{ℕ, ◌*◌, ◌≤◌}
 use lib.ListN.{length}
 use Rattle.base.specs.Search.{or_else}
 use Rattle.tables.specs.Rows.{Picture, picture}
 use Rattle.tables.specs.Faults.{table_fault, mode_fault}
-use Rattle.tables.specs.Refusals.{verdict_of}
-use Rattle.tables.specs.Steps.{SoundRows, SoundArrows, either}
-use Rattle.tables.specs.declared.Refusal.{Refusal}
-use Rattle.tables.specs.declared.Verdict.TheVariants.{Passed, Refused}
-use Rattle.tables.proofs.Verdicts.{either-verdict, either-three, refuses, passes}
+use Rattle.tables.specs.Steps.{SoundRows, SoundArrows}
 use Rattle.tables.proofs.TableLaws.{both-none, sound-rows, sound-arrows}
 use Rattle.containment.specs.Contains.{loop_fault}
 use Rattle.scratch.specs.Scratch.{scratch_fault, early_fault, mode_early, picture_fault}
@@ -67,30 +63,13 @@ picture-room boxes rows arrows s t e = rw e
 -- ---- checks 1 to 9 of a call for a mode
 
 module _ (pic : Picture) (s : List ℕ) (mode : ℕ) where
+  -- one after the other
+  pub mode-is : mode_early pic s mode ≡ or_else (table_fault pic) (or_else (mode_fault mode) (scratch_fault (length pic.boxes) s))
+  unfolding mode_early
+  mode-is = refl
+
   pub mode-parts : mode_early pic s mode ≡ none → (table_fault pic ≡ none) × (scratch_fault (length pic.boxes) s ≡ none)
   unfolding mode_early
   mode-parts e =
       let a = both-none (table_fault pic) (or_else (mode_fault mode) (scratch_fault (length pic.boxes) s)) e in
       (a.0, (both-none (mode_fault mode) (scratch_fault (length pic.boxes) s) a.1).1)
-
-  -- one of 1 to 7 refuses
-  pub mode-refused : (r : Refusal) → verdict_of (table_fault pic) ≡ Refused r → Refused r ≡ verdict_of (mode_early pic s mode)
-  unfolding mode_early
-  mode-refused r e = refuses _ _ r e
-
-  -- they pass: 8 and 9, one after the other
-  pub mode-passed : verdict_of (table_fault pic) ≡ Passed
-      → either (verdict_of (mode_fault mode)) (verdict_of (scratch_fault (length pic.boxes) s)) ≡ verdict_of (mode_early pic s mode)
-  unfolding mode_early
-  mode-passed e = either-verdict (mode_fault mode) (scratch_fault (length pic.boxes) s) ∙ passes _ _ e
-
-  -- the same with 9 for two buffers more
-  module _ (a b : Option Refusal) where
-    pub rooms-refused : (r : Refusal) → verdict_of (table_fault pic) ≡ Refused r
-        → Refused r ≡ verdict_of (or_else (mode_early pic s mode) (or_else a b))
-    rooms-refused r e = refuses (mode_early pic s mode) (or_else a b) r (sym (mode-refused r e))
-
-    pub rooms-passed : verdict_of (table_fault pic) ≡ Passed
-        → either (either (either (verdict_of (mode_fault mode)) (verdict_of (scratch_fault (length pic.boxes) s))) (verdict_of a)) (verdict_of b)
-        ≡ verdict_of (or_else (mode_early pic s mode) (or_else a b))
-    rooms-passed e = rw (mode-passed e) (either-three (mode_early pic s mode) a b)

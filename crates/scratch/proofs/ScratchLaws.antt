@@ -1,7 +1,7 @@
 -- What the filled scratch says, and when it is filled. Assumes nothing.
 use mathlib.Core.Path.{◌≡◌, sym, subst, ◌∙◌}
 use mathlib.Core.List.{List}
-use mathlib.Core.Option.{Option, none}
+use Rattle.std.specs.Prelude.{Option, None as none}
 use Prim.Native.Nat.{ℕ, zero, suc, ◌+◌, ◌*◌, ◌/◌, ◌%◌, ◌<◌, ◌≤◌}
 use native.Mathlib.Nat.{not-suc-le-zero, mod-lt, div-lt_iff_lt-mul}
 use native.Mathlib.Decide.{dec_lt}
@@ -14,8 +14,7 @@ use Rattle.base.proofs.BufferLaws.{written-length, written_at, written-rest, bui
 use Rattle.base.proofs.Index.{in_table, at-div, at-mod, place}
 use Rattle.tables.specs.Refusals.{verdict_of}
 use Rattle.tables.specs.declared.Refusal.{Refusal}
-use Rattle.tables.specs.declared.Verdict.{Verdict}
-use Rattle.tables.specs.declared.Verdict.TheVariants.{Passed, Refused}
+use Rattle.std.specs.Prelude.{Result, Ok, Err}
 use Rattle.tables.proofs.Verdicts.{passed, refused, passes, refuses}
 use Rattle.tables.proofs.TableLaws.{room-passed}
 use Rattle.containment.specs.Contains.{loop_fault}
@@ -63,16 +62,16 @@ module _ (n : ℕ) (rows s : List ℕ) where
 
 -- ---- the stages of `prepare`: an early refusal, and none
 
-module _ (boxes rows s : List ℕ) (early : Verdict) where
-  abbrev pub Ends : Verdict → List ℕ → Type 0
+module _ (boxes rows s : List ℕ) (early : Result Unit Refusal) where
+  abbrev pub Ends : Result Unit Refusal → List ℕ → Type 0
   Ends v t = (e : Option Refusal) → early ≡ verdict_of e → (v ≡ verdict_of (or_else e (loop_fault boxes rows))) × (t ≡ scratch_after e boxes rows s)
 
-  pub ends-refused : (r : Refusal) → early ≡ Refused r → Ends (Refused r) s
+  pub ends-refused : (r : Refusal) → early ≡ Err r → Ends (Err r) s
   ends-refused r i e p =
       let f = refused e r (sym p ∙ i) in
       (refuses e (loop_fault boxes rows) r (sym p ∙ i), rw f)
 
-  pub ends-filled : early ≡ Passed → (v : Verdict) (t : List ℕ) → v ≡ verdict_of (loop_fault boxes rows) → t ≡ filled (length boxes) rows s → Ends v t
+  pub ends-filled : early ≡ Ok tt → (v : Result Unit Refusal) (t : List ℕ) → v ≡ verdict_of (loop_fault boxes rows) → t ≡ filled (length boxes) rows s → Ends v t
   ends-filled i v t h g e p =
       let f = passed e (sym p ∙ i) in
       (h ∙ passes e (loop_fault boxes rows) (sym p ∙ i), g ∙ rw f)

@@ -1,11 +1,11 @@
 -- Tables of containments and their scratch, worked by hand (document 02, P2): one table, and the theorem that the definitions say the
 -- same (`scratches-right`). Assumes nothing.
 use Rattle.std.specs.Prelude.{◌≡◌, refl, List, [], ◌∷◌, map, ℕ, ◌+◌, ◌*◌, replicate}
-use Rattle.std.proofs.Math.Option.{Option, none, some}
+use Rattle.std.specs.Prelude.{Option, None as none, Some as some}
 use Rattle.base.specs.Search.{or_else, given, first}
 use Rattle.base.specs.Steps.{bit}
 use Rattle.base.specs.Buffers.{build, written}
-use Rattle.tables.specs.Refusals.{in_itself}
+use Rattle.tables.specs.declared.Refusal.TheVariants.{InItself}
 use Rattle.tables.specs.declared.Refusal.{Refusal}
 use Rattle.containment.specs.Contains.{direct, contains, loop_fault}
 use Rattle.scratch.specs.Scratch.{drawn, scratch_bytes}
@@ -55,7 +55,7 @@ scratches =
       loop = none;
     }
     -- a box in itself
-    ∷ record { count = 1; rows = 0 ∷ 0 ∷ []; scratch = 2 ∷ 9 ∷ []; loop = some (in_itself 0) }
+    ∷ record { count = 1; rows = 0 ∷ 0 ∷ []; scratch = 2 ∷ 9 ∷ []; loop = some (InItself 0) }
     -- two boxes in each other
     ∷ record {
       count = 2;
@@ -64,7 +64,7 @@ scratches =
           1 ∷ 2
           ∷ 2 ∷ 1
           ∷ 9 ∷ [];
-      loop = some (in_itself 0);
+      loop = some (InItself 0);
     }
     -- a box in another and in itself
     ∷ record {
@@ -74,7 +74,7 @@ scratches =
           0 ∷ 2
           ∷ 0 ∷ 2
           ∷ 9 ∷ [];
-      loop = some (in_itself 1);
+      loop = some (InItself 1);
     }
     -- the rows of picture J
     ∷ record {

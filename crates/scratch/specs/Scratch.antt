@@ -1,7 +1,7 @@
 -- What the scratch holds (document 01, "What may be asked", with the values of document 02, P2), and when it is filled (document 01, "Who
 -- can cause a refusal"). Assumes nothing.
 use Rattle.std.specs.Prelude.{cond, List, ℕ, ◌*◌, ◌/◌, ◌%◌, length}
-use Rattle.std.proofs.Math.Option.{Option}
+use Rattle.std.specs.Prelude.{Option}
 use Rattle.base.specs.Search.{or_else}
 use Rattle.base.specs.Steps.{bit}
 use Rattle.base.specs.Buffers.{build}

@@ -1,6 +1,6 @@
 // How the bytes that the caller lends are written: 1 where a box contains another, by the sets, and then 2 for each row.
 ghost use Rattle.std.specs.Prelude.{◌≡◌, ℕ, ◌*◌, ◌<◌, ◌≤◌, length};
-ghost use Rattle.boxsets.specs.Sets.{is_in, in_word, has};
+ghost use Rattle.boxsets.specs.Sets.{is_in, has};
 ghost use Rattle.containment.specs.Contains.{contains};
 ghost use Rattle.containment.specs.Steps.{RowsBelow, Both};
 ghost use Rattle.scratch.specs.Steps.{filled, Square, Bytes, Cells, over, SameFrom, Ones, Room};
@@ -8,28 +8,14 @@ ghost use Rattle.scratch.specs.Steps.{filled, Square, Bytes, Cells, over, SameFr
 use boxsets::Set;
 use tables::Containment;
 
-// Sets the byte `at` + b for each b in word q of a set.
-fn spread_word(word: u64, q: usize, scratch: &mut [u8], at: usize)
-    requires { Room (in_word q word) at scratch.old × (q < 4) }
-    ensures { Ones (in_word q word) at scratch.old scratch.new }
-{
-    let mut rest = word;
-    while rest != 0 {
-        let b = 64 * q + boxsets::low_bit(rest);
-        rest = boxsets::drop_bit(rest);
-        scratch[at + b] = 1;
-    }
-}
-
 // Sets the byte `at` + b for each b in a set.
 fn spread_set(x: Set, scratch: &mut [u8], at: usize)
     requires { Room (is_in x) at scratch.old }
     ensures { Ones (is_in x) at scratch.old scratch.new }
 {
-    spread_word(x.a, 0, scratch, at);
-    spread_word(x.b, 1, scratch, at);
-    spread_word(x.c, 2, scratch, at);
-    spread_word(x.d, 3, scratch, at);
+    for b in x {
+        scratch[at + b] = 1;
+    }
 }
 
 // Byte a × n + b becomes 1 if set a has b, else 0.
@@ -38,7 +24,7 @@ fn spread(closure: &[u64], n: usize, scratch: &mut [u8])
     ensures cells { Cells n (has closure.now) scratch.new }
     ensures same_from { SameFrom (n * n) scratch.old scratch.new }
 {
-    base::clear(scratch, n * n);
+    scratch[..n * n].fill(0);
     for a in 0..n {
         let x = set_tables::set_at(closure, a);
         spread_set(x, scratch, a * n);
@@ -52,12 +38,10 @@ fn mark_direct(rows: &[u16], n: usize, scratch: &mut [u8])
         → Bytes n (over rows.now 2 g) scratch.new }
     ensures same_from { SameFrom (n * n) scratch.old scratch.new }
 {
-    let mut k = rows.len() / 2;
-    while 0 < k {
-        k -= 1;
+    for k in (0..rows.len() / 2).rev() {
         let row = Containment::at(rows, k);
-        let o = base::wide(row.outer);
-        let i = base::wide(row.inner);
+        let o = usize::from(row.outer);
+        let i = usize::from(row.inner);
         scratch[o * n + i] = 2;
     }
 }

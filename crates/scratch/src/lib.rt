@@ -1,16 +1,16 @@
 // The bytes that the caller lends, n × n of them for n boxes: which box contains which, and which of it is drawn; and the stage that
-// every call shares.
+// fills them.
 #![tactic(auto)]
 
 mod filling;
 
-ghost use Rattle.std.specs.Prelude.{◌≡◌, ◌*◌, ◌≤◌, length};
-ghost use Rattle.std.proofs.Math.Option.{Option};
+ghost use Rattle.std.specs.Prelude.{◌≡◌, ◌*◌, ◌≤◌, length, Ok};
+ghost use Rattle.std.specs.Prelude.{Option};
 ghost use Rattle.base.specs.Buffers.{zeros};
 ghost use Rattle.base.specs.Search.{or_else};
-ghost use Rattle.tables.specs.Rows.{picture};
 ghost use Rattle.tables.specs.Refusals.{verdict_of};
 ghost use Rattle.tables.specs.declared.Refusal.{Refusal};
+ghost use Rattle.tables.specs.Rows.{shown};
 ghost use Rattle.tables.specs.Steps.{SoundRows};
 ghost use Rattle.containment.specs.Contains.{loop_fault};
 ghost use Rattle.containment.specs.Steps.{Closure, closure_words};
@@ -18,13 +18,18 @@ ghost use Rattle.scratch.specs.Scratch.{scratch_fault, scratch_after, early_faul
 ghost use Rattle.scratch.specs.Steps.{filled};
 
 use checks::check_room;
-use containment::{add_selves, check_loops, close, mark_rows};
+use containment::{Closure, add_selves, check_loops, close, mark_rows};
 use filling::fill_scratch;
-use tables::Verdict;
+use tables::{Refusal, Tables};
 
 // Fills the closure and the scratch, and makes check 10. Each box is added to its own sets only after the check, which looks
 // for a box there.
-pub fn fill_both(boxes: &[u8], rows: &[u16], scratch: &mut [u8], closure: &mut [u64]) -> Verdict
+pub fn fill_both(
+    boxes: &[u8],
+    rows: &[u16],
+    scratch: &mut [u8],
+    closure: &mut Closure,
+) -> Result<(), Refusal>
     requires sound_rows { SoundRows boxes.now rows.now }
     requires boxes_in_bounds { length boxes.now * length boxes.now ≤ length scratch.old }
     requires closure_value { closure.old ≡ zeros closure_words }
@@ -35,14 +40,14 @@ pub fn fill_both(boxes: &[u8], rows: &[u16], scratch: &mut [u8], closure: &mut [
     let n = boxes.len();
     mark_rows(rows, closure);
     close(closure, n);
-    let verdict = check_loops(closure, n);
+    let loops = check_loops(closure, n);
     fill_scratch(rows, n, closure, scratch);
     add_selves(closure, n);
-    verdict
+    loops
 }
 
 // Check 9 for the scratch of so many boxes as passed check 2.
-pub fn check_scratch(boxes: &[u8], scratch: &[u8]) -> Verdict
+pub fn check_scratch(boxes: &[u8], scratch: &[u8]) -> Result<(), Refusal>
     requires { length boxes.now ≤ 256 }
     ensures { result ≡ verdict_of (scratch_fault (length boxes.now) scratch.now) }
 {
@@ -51,35 +56,29 @@ pub fn check_scratch(boxes: &[u8], scratch: &[u8]) -> Verdict
 }
 
 // What comes before the stage below where a call has no other checks: checks 1 to 7 of a picture, 9 for the scratch.
-pub fn early_picture(boxes: &[u8], rows: &[u16], arrows: &[u16], scratch: &[u8]) -> Verdict
-    ensures { result ≡ verdict_of (early_fault (picture boxes.now rows.now arrows.now)
-        scratch.now) }
+pub fn early_picture(t: Tables, scratch: &[u8]) -> Result<(), Refusal>
+    ensures { result ≡ verdict_of (early_fault (shown t.entry) scratch.now) }
 {
-    let tables = checks::check(boxes, rows, arrows);
-    if let Verdict::Refused(r) = tables {
-        return Verdict::Refused(r);
-    }
-    check_scratch(boxes, scratch)
+    checks::check(t)?;
+    check_scratch(t.boxes, scratch)
 }
 
-// The stage that every call shares: unless an earlier check refused, the closure and the scratch, and check 10.
+// The stage after early checks that are a value: unless one refused, the closure and the scratch, and check 10.
 pub fn prepare(
-    early: Verdict,
+    early: Result<(), Refusal>,
     boxes: &[u8],
     rows: &[u16],
     scratch: &mut [u8],
-    closure: &mut [u64],
-) -> Verdict
-    requires sound_rows { early ≡ Verdict.Passed
+    closure: &mut Closure,
+) -> Result<(), Refusal>
+    requires sound_rows { early ≡ Ok tt
         → SoundRows boxes.now rows.now × (length boxes.now * length boxes.now ≤ length scratch.old) }
     requires closure_value { closure.old ≡ zeros closure_words }
     ensures value { (e : Option Refusal) → early ≡ verdict_of e
         → (result ≡ verdict_of (or_else e (loop_fault boxes.now rows.now)))
         × (scratch.new ≡ scratch_after e boxes.now rows.now scratch.old) }
-    ensures closure { result ≡ Verdict.Passed → Closure (length boxes.now) rows.now closure.new }
+    ensures closure { result ≡ Ok tt → Closure (length boxes.now) rows.now closure.new }
 {
-    if let Verdict::Refused(r) = early {
-        return Verdict::Refused(r);
-    }
+    early?;
     fill_both(boxes, rows, scratch, closure)
 }

@@ -1,17 +1,18 @@
 -- What has gone out of a listing, by its check. Assumes nothing.
-use mathlib.Core.Path.{◌≡◌, refl, ◌∙◌}
-use mathlib.Core.Bool.{Bool, true, false, not, ◌&&◌}
+use mathlib.Core.Path.{◌≡◌, ◌∙◌}
 use mathlib.Core.List.{List, [], ◌++◌, append_assoc, append-nil}
-use Prim.Native.Nat.{ℕ, ◌+◌, ◌-◌, ◌<◌, ◌≤◌}
+use Prim.Native.Nat.{ℕ, ◌+◌, ◌-◌}
 use native.Mathlib.Omega.{arith}
 use native.Mathlib.Nat.{zero-add}
-use borrow.Author.Tests.{ltb-true, ltb-false}
-use lib.Dec.{ltb}
 use lib.ListN.{take}
+use Rattle.std.specs.Prelude.{Result, IfOk}
 use Rattle.std.specs.Io.KnownBytes.{Appends}
+use Rattle.std.proofs.lemmas.Result.{IfOk-weaker}
 use Rattle.std.proofs.KnownBytes.{Appends-trans}
 use Rattle.std.specs.declared.option.Option.{Option}
 use Rattle.tables.specs.Rows.{Picture}
+use Rattle.blocks.specs.declared.fnv.Check.{Check}
+use Rattle.sending.specs.Steps.{SentAll}
 use Rattle.blocks.specs.Fnv.{fnv_fold, fnv1a}
 use Rattle.blocks.proofs.MadeBlocks.{check-more}
 use Rattle.lines.specs.Lines.{line_text}
@@ -31,6 +32,13 @@ pub sent-more : (before : List ℕ) {text old new : List ℕ} {n state after : �
     → after ≡ fnv_fold state (take n new) → after ≡ fnv1a (before ++ text)
 sent-more before {text} e h s = s ∙ rw (e, held h) (check-more before text)
 
+-- the same of a call that sends it
+pub sent-part : {E : Type 0} (before : List ℕ) {text old new : List ℕ} {n state : ℕ} (sent : Result Check E) → state ≡ fnv1a before
+    → Holds text old new n → IfOk sent (λ check. check.state ≡ fnv_fold state (take n new)) → SentAll (before ++ text) sent
+sent-part before {text} {old} {new} {n} {state} sent e h s =
+    IfOk-weaker sent (λ check. check.state ≡ fnv_fold state (take n new)) (λ check. check.state ≡ fnv1a (before ++ text))
+    (λ check o. sent-more before e h o) s
+
 -- the first line and the rows up to a place
 pub record Gone (pic : Picture) (p : Place) (state : ℕ) : Type 0 where
   pub check-is : state ≡ fnv1a (line_text (counts_line pic) ++ rows_from pic 0 p.row)
@@ -39,8 +47,8 @@ pub gone-first : {pic : Picture} {old new : List ℕ} {n start after : ℕ} (p :
     → Holds (line_text (counts_line pic)) old new n → after ≡ fnv_fold start (take n new) → Gone pic p after
 gone-first {pic} p z e h s = record { check-is = sent-more [] e h s ∙ rw (z, rows_none pic 0, append-nil) }
 
-module _ {pic : Picture} {p : Place} {old new : List ℕ} {state after : ℕ} (g : Gone pic p state) where
-  pub gone-more : {c : Chunk} → Filled pic p old new c → after ≡ fnv_fold state (take c.bytes new) → Gone pic c.next after
+module _ {pic : Picture} {p : Place} {old new : List ℕ} {state : ℕ} (g : Gone pic p state) where
+  pub gone-more : {c : Chunk} {after : ℕ} → Filled pic p old new c → after ≡ fnv_fold state (take c.bytes new) → Gone pic c.next after
   gone-more {c} f s =
       let k = c.next.row - p.row in
       let there : p.row + k ≡ c.next.row = omega (arith, f.onward) in
@@ -52,11 +60,12 @@ module _ {pic : Picture} {p : Place} {old new : List ℕ} {state after : ℕ} (g
       }
 
   -- with the last line it is the listing
-  pub gone-all : {n : ℕ} → Stands pic p → p.row ≡ line_rows pic → Holds (line_text (Last p.seen)) old new n
-      → after ≡ fnv_fold state (take n new) → after ≡ fnv1a (picture_listing pic)
-  gone-all w e h s =
-      sent-more (line_text (counts_line pic) ++ rows_from pic 0 p.row) g.check-is h s
-      ∙ rw (w.seen_are, e, seen-whole pic, rows_whole pic, listing-parts pic, append_assoc)
+  pub gone-all : {E : Type 0} {n : ℕ} (sent : Result Check E) → Stands pic p → p.row ≡ line_rows pic
+      → Holds (line_text (Last p.seen)) old new n → IfOk sent (λ check. check.state ≡ fnv_fold state (take n new))
+      → SentAll (picture_listing pic) sent
+  gone-all sent w e h s =
+      rw (listing-parts pic, ← rows_whole pic, ← seen-whole pic, ← e, ← w.seen_are, ← append_assoc)
+      (sent-part (line_text (counts_line pic) ++ rows_from pic 0 p.row) sent g.check-is h s)
 
 -- the same of what a writer holds, if that is known, before the first line and after the rows up to a place
 pub record Grown (pic : Picture) (p : Place) (a b : Option (List ℕ)) : Type 0 where
@@ -82,15 +91,3 @@ module _ {pic : Picture} {p : Place} {a b : Option (List ℕ)} (c : Option (List
   grown-all s e h w =
       let all = rw (held h) at (Appends-trans a b c _ _ g.grew w) in
       rw (s.seen_are, e, seen-whole pic, rows_whole pic, append_assoc, ← listing-parts pic) at all
-
--- the test of the loop: no write failed, and there is a row left
-pub none-failed : (failed : Bool) (row count : ℕ) → (not failed && ltb row count) ≡ true → failed ≡ false
-none-failed true row count e = let z : ◌≡◌ {A = ℕ} 0 1 = cc in absurd (omega arith)
-none-failed false row count e = refl
-
-pub row-left : (a : Bool) (row count : ℕ) → (a && ltb row count) ≡ true → row < count
-row-left true row count e = ltb-true row count e
-row-left false row count e = let z : ◌≡◌ {A = ℕ} 0 1 = cc in absurd (omega arith)
-
-pub none_left : (failed : Bool) (row count : ℕ) → (not failed && ltb row count) ≡ false → failed ≡ false → count ≤ row
-none_left failed row count e w = ltb-false row count (rw w at e)

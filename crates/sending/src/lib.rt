@@ -2,8 +2,8 @@
 // takes and answers the running check of what went out, and this is promised: unless a write failed, it is the check of the listing.
 #![tactic(auto)]
 
-ghost use Rattle.std.specs.Prelude.{◌≡◌, false};
-ghost use Rattle.tables.specs.Rows.{picture};
+ghost use Rattle.std.specs.Prelude.{◌≡◌, IfOk};
+ghost use Rattle.tables.specs.Rows.{shown};
 ghost use Rattle.blocks.specs.Fnv.{fnv_fold};
 ghost use Rattle.lines.specs.Lines.{line_text};
 ghost use Rattle.lines.specs.declared.Line.TheVariants.{Stopped};
@@ -12,30 +12,21 @@ ghost use Rattle.listing.specs.Steps.{Prepared};
 ghost use Rattle.sending.specs.Steps.{SentAll, WroteAll};
 
 use blocks::Check;
-use std::io::Write;
-use tables::Refusal;
+use containment::Closure;
+use std::io::{Error, Write};
+use tables::{Refusal, Tables};
 
-// The check of all bytes that went out, in order, unless a write failed.
-#[derive(Clone, Copy)]
-pub struct Sent {
-    pub check: Check,
-    pub failed: bool,
-}
-
-// The only place where bytes go to standard output.
-fn send<W: Write>(to: &mut W, before: Check, bytes: &[u8]) -> Sent
-    ensures check { result.failed ≡ false → result.check.state ≡ fnv_fold before.state bytes.now }
+// The only place where bytes go to standard output. Answers the check of all bytes that went out, in order.
+fn send<W: Write>(to: &mut W, before: Check, bytes: &[u8]) -> Result<Check, Error>
+    ensures check { IfOk result (λ check. check.state ≡ fnv_fold before.state bytes.now) }
     ensures bytes { WroteAll (W.contents to.old) (W.contents to.new) bytes.now result }
 {
-    let done = to.write_all(bytes).is_ok();
-    Sent {
-        check: before.part(bytes),
-        failed: !done,
-    }
+    to.write_all(bytes)?;
+    Ok(before.part(bytes))
 }
 
 // The line of a refused file or picture.
-pub fn send_stopped<W: Write>(to: &mut W, r: Refusal) -> Sent
+pub fn send_stopped<W: Write>(to: &mut W, r: Refusal) -> Result<Check, Error>
     ensures check { SentAll (line_text (Stopped r)) result }
     ensures bytes { WroteAll (W.contents to.old) (W.contents to.new) (line_text (Stopped r)) result }
 {
@@ -47,35 +38,32 @@ pub fn send_stopped<W: Write>(to: &mut W, r: Refusal) -> Sent
 // The listing of a picture: the counts, the pair lines, a buffer of whole rows at a time, and the last line.
 pub fn send_picture<W: Write>(
     to: &mut W,
-    boxes: &[u8],
-    rows: &[u16],
-    arrows: &[u16],
-    closure: &[u64],
+    t: Tables,
+    closure: &Closure,
     users: &[u16],
     files: &[u16],
-) -> Sent
-    requires { Prepared (picture boxes.now rows.now arrows.now) closure.now arrows.now users.now files.now }
-    ensures check { SentAll (picture_listing (picture boxes.now rows.now arrows.now)) result }
-    ensures bytes { let pic = picture boxes.now rows.now arrows.now in
-        WroteAll (W.contents to.old) (W.contents to.new) (picture_listing pic) result }
+) -> Result<Check, Error>
+    requires { Prepared (shown t) closure.now t.arrows.now users.now files.now }
+    ensures check { SentAll (picture_listing (shown t.entry)) result }
+    ensures bytes { WroteAll (W.contents to.old) (W.contents to.new) (picture_listing (shown t.entry)) result }
 {
+    // Kept: a buffer with a length beside it, since there is no heap here.
     let mut out = io::large_buffer();
-    let first = listing::counts_line(boxes.len(), rows.len() / 2, arrows.len() / 4, &mut out);
-    let mut sent = send(to, Check::fresh(), &out[..first]);
-    let mut place = listing::start(arrows);
+    let first = listing::counts_line(
+        t.boxes.len(),
+        t.rows.len() / 2,
+        t.arrows.len() / 4,
+        &mut out,
+    );
+    let mut check = send(to, Check::fresh(), &out[..first])?;
+    let mut place = listing::start(t.arrows);
     let count = listing::row_count(users, place);
-    while !sent.failed & (place.row < count) {
-        let chunk = listing::fill(closure, arrows, users, files, place, &mut out);
-        let before = sent.check;
-        let n = chunk.bytes;
-        sent = send(to, before, &out[..n]);
+    // Kept: no `for`, since each turn moves the place on by as many rows as a buffer takes.
+    while place.row < count {
+        let chunk = listing::fill(closure, t.arrows, users, files, place, &mut out);
+        check = send(to, check, &out[..chunk.bytes])?;
         place = chunk.next;
     }
-    if sent.failed {
-        return sent;
-    }
-    let seen = place.seen;
-    let last = listing::last_line(seen, &mut out);
-    let before = sent.check;
-    send(to, before, &out[..last])
+    let last = listing::last_line(place.seen, &mut out);
+    send(to, check, &out[..last])
 }

@@ -3,9 +3,12 @@
 
 ghost use Rattle.std.specs.Prelude.{◌≡◌, ◌&&◌, ◌||◌, ℕ, ◌+◌, ◌*◌, ◌<◌, ◌≤◌, length};
 ghost use Rattle.base.specs.Steps.{any_below};
-ghost use Rattle.boxsets.specs.Sets.{is_in, in_word, set_at, has, Put, Added, Joins};
+ghost use Rattle.boxsets.specs.Sets.{is_in, set_at, has, Put, Added, Joins};
 
-use boxsets::{Set, drop_bit, joined, low_bit, nothing};
+use boxsets::Set;
+
+// A table with a set for each box that a picture can have.
+pub type Table = [u64; 1024];
 
 pub fn set_at(t: &[u64], r: usize) -> Set
     requires { 4 * r + 4 ≤ length t.now }
@@ -43,21 +46,7 @@ pub fn add(t: &mut [u64], r: usize, k: usize)
     ensures { Added t.old r k t.new }
 {
     let i = 4 * r + k / 64;
-    t[i] = t[i] | (1u64 << (k % 64));
-}
-
-// Joins a set to each set `from` + k whose k is in word q of a set of numbers.
-fn join_word(t: &mut [u64], from: usize, q: usize, word: u64, x: Set)
-    requires { (4 * (from + 256) ≤ length t.old) × (q < 4) }
-    ensures { Joins from (in_word q word) x t.old t.new }
-{
-    let mut rest = word;
-    while rest != 0 {
-        let r = from + (64 * q + low_bit(rest));
-        rest = drop_bit(rest);
-        let y = joined(set_at(t, r), x);
-        put_set(t, r, y);
-    }
+    t[i] |= 1u64 << (k % 64);
 }
 
 // Joins a set to each set `from` + k whose k is one of the numbers.
@@ -65,26 +54,10 @@ pub fn join_each(t: &mut [u64], from: usize, numbers: Set, x: Set)
     requires { 4 * (from + 256) ≤ length t.old }
     ensures { Joins from (is_in numbers) x t.old t.new }
 {
-    join_word(t, from, 0, numbers.a, x);
-    join_word(t, from, 1, numbers.b, x);
-    join_word(t, from, 2, numbers.c, x);
-    join_word(t, from, 3, numbers.d, x);
-}
-
-// A set, and each set `from` + k whose k is in word q of a set of numbers.
-fn union_word(t: &[u64], from: usize, q: usize, word: u64, x: Set) -> Set
-    requires { (4 * (from + 256) ≤ length t.now) × (q < 4) }
-    ensures { (b : ℕ) → is_in result b
-        ≡ (is_in x b || any_below (λ k. in_word q word k && has t.now (from + k) b) 256) }
-{
-    let mut rest = word;
-    let mut found = x;
-    while rest != 0 {
-        let r = from + (64 * q + low_bit(rest));
-        rest = drop_bit(rest);
-        found = joined(found, set_at(t, r));
+    for k in numbers {
+        let y = set_at(t, from + k) | x;
+        put_set(t, from + k, y);
     }
-    found
 }
 
 // The union of the sets `from` + k whose k is one of the numbers.
@@ -92,8 +65,9 @@ pub fn union_of(t: &[u64], from: usize, numbers: Set) -> Set
     requires { 4 * (from + 256) ≤ length t.now }
     ensures { (b : ℕ) → is_in result b ≡ any_below (λ k. is_in numbers k && has t.now (from + k) b) 256 }
 {
-    let one = union_word(t, from, 0, numbers.a, nothing());
-    let two = union_word(t, from, 1, numbers.b, one);
-    let three = union_word(t, from, 2, numbers.c, two);
-    union_word(t, from, 3, numbers.d, three)
+    let mut found = Set::empty();
+    for k in numbers {
+        found = found | set_at(t, from + k);
+    }
+    found
 }

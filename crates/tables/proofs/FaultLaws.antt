@@ -6,9 +6,9 @@ use Prim.Native.Nat.{ℕ, ◌%◌}
 use lib.Dec.{eqb, ltb, leb}
 use lib.ListN.{length, get_or}
 use Rattle.base.specs.Search.{or_else, given, first}
-use Rattle.base.proofs.Options.{or_else-assoc}
 use Rattle.tables.specs.Rows.{picture, user, file, side_of, on_side, row_count, row_at, arrow_count, arrow_at}
-use Rattle.tables.specs.Refusals.{ragged, too_many, bad_byte, bad_row, no_mode, too_short}
+use Rattle.tables.specs.declared.Refusal.TheVariants.{Ragged, TooMany, BadByte, NoBox, AcrossSides, WrongEnds, WrongMode, NoMode, TooShort}
+use Rattle.tables.specs.declared.Refusal.{Refusal}
 use Rattle.tables.specs.Faults.{ragged_fault, count_fault, byte_fault, names_no_box, across_sides, wrong_ends, wrong_mode}
 use Rattle.tables.specs.Faults.{row_fault, table_fault, mode_fault, room_fault}
 use Rattle.tables.specs.declared.Containment.{Containment}
@@ -17,19 +17,19 @@ use Rattle.tables.specs.declared.Arrow.{Arrow}
 -- ---- 1 and 2, by counts
 
 pub ragged_fault-is : (rows arrows : ℕ)
-    → ragged_fault rows arrows ≡ or_else (given (not (eqb (rows % 2) 0)) (ragged 1 rows)) (given (not (eqb (arrows % 4) 0)) (ragged 2 arrows))
+    → ragged_fault rows arrows ≡ or_else (given (not (eqb (rows % 2) 0)) (Ragged 1 rows)) (given (not (eqb (arrows % 4) 0)) (Ragged 2 arrows))
 unfolding ragged_fault
 ragged_fault-is rows arrows = refl
 
 pub count_fault-is : (boxes rows arrows : ℕ)
     → count_fault boxes rows arrows
-    ≡ or_else (given (ltb 256 boxes) (too_many 0 boxes)) (or_else (given (ltb 1024 rows) (too_many 1 rows)) (given (ltb 512 arrows) (too_many 2 arrows)))
+    ≡ or_else (given (ltb 256 boxes) (TooMany 0 boxes)) (or_else (given (ltb 1024 rows) (TooMany 1 rows)) (given (ltb 512 arrows) (TooMany 2 arrows)))
 unfolding count_fault
 count_fault-is boxes rows arrows = refl
 
 -- ---- 3, by boxes
 
-pub byte_fault-is : (boxes : List ℕ) → byte_fault boxes ≡ first (λ b. given (ltb 3 (get_or boxes b 0)) (bad_byte b)) (length boxes)
+pub byte_fault-is : (boxes : List ℕ) → byte_fault boxes ≡ first (λ b. given (ltb 3 (get_or boxes b 0)) (BadByte b)) (length boxes)
 unfolding byte_fault
 byte_fault-is boxes = refl
 
@@ -53,29 +53,28 @@ pub wrong_mode-is : (a : Arrow) → wrong_mode a ≡ (ltb 7 a.mode || ltb 1 a.si
 unfolding wrong_mode
 wrong_mode-is a = refl
 
-pub row_fault-is : (check : ℕ) (bad : ℕ → Bool) (count : ℕ) → row_fault check bad count ≡ first (λ k. given (bad k) (bad_row check k)) count
+pub row_fault-is : (refusal : ℕ → Refusal) (bad : ℕ → Bool) (count : ℕ) → row_fault refusal bad count ≡ first (λ k. given (bad k) (refusal k)) count
 unfolding row_fault
-row_fault-is check bad count = refl
+row_fault-is refusal bad count = refl
 
--- 1 to 7: those by counts alone, then those that read the tables
-pub table-stages : (boxes rows arrows : List ℕ)
-    → or_else
-    (or_else (ragged_fault (length rows) (length arrows)) (count_fault (length boxes) (row_count rows) (arrow_count arrows)))
+-- 1 to 7, one after the other
+pub table_fault-is : (boxes rows arrows : List ℕ) → table_fault (picture boxes rows arrows)
+    ≡ or_else (ragged_fault (length rows) (length arrows))
+    (or_else (count_fault (length boxes) (row_count rows) (arrow_count arrows))
     (or_else (byte_fault boxes)
-    (or_else (row_fault 4 (λ k. names_no_box boxes (row_at rows k)) (row_count rows))
-    (or_else (row_fault 5 (λ k. across_sides boxes (row_at rows k)) (row_count rows))
-    (or_else (row_fault 6 (λ k. wrong_ends boxes (arrow_at arrows k)) (arrow_count arrows))
-    (row_fault 7 (λ k. wrong_mode (arrow_at arrows k)) (arrow_count arrows))))))
-    ≡ table_fault (picture boxes rows arrows)
+    (or_else (row_fault NoBox (λ k. names_no_box boxes (row_at rows k)) (row_count rows))
+    (or_else (row_fault AcrossSides (λ k. across_sides boxes (row_at rows k)) (row_count rows))
+    (or_else (row_fault WrongEnds (λ k. wrong_ends boxes (arrow_at arrows k)) (arrow_count arrows))
+    (row_fault WrongMode (λ k. wrong_mode (arrow_at arrows k)) (arrow_count arrows)))))))
 unfolding table_fault
-table-stages boxes rows arrows = or_else-assoc (ragged_fault (length rows) (length arrows)) _ _
+table_fault-is boxes rows arrows = refl
 
 -- ---- 8 and 9
 
-pub mode_fault-is : (mode : ℕ) → mode_fault mode ≡ given (ltb 7 mode) (no_mode mode)
+pub mode_fault-is : (mode : ℕ) → mode_fault mode ≡ given (ltb 7 mode) (NoMode mode)
 unfolding mode_fault
 mode_fault-is mode = refl
 
-pub room_fault-is : (buffer have need : ℕ) → room_fault buffer have need ≡ given (ltb have need) (too_short buffer need)
+pub room_fault-is : (buffer have need : ℕ) → room_fault buffer have need ≡ given (ltb have need) (TooShort buffer need)
 unfolding room_fault
 room_fault-is buffer have need = refl

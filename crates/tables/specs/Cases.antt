@@ -1,11 +1,11 @@
 -- Box bytes worked by hand (document 02, P6): two tables, and the theorems that the definitions say the same (`atoms-right`,
 -- `faults-right`). Assumes nothing.
 use Rattle.std.specs.Prelude.{◌≡◌, refl, List, [], ◌∷◌, map, ℕ}
-use Rattle.std.proofs.Math.Option.{Option, none, some}
+use Rattle.std.specs.Prelude.{Option, None as none, Some as some}
 use Rattle.base.specs.Search.{or_else, given, first, select}
 use Rattle.tables.specs.Rows.{picture, user, file, side_of, is_group, on_side}
 use Rattle.tables.specs.Atoms.{outer, atom, atoms}
-use Rattle.tables.specs.Refusals.{bad_byte, bad_row}
+use Rattle.tables.specs.declared.Refusal.TheVariants.{BadByte, AcrossSides, WrongEnds}
 use Rattle.tables.specs.Faults.{ragged_fault, count_fault, byte_fault, names_no_box, across_sides, wrong_ends, wrong_mode}
 use Rattle.tables.specs.Faults.{row_fault, table_fault}
 use Rattle.tables.specs.declared.Refusal.{Refusal}
@@ -49,18 +49,18 @@ unfoldable pub fault_table : List Faulty
 fault_table =
     -- 3: a byte above 3
     record { boxes = 0 ∷ 1 ∷ 2 ∷ 3 ∷ []; rows = []; arrows = []; fault = none }
-    ∷ record { boxes = 0 ∷ 4 ∷ 1 ∷ []; rows = []; arrows = []; fault = some (bad_byte 1) }
+    ∷ record { boxes = 0 ∷ 4 ∷ 1 ∷ []; rows = []; arrows = []; fault = some (BadByte 1) }
     -- 5 goes by side
     ∷ record { boxes = 0 ∷ 2 ∷ 2 ∷ []; rows = 0 ∷ 1 ∷ 1 ∷ 0 ∷ 1 ∷ 2 ∷ []; arrows = []; fault = none }
     ∷ record { boxes = 1 ∷ 3 ∷ 3 ∷ []; rows = 0 ∷ 1 ∷ 1 ∷ 0 ∷ 1 ∷ 2 ∷ []; arrows = []; fault = none }
-    ∷ record { boxes = 0 ∷ 3 ∷ []; rows = 0 ∷ 1 ∷ []; arrows = []; fault = some (bad_row 5 0) }
-    ∷ record { boxes = 2 ∷ 3 ∷ []; rows = 0 ∷ 1 ∷ []; arrows = []; fault = some (bad_row 5 0) }
-    ∷ record { boxes = 2 ∷ 3 ∷ []; rows = 1 ∷ 0 ∷ []; arrows = []; fault = some (bad_row 5 0) }
-    ∷ record { boxes = 2 ∷ 1 ∷ []; rows = 0 ∷ 0 ∷ 1 ∷ 0 ∷ []; arrows = []; fault = some (bad_row 5 1) }
+    ∷ record { boxes = 0 ∷ 3 ∷ []; rows = 0 ∷ 1 ∷ []; arrows = []; fault = some (AcrossSides 0) }
+    ∷ record { boxes = 2 ∷ 3 ∷ []; rows = 0 ∷ 1 ∷ []; arrows = []; fault = some (AcrossSides 0) }
+    ∷ record { boxes = 2 ∷ 3 ∷ []; rows = 1 ∷ 0 ∷ []; arrows = []; fault = some (AcrossSides 0) }
+    ∷ record { boxes = 2 ∷ 1 ∷ []; rows = 0 ∷ 0 ∷ 1 ∷ 0 ∷ []; arrows = []; fault = some (AcrossSides 1) }
     -- 6 goes by side
     ∷ record { boxes = 2 ∷ 3 ∷ []; rows = []; arrows = 0 ∷ 1 ∷ 0 ∷ 1 ∷ []; fault = none }
-    ∷ record { boxes = 3 ∷ 3 ∷ []; rows = []; arrows = 0 ∷ 1 ∷ 0 ∷ 1 ∷ []; fault = some (bad_row 6 0) }
-    ∷ record { boxes = 2 ∷ 2 ∷ []; rows = []; arrows = 0 ∷ 1 ∷ 0 ∷ 1 ∷ []; fault = some (bad_row 6 0) }
+    ∷ record { boxes = 3 ∷ 3 ∷ []; rows = []; arrows = 0 ∷ 1 ∷ 0 ∷ 1 ∷ []; fault = some (WrongEnds 0) }
+    ∷ record { boxes = 2 ∷ 2 ∷ []; rows = []; arrows = 0 ∷ 1 ∷ 0 ∷ 1 ∷ []; fault = some (WrongEnds 0) }
     ∷ []
 
 unfoldable pub compute_faulty : Faulty → Faulty

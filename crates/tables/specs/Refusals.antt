@@ -1,68 +1,57 @@
--- Document 01, "Who can cause a refusal": each refusal's number and its three numbers, 0 where nothing is named.
+-- Document 01, "Who can cause a refusal": each refusal, its number and its three numbers, 0 where nothing is named.
 -- Assumes nothing.
-use Rattle.std.specs.Prelude.{List, ℕ}
-use Rattle.std.proofs.Math.Option.{Option, none, some}
+use Rattle.std.specs.Prelude.{List, ℕ, Result, Ok, Err}
+use Rattle.std.specs.Prelude.{Option, None as none, Some as some}
 use Rattle.base.specs.Buffers.{written}
+use Rattle.tables.specs.declared.Numbers.{Numbers}
 use Rattle.tables.specs.declared.Refusal.{Refusal}
-use Rattle.tables.specs.declared.Verdict.{Verdict}
-use Rattle.tables.specs.declared.Verdict.TheVariants.{Passed, Refused}
+use Rattle.tables.specs.declared.Refusal.TheVariants.{Ragged, TooMany, BadByte, NoBox, AcrossSides, WrongEnds, WrongMode, NoMode}
+use Rattle.tables.specs.declared.Refusal.TheVariants.{TooShort, InItself, NotAtomic, UnclearPair, NoOrder}
+use Rattle.tables.specs.declared.Refusal.TheVariants.{BadLength, BadCheck, BadHead, BadFiller}
 
-abbrev pub refusal : (number a b c : ℕ) → Refusal
-refusal number a b c = record { number = number; first = a; second = b; third = c }
+abbrev pub numbers : (number a b c : ℕ) → Numbers
+numbers number a b c = record { number = number; first = a; second = b; third = c }
 
--- 1 ragged: table (0 boxes, 1 containments, 2 arrows), length
-abbrev pub ragged : (table len : ℕ) → Refusal
-ragged table len = refusal 1 table len 0
-
--- 2 too many rows: table, count
-abbrev pub too_many : (table count : ℕ) → Refusal
-too_many table count = refusal 2 table count 0
-
--- 3 box byte above 3: box
-abbrev pub bad_byte : (box : ℕ) → Refusal
-bad_byte box = refusal 3 box 0 0
-
--- 4 containment naming a box that isn't there, 5 containment across sides,
--- 6 arrow whose tail is no user box or head no file box, 7 arrow mode above 7 or sign above 1: row
-abbrev pub bad_row : (number row : ℕ) → Refusal
-bad_row number row = refusal number row 0 0
-
--- 8 asked mode above 7: the mode
-abbrev pub no_mode : (mode : ℕ) → Refusal
-no_mode mode = refusal 8 mode 0 0
-
--- 9 buffer too short: buffer, length needed
-abbrev pub too_short : (buffer need : ℕ) → Refusal
-too_short buffer need = refusal 9 buffer need 0
-
--- 10 a box contains itself: lowest such box
-abbrev pub in_itself : (box : ℕ) → Refusal
-in_itself box = refusal 10 box 0 0
-
--- 11 the asked user or file isn't an atomic box of that side: user, file
-abbrev pub not_atomic : (u f : ℕ) → Refusal
-not_atomic u f = refusal 11 u f 0
-
--- 12 the mode has an unclear pair: mode, user, file of the first
-abbrev pub unclear_pair : (mode u f : ℕ) → Refusal
-unclear_pair mode u f = refusal 12 mode u f
-
--- 13 no order: mode, user, file of the granted pair that the third condition names
-abbrev pub no_order : (mode u f : ℕ) → Refusal
-no_order mode u f = refusal 13 mode u f
-
--- 14 file length 0, not a multiple of 512, or above 32,768: the length
-abbrev pub bad_length : (len : ℕ) → Refusal
-bad_length len = refusal 14 len 0 0
-
--- 15 block check wrong, 16 block head wrong, 17 filler not zero: block
-abbrev pub bad_block : (number block : ℕ) → Refusal
-bad_block number block = refusal number block 0 0
+abbrev pub numbers_of : (r : Refusal) → Numbers
+-- ragged: table (0 boxes, 1 containments, 2 arrows), length
+numbers_of (Ragged table len) = numbers 1 table len 0
+-- too many rows: table, count
+numbers_of (TooMany table count) = numbers 2 table count 0
+-- box byte above 3: box
+numbers_of (BadByte box) = numbers 3 box 0 0
+-- containment naming a box that isn't there: row
+numbers_of (NoBox row) = numbers 4 row 0 0
+-- containment across sides: row
+numbers_of (AcrossSides row) = numbers 5 row 0 0
+-- arrow whose tail is no user box or head no file box: row
+numbers_of (WrongEnds row) = numbers 6 row 0 0
+-- arrow mode above 7 or sign above 1: row
+numbers_of (WrongMode row) = numbers 7 row 0 0
+-- asked mode above 7: the mode
+numbers_of (NoMode mode) = numbers 8 mode 0 0
+-- buffer too short: buffer, length needed
+numbers_of (TooShort buffer need) = numbers 9 buffer need 0
+-- a box contains itself: lowest such box
+numbers_of (InItself box) = numbers 10 box 0 0
+-- the asked user or file isn't an atomic box of that side: user, file
+numbers_of (NotAtomic u f) = numbers 11 u f 0
+-- the mode has an unclear pair: mode, user, file of the first
+numbers_of (UnclearPair mode u f) = numbers 12 mode u f
+-- no order: mode, user, file of the granted pair that the third condition names
+numbers_of (NoOrder mode u f) = numbers 13 mode u f
+-- file length 0, not a multiple of 512, or above 32,768: the length
+numbers_of (BadLength len) = numbers 14 len 0 0
+-- block check wrong: block
+numbers_of (BadCheck block) = numbers 15 block 0 0
+-- block head wrong: block
+numbers_of (BadHead block) = numbers 16 block 0 0
+-- filler not zero: block
+numbers_of (BadFiller block) = numbers 17 block 0 0
 
 -- what a call answers, by the fault that was found, if any
-abbrev pub verdict_of : (fault : Option Refusal) → Verdict
-verdict_of none = Passed
-verdict_of (some r) = Refused r
+abbrev pub verdict_of : (fault : Option Refusal) → Result Unit Refusal
+verdict_of none = Ok tt
+verdict_of (some r) = Err r
 
 -- what lent places hold at the end: a refusal leaves them as they were; else the first hold the new values, and places beyond are as
 -- they were

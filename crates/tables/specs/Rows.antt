@@ -1,6 +1,7 @@
 -- The three lent tables of a picture (document 01, "The picture and its tables"; bytes 2 and 3 of boxes: document 02, P6).
 -- Assumes nothing.
 use Rattle.std.specs.Prelude.{Bool, ◌&&◌, List, ℕ, ◌+◌, ◌*◌, ◌/◌, ◌%◌, eqb, ltb, leb, length, get_or}
+use Rattle.tables.specs.declared.Tables.{Tables}
 use Rattle.tables.specs.declared.Containment.{Containment}
 use Rattle.tables.specs.declared.Arrow.{Arrow}
 
@@ -12,6 +13,10 @@ pub record Picture : Type 0 where
 
 abbrev pub picture : (boxes rows arrows : List ℕ) → Picture
 picture boxes rows arrows = record { boxes = boxes; rows = rows; arrows = arrows }
+
+-- the picture that lent tables show
+abbrev pub shown : (t : Tables) → Picture
+shown t = picture t.boxes.now t.rows.now t.arrows.now
 
 -- the two sides, which are bytes of boxes too
 abbrev pub user : ℕ

@@ -1,7 +1,5 @@
 -- What the functions on tables ask of them. Assumes nothing.
 use Rattle.std.specs.Prelude.{◌≡◌, List, ℕ, ◌%◌, ◌<◌, ◌≤◌, T, length, get_or}
-use Rattle.tables.specs.declared.Verdict.{Verdict}
-use Rattle.tables.specs.declared.Verdict.TheVariants.{Passed, Refused}
 use Rattle.tables.specs.Rows.{user, file, side_of, on_side, row_count, row_at, arrow_count, arrow_at}
 
 -- what holds of boxes and containments that pass checks 1 to 7 (`sound-rows`)
@@ -23,8 +21,3 @@ pub record SoundArrows (boxes arrows : List ℕ) : Type 0 where
   pub head-file : (k : ℕ) → k < arrow_count arrows → T (on_side boxes file (arrow_at arrows k).head)
   pub mode-most : (k : ℕ) → k < arrow_count arrows → (arrow_at arrows k).mode ≤ 7
   pub sign-most : (k : ℕ) → k < arrow_count arrows → (arrow_at arrows k).sign ≤ 1
-
--- the first of two verdicts that refuses
-abbrev pub either : (one other : Verdict) → Verdict
-either (Refused r) v = Refused r
-either Passed v = v

@@ -17,7 +17,6 @@
 mod pictures;
 mod replies;
 
-use case_text::print_text;
 use file_cases::{check_case, file_case, pack_case};
 use pictures::{heading_case, picture_case};
 use std::io::{Read, Write};
@@ -27,23 +26,14 @@ fn case<R: Read, W: Write>(input: &mut R, out: &mut W) {
     if input.read_exact(&mut label).is_err() {
         return;
     }
-    print_text(out, &label);
+    let _ = out.write_all(&label);
+    // Kept: a `match` on the letter, since the input names a case by it and each case reads an input of its own.
     match label[0] {
-        b'b' => {
-            pack_case(input, out);
-        }
-        b'c' => {
-            check_case(input, out);
-        }
-        b'f' => {
-            file_case(input, out);
-        }
-        b'h' => {
-            heading_case(input, out);
-        }
-        _ => {
-            picture_case(input, out, label[0]);
-        }
+        b'b' => pack_case(input, out),
+        b'c' => check_case(input, out),
+        b'f' => file_case(input, out),
+        b'h' => heading_case(input, out),
+        letter => picture_case(input, out, letter),
     }
 }
 

@@ -1,16 +1,37 @@
 // The cases of a picture's calls, and those of its headings.
-use super::replies::{show_headings, show_listed, show_reply};
-use case_text::{
-    byte_table, bytes, bytes_lent, low, number, number_table, numbers, numbers_lent, print_text,
-    show_bytes, show_numbers, show_verdict,
-};
+use super::replies::{show_entry, show_headings, show_passed, show_written};
+use base::filled;
+use case_text::{Place, buffer, lent, number, show, show_reply, table};
+use containment::Closure;
 use std::io::{Read, Write};
-use tables::Verdict;
+use tables::{Refusal, Tables};
 
-// The call that a letter stands for, and what it is asked.
+// The calls of a picture.
+#[derive(Clone, Copy, PartialEq, Eq)]
+enum Call {
+    Prepare,
+    Judge,
+    Entry,
+    Matrix,
+    List,
+}
+
+impl From<u8> for Call {
+    // The call that a label's letter stands for.
+    fn from(letter: u8) -> Self {
+        match letter {
+            b'p' => Call::Prepare,
+            b'j' => Call::Judge,
+            b'e' => Call::Entry,
+            b'm' => Call::Matrix,
+            _ => Call::List,
+        }
+    }
+}
+
+// What a call is asked, and how many places of each buffer it is lent.
 #[derive(Clone, Copy)]
 struct Question {
-    letter: u8,
     scratch: usize,
     mode: u16,
     user: u16,
@@ -19,120 +40,98 @@ struct Question {
     numbers: usize,
 }
 
-fn ask<R: Read>(input: &mut R, letter: u8) -> Question {
-    let scratch = number(input);
-    let mode = number(input);
-    let user = number(input);
-    let file = number(input);
-    let bytes = number(input);
-    let numbers = number(input);
+fn ask<R: Read>(input: &mut R) -> Question {
     Question {
-        letter,
-        scratch: scratch.value,
-        mode: low(mode.value),
-        user: low(user.value),
-        file: low(file.value),
-        bytes: bytes.value,
-        numbers: numbers.value,
+        scratch: number(input).value,
+        mode: u16::low(number(input).value),
+        user: u16::low(number(input).value),
+        file: u16::low(number(input).value),
+        bytes: number(input).value,
+        numbers: number(input).value,
     }
 }
 
 // Checks 1 to 7, 9 for the scratch and 10.
-fn prepare(boxes: &[u8], rows: &[u16], arrows: &[u16], scratch: &mut [u8]) -> Verdict {
-    let mut closure = containment::closure_room();
-    let early = scratch::early_picture(boxes, rows, arrows, scratch);
-    scratch::prepare(early, boxes, rows, scratch, &mut closure)
+fn prepare(t: Tables, scratch: &mut [u8]) -> Result<(), Refusal> {
+    let mut closure: Closure = filled(0);
+    let early = scratch::early_picture(t, scratch);
+    scratch::prepare(early, t.boxes, t.rows, scratch, &mut closure)
 }
 
-// The call, with the places that are lent.
-fn call<W: Write>(
+// The answer of a call, with the places that are lent.
+fn show_call<W: Write>(
     out: &mut W,
-    boxes: &[u8],
-    rows: &[u16],
-    arrows: &[u16],
+    t: Tables,
+    call: Call,
     q: Question,
     scratch: &mut [u8],
     bytes: &mut [u8],
     numbers: &mut [u16],
 ) {
-    let s = bytes_lent(scratch, q.scratch);
-    let b = bytes_lent(bytes, q.bytes);
-    let n = numbers_lent(numbers, q.numbers);
-    let scratch = &mut scratch[..s];
-    let bytes = &mut bytes[..b];
-    let numbers = &mut numbers[..n];
-    let letter = q.letter;
-    match letter {
-        b'p' => {
-            show_verdict(out, prepare(boxes, rows, arrows, scratch));
-        }
-        b'j' => {
-            show_verdict(out, answers::judge(boxes, rows, arrows, scratch));
-        }
-        b'e' => {
-            show_reply(
-                out,
-                answers::one_entry(boxes, rows, arrows, scratch, q.user, q.file, q.mode),
-            );
-        }
-        b'm' => {
-            show_verdict(
-                out,
-                answers::matrix(boxes, rows, arrows, scratch, q.mode, bytes, numbers),
-            );
-        }
-        _ => {
-            show_listed(
-                out,
-                lists::list(boxes, rows, arrows, scratch, q.mode, numbers, bytes),
-            );
-        }
+    match call {
+        Call::Prepare => show_reply(out, prepare(t, scratch), show_passed),
+        Call::Judge => show_reply(out, answers::judge(t, scratch), show_passed),
+        Call::Entry => show_reply(
+            out,
+            answers::one_entry(t, scratch, q.user, q.file, q.mode),
+            show_entry,
+        ),
+        Call::Matrix => show_reply(
+            out,
+            answers::matrix(t, scratch, q.mode, bytes, numbers),
+            show_passed,
+        ),
+        Call::List => show_reply(
+            out,
+            lists::list(t, scratch, q.mode, numbers, bytes),
+            show_written,
+        ),
     }
 }
 
 // The line of a call, on fresh buffers.
-fn run<W: Write>(out: &mut W, boxes: &[u8], rows: &[u16], arrows: &[u16], q: Question) {
-    let mut scratch = bytes();
-    let mut bytes = bytes();
-    let mut numbers = numbers();
-    call(
+fn run<W: Write>(out: &mut W, t: Tables, call: Call, q: Question) {
+    let mut scratch = buffer::<u8>();
+    let mut bytes = buffer::<u8>();
+    let mut numbers = buffer::<u16>();
+    let s = lent(&scratch, q.scratch);
+    let b = lent(&bytes, q.bytes);
+    let n = lent(&numbers, q.numbers);
+    show_call(
         out,
-        boxes,
-        rows,
-        arrows,
+        t,
+        call,
         q,
-        &mut scratch,
-        &mut bytes,
-        &mut numbers,
+        &mut scratch[..s],
+        &mut bytes[..b],
+        &mut numbers[..n],
     );
-    show_bytes(out, &scratch);
-    show_bytes(out, &bytes);
-    show_numbers(out, &numbers);
-    print_text(out, b"\n");
-}
-
-fn run_all<W: Write>(out: &mut W, boxes: &[u8], rows: &[u16], arrows: &[u16], q: Question) {
-    run(out, boxes, rows, arrows, q);
-    if q.letter == b'p' {
-        let mut next = q;
-        next.letter = b'j';
-        run(out, boxes, rows, arrows, next);
-        next.letter = b'e';
-        run(out, boxes, rows, arrows, next);
-        next.letter = b'm';
-        run(out, boxes, rows, arrows, next);
-    }
+    show(out, &scratch);
+    show(out, &bytes);
+    show(out, &numbers);
+    let _ = writeln!(out);
 }
 
 pub fn picture_case<R: Read, W: Write>(input: &mut R, out: &mut W, letter: u8) {
-    let mut boxes = bytes();
-    let mut rows = numbers();
-    let mut arrows = numbers();
-    let b = byte_table(input, &mut boxes);
-    let r = number_table(input, &mut rows);
-    let a = number_table(input, &mut arrows);
-    let question = ask(input, letter);
-    run_all(out, &boxes[..b], &rows[..r], &arrows[..a], question);
+    let mut boxes = buffer::<u8>();
+    let mut rows = buffer::<u16>();
+    let mut arrows = buffer::<u16>();
+    let b = table(input, &mut boxes);
+    let r = table(input, &mut rows);
+    let a = table(input, &mut arrows);
+    let q = ask(input);
+    let t = Tables {
+        boxes: &boxes[..b],
+        rows: &rows[..r],
+        arrows: &arrows[..a],
+    };
+    let call = Call::from(letter);
+    run(out, t, call, q);
+    if call == Call::Prepare {
+        run(out, t, Call::Judge, q);
+        run(out, t, Call::Entry, q);
+        run(out, t, Call::Matrix, q);
+    }
 }
 
 // Writes the headings into as many places of both buffers as the input says.
@@ -144,28 +143,24 @@ fn show_atoms<R: Read, W: Write>(
     users: &mut [u16],
     files: &mut [u16],
 ) {
-    let user_room = numbers_lent(users, number(input).value);
-    let file_room = numbers_lent(files, number(input).value);
-    show_headings(
+    let m = lent(users, number(input).value);
+    let n = lent(files, number(input).value);
+    show_reply(
         out,
-        headings::atomic_boxes(
-            boxes,
-            rows,
-            &mut users[..user_room],
-            &mut files[..file_room],
-        ),
+        headings::atomic_boxes(boxes, rows, &mut users[..m], &mut files[..n]),
+        show_headings,
     );
-    show_numbers(out, users);
-    show_numbers(out, files);
-    print_text(out, b"\n");
+    show(out, users);
+    show(out, files);
+    let _ = writeln!(out);
 }
 
 pub fn heading_case<R: Read, W: Write>(input: &mut R, out: &mut W) {
-    let mut boxes = bytes();
-    let mut rows = numbers();
-    let mut users = numbers();
-    let mut files = numbers();
-    let b = byte_table(input, &mut boxes);
-    let r = number_table(input, &mut rows);
+    let mut boxes = buffer::<u8>();
+    let mut rows = buffer::<u16>();
+    let mut users = buffer::<u16>();
+    let mut files = buffer::<u16>();
+    let b = table(input, &mut boxes);
+    let r = table(input, &mut rows);
     show_atoms(input, out, &boxes[..b], &rows[..r], &mut users, &mut files);
 }

@@ -3,11 +3,9 @@ use mathlib.Core.Path.{◌≡◌, refl, sym, ap, ap₂, ◌∙◌}
 use mathlib.Core.Bool.{Bool, true, false, ◌&&◌, ◌||◌}
 use mathlib.Core.List.{List}
 use Prim.Native.Nat.{ℕ, zero, suc, ◌+◌, ◌<◌, ◌≤◌}
-use native.Mathlib.Decide.{ℕ_discrete}
 use native.Mathlib.Omega.{arith}
 use lib.Dec.{T}
-use lib.ListN.{length, get_or, set, length-set}
-use lib.Seq.{get_or-set_same, get_or-set_other}
+use lib.ListN.{length, get_or}
 use Rattle.base.specs.Buffers.{zeros}
 use Rattle.base.proofs.BufferLaws.{zeros-length, zeros-at}
 use Rattle.base.proofs.Tests.{T_true, T-or₁, T-or₂}
@@ -88,10 +86,3 @@ noted-none notes e = record {
   len = ap length e ∙ zeros-length 107;
   before = λ k l. let z : get_or notes k 0 ≡ 0 = rw e (zeros-at 107 k l) in omega arith;
 }
-
-pub noted_more : (i k v : ℕ) (notes : List ℕ) → k < note_count → v ≤ i + 1 → Noted i notes → Noted (i + 1) (set notes k v)
-noted_more i k v notes there most n = record { len = length-set notes k v ∙ n.len; before = λ j l. go j l (ℕ_discrete j k) }
-  where
-    go : (j : ℕ) → j < note_count → Dec (j ≡ k) → get_or (set notes k v) j 0 ≤ i + 1
-    go j l (yes e) = rw (e, get_or-set_same notes k v 0 (omega (arith, n.len))) most
-    go j l (no o) = rw (get_or-set_other notes k j v 0 o) (omega (arith, n.before j l))

@@ -1,15 +1,15 @@
 -- The first unclear pair, by the rows of the users one after another. Assumes nothing.
 use mathlib.Core.Path.{◌≡◌, sym, ap, subst, ◌∙◌}
 use mathlib.Core.Bool.{Bool, true, false, ◌&&◌}
-use mathlib.Core.Option.{none}
+use Rattle.std.specs.Prelude.{Err, None as none}
 use Prim.Native.Nat.{ℕ, ◌+◌, ◌<◌}
 use lib.Dec.{T, eqb}
 use lib.ListN.{length, get_or}
 use Rattle.base.proofs.Tests.{and_T, T_and, false-not}
 use Rattle.tables.specs.Rows.{Picture, file}
 use Rattle.tables.specs.Atoms.{atom}
-use Rattle.tables.specs.Refusals.{refusal, unclear_pair, verdict_of}
-use Rattle.tables.specs.declared.Verdict.TheVariants.{Refused}
+use Rattle.tables.specs.Refusals.{verdict_of}
+use Rattle.tables.specs.declared.Refusal.TheVariants.{UnclearPair}
 use Rattle.boxsets.specs.Sets.{is_in, low}
 use Rattle.boxsets.specs.declared.Set.{Set}
 use Rattle.boxsets.proofs.LowLaws.{low-least}
@@ -44,12 +44,12 @@ module _ (pic : Picture) (m : ℕ) where
         (subst T (sym (found_in g)) (T_and (atom pic.boxes pic.rows file g) (unclear (get_or (users pic) i 0) g) a t)))
 
     pub clear-found : (f : ℕ) → i < length (users pic) → f ≡ low row.unclear → eqb (low row.unclear) 256 ≡ false
-        → Refused (refusal 12 m u f) ≡ verdict_of (unclear_fault pic m)
+        → Err (UnclearPair m u f) ≡ verdict_of (unclear_fault pic m)
     clear-found f l e n =
         let there = subst T (found_in (low row.unclear)) (some-low row.unclear n).1 in
         let both = and_T (atom pic.boxes pic.rows file (low row.unclear)) (unclear (get_or (users pic) i 0) (low row.unclear)) there in
         rw (is, e, unclear-first)
-        (sym (ap verdict_of (rows-found pic unclear (unclear_pair m) i l before (low row.unclear) both.0 both.1
+        (sym (ap verdict_of (rows-found pic unclear (UnclearPair m) i l before (low row.unclear) both.0 both.1
         (λ g b a t. low-least row.unclear g b
         (subst T (sym (found_in g)) (T_and (atom pic.boxes pic.rows file g) (unclear (get_or (users pic) i 0) g) a t))))))
 
@@ -59,4 +59,4 @@ module _ (pic : Picture) (m : ℕ) where
       rows_more pic unclear i before (λ g a t. before j l g a (subst (λ (e : Entry). T (is_unclear e)) (sym (same g)) t))
 
   pub clear-end : Clear (length (users pic)) → unclear_fault pic m ≡ none
-  clear-end c = unclear-first pic m ∙ rows_end pic unclear (unclear_pair m) c
+  clear-end c = unclear-first pic m ∙ rows_end pic unclear (UnclearPair m) c

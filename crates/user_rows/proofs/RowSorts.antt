@@ -16,7 +16,7 @@ use Rattle.mode_sets.specs.Mode.{own_arrows}
 use Rattle.certificates.specs.Blocks.{reached_by}
 use Rattle.certificates.specs.Steps.{Drawn}
 use Rattle.user_rows.specs.Steps.{Moded, AroundBy, Walked, Sorts}
-use Rattle.user_rows.specs.declared.Around.{Around}
+use Rattle.user_rows.specs.declared.around.Around.{Around}
 use Rattle.user_rows.specs.declared.Row.{Row}
 use Rattle.user_rows.proofs.ShowLaws.{own-none}
 use Rattle.user_rows.proofs.RowAnswers.{reached-unclear, unreached, one-sided, shown-row}

@@ -1,15 +1,15 @@
 -- The walk over a mode's own arrows that answers a row: its start, a turn, places that are passed, and its end. Assumes nothing.
 use mathlib.Core.Path.{◌≡◌, refl, sym, ap, subst, ◌∙◌}
-use mathlib.Core.Bool.{Bool, false, not, ◌&&◌, ◌||◌, cond, or-false}
+use mathlib.Core.Bool.{Bool, true, false, not, ◌&&◌, ◌||◌, cond, or-false}
 use mathlib.Core.List.{List}
-use mathlib.Core.Option.{some}
+use Rattle.std.specs.Prelude.{Some as some}
 use Prim.Native.Nat.{ℕ, ◌+◌, ◌<◌, ◌≤◌}
 use native.Mathlib.Omega.{arith}
 use native.Mathlib.Decide.{dec_lt}
 use lib.Dec.{T, T_not, not_T, eqb}
 use lib.ListN.{length, get_or}
 use Rattle.base.specs.Search.{lowest}
-use Rattle.base.proofs.Tests.{T?, and_T, T_and, T_true, not-false}
+use Rattle.base.proofs.Tests.{T?, true-T, false-not, and_T, T_and, T_true, not-false}
 use Rattle.tables.specs.Rows.{Picture, arrow_count, arrow_at}
 use Rattle.tables.specs.declared.Arrow.{Arrow}
 use Rattle.meaning.specs.Meaning.{positive, has_mode}
@@ -20,20 +20,13 @@ use Rattle.mode_sets.specs.Steps.{ModeSets}
 use Rattle.mode_sets.proofs.OwnLaws.{own-found}
 use Rattle.certificates.specs.Steps.{Drawn}
 use Rattle.user_rows.specs.Row.{shows}
-use Rattle.user_rows.specs.Steps.{Moded, AroundBy, Walked, NextNear, Numbered}
-use Rattle.user_rows.specs.declared.Around.{Around}
+use Rattle.user_rows.specs.Steps.{Moded, AroundBy, Walked}
+use Rattle.user_rows.specs.declared.around.Around.{Around}
 use Rattle.user_rows.proofs.ShowLaws.{shows-around, own-shown}
 
 module _ (pic : Picture) (m u : ℕ) (files : ℕ → Bool) (before : ℕ → ℕ) where
   abbrev place : ℕ → ℕ
   place i = get_or (own_arrows pic.arrows m) i 0
-
-  walk_start : (granted : ℕ → Bool) → ((f : ℕ) → granted f ≡ false) → Walked pic m u files files granted before before 0
-  walk_start granted e = record {
-    left_open = λ f t. (t, λ j l s. absurd (omega arith));
-    gone-shown = λ f t n. absurd (n t);
-    others = λ f h. (e f, refl);
-  }
 
   module _ (left granted : ℕ → Bool) (after : ℕ → ℕ) (i : ℕ) (w : Walked pic m u files left granted before after i) where
     -- places whose arrow is a certificate of none of the files, as those not around the user
@@ -122,42 +115,33 @@ module _ (pic : Picture) (m u : ℕ) (files : ℕ → Bool) (before : ℕ → �
 
 -- ---- the same, by what the code has read
 
--- the mode's own arrows that are not near are passed
-near-pass : (pic : Picture) (m u : ℕ) (closure heads arrows own : List ℕ) → Drawn pic closure → Moded pic m heads arrows own
-    → u < length pic.boxes → (i r : ℕ) → NextNear closure arrows own u i r
-    → (j : ℕ) → i ≤ j → j < r → (f : ℕ) → T (shows pic m u f (get_or (own_arrows pic.arrows m) j 0)) → ⊥
-near-pass pic m u closure heads arrows own d md there i r near j l h f t =
-    near.none_between j l h
-    (rw (md.arrows-are, md.own-are, d.closed.up (arrow_at pic.arrows (get_or (own_arrows pic.arrows m) j 0)).tail u there)
-    (shows-around pic m u f (get_or (own_arrows pic.arrows m) j 0) t))
-
--- how the walk stands at place i
-pub record Walking (closure heads arrows own : List ℕ) (x : Around) (files : Set) (old new : List ℕ) (granted left : Set) (i : ℕ) : Type 0 where
-  pub len : length new ≡ length old
-  pub at_most : i ≤ length own
-  pub is-near : i < length own → T (has closure (256 + x.user) (arrow_at arrows (get_or own i 0)).tail)
+-- how the walk stands at place i: `Old` and `New` say which numbers stand for the files before it and there
+pub record Walking (closure heads arrows own : List ℕ) (x : Around) (files : Set) (Old New : (ℕ → ℕ) → Type 0) (granted left : Set) (i : ℕ)
+    : Type 0 where
   pub walked : (pic : Picture) (m : ℕ) (asked : ℕ → Bool) → Drawn pic closure → Moded pic m heads arrows own
       → AroundBy pic m x.user asked x → x.user < length pic.boxes → ((f : ℕ) → T (is_in files f) → T (asked f))
-      → (after : ℕ → ℕ) × Walked pic m x.user (is_in files) (is_in left) (is_in granted) (λ f. get_or old f 0) after i
-      × (256 ≤ length old → (f : ℕ) → get_or new f 0 ≡ after f)
+      → (before : ℕ → ℕ) → Old before
+      → (after : ℕ → ℕ) × Walked pic m x.user (is_in files) (is_in left) (is_in granted) before after i × New after
 
-module _ (closure heads arrows own : List ℕ) (x : Around) (files : Set) (old : List ℕ) where
-  pub walking_start : (granted : Set) → ((k : ℕ) → is_in granted k ≡ false) → (r : ℕ) → NextNear closure arrows own x.user 0 r
-      → Walking closure heads arrows own x files old old granted files r
-  walking_start granted e r near = record {
-    len = refl;
-    at_most = near.at_most;
-    is-near = near.holds;
-    walked = λ pic m asked d md around there within. (
-      λ f. get_or old f 0,
-      walk-pass pic m x.user (is_in files) (λ f. get_or old f 0) (is_in files) (is_in granted) (λ f. get_or old f 0) 0
-          (walk_start pic m x.user (is_in files) (λ f. get_or old f 0) (is_in granted) e) r
-          (near-pass pic m x.user closure heads arrows own d md there 0 r near),
-      λ l f. refl,
-    );
-  }
+module _ (closure heads arrows own : List ℕ) (x : Around) (files : Set) (Old : (ℕ → ℕ) → Type 0) where
+  module _ (New : (ℕ → ℕ) → Type 0) (granted left : Set) (i : ℕ) (w : Walking closure heads arrows own x files Old New granted left i) where
+    -- the arrow of place i is not around the user
+    pub walking-pass : (a : Arrow) → a ≡ arrow_at arrows (get_or own i 0) → has closure (256 + x.user) a.tail ≡ false
+        → Walking closure heads arrows own x files Old New granted left (i + 1)
+    walking-pass a a-is far = record {
+      walked = λ pic m asked d md around there within before told.
+          let (after, v, shown) = w.walked pic m asked d md around there within before told in (
+            after,
+            walk-pass pic m x.user (is_in files) before (is_in left) (is_in granted) after i v (i + 1)
+                (λ j l h f t.
+                let e : j ≡ i = omega arith in
+                let s = shows-around pic m x.user f (get_or (own_arrows pic.arrows m) i 0) (rw e at t) in
+                false-not (has closure (256 + x.user) a.tail) far
+                (rw (a-is, md.arrows-are, md.own-are, d.closed.up (arrow_at pic.arrows (get_or (own_arrows pic.arrows m) i 0)).tail x.user there) s)),
+            shown,
+          );
+    }
 
-  module _ (new : List ℕ) (granted left : Set) (i : ℕ) (w : Walking closure heads arrows own x files old new granted left i) where
     -- what `shown` gives for the arrow of place i
     abbrev pub ShownBy : Arrow → Set → Type 0
     ShownBy a hit =
@@ -166,25 +150,18 @@ module _ (closure heads arrows own : List ℕ) (x : Around) (files : Set) (old :
         → T (has closure (256 + u) a.tail) → ((f : ℕ) → T (is_in left f) → T (asked f))
         → (f : ℕ) → is_in hit f ≡ (is_in left f && shows pic m u f k)
 
-    pub walking-turn : i < length own → (a : Arrow) → a ≡ arrow_at arrows (get_or own i 0) → (hit next won : Set) (newer : List ℕ)
-        → ShownBy a hit
+    pub walking-turn : i < length own → (a : Arrow) → a ≡ arrow_at arrows (get_or own i 0) → has closure (256 + x.user) a.tail ≡ true
+        → (hit next won : Set) (Newer : (ℕ → ℕ) → Type 0) → ShownBy a hit
         → ((f : ℕ) → is_in next f ≡ (is_in left f && not (is_in hit f)))
         → ((f : ℕ) → is_in won f ≡ (is_in granted f || (is_in hit f && eqb a.sign positive)))
-        → length newer ≡ length new → (256 ≤ length new → Numbered hit (get_or own i 0) new newer)
-        → (r : ℕ) → NextNear closure arrows own x.user (i + 1) r
-        → Walking closure heads arrows own x files old newer won next r
-    walking-turn l a a-is hit next won newer shown-ens next-is won-is long numbered r near = record {
-      len = long ∙ w.len;
-      at_most = near.at_most;
-      is-near = near.holds;
-      walked = λ pic m asked d md around there within.
-          let (after, v, told) = w.walked pic m asked d md around there within in (
+        → ((after : ℕ → ℕ) → New after → Newer (λ f. cond (is_in hit f) (get_or own i 0) (after f)))
+        → Walking closure heads arrows own x files Old Newer won next (i + 1)
+    walking-turn l a a-is near hit next won Newer shown-ens next-is won-is puts = record {
+      walked = λ pic m asked d md around there within before told.
+          let (after, v, shown) = w.walked pic m asked d md around there within before told in (
             λ f. cond (is_in hit f) k (after f),
-            walk-pass pic m x.user (is_in files) (λ f. get_or old f 0) (is_in next) (is_in won) (λ f. cond (is_in hit f) k (after f)) (i + 1)
-                (turn pic m asked d md around there within after v) r
-                (near-pass pic m x.user closure heads arrows own d md there (i + 1) r near),
-            λ many f.
-                (numbered (omega (arith, w.len))).each f ∙ ap (λ (z : ℕ). cond (is_in hit f) k z) (told many f),
+            turn pic m asked d md around there within before after v,
+            puts after shown,
           );
     }
       where
@@ -193,27 +170,25 @@ module _ (closure heads arrows own : List ℕ) (x : Around) (files : Set) (old :
 
         turn : (pic : Picture) (m : ℕ) (asked : ℕ → Bool) → Drawn pic closure → Moded pic m heads arrows own
             → AroundBy pic m x.user asked x → x.user < length pic.boxes → ((f : ℕ) → T (is_in files f) → T (asked f))
-            → (after : ℕ → ℕ) → Walked pic m x.user (is_in files) (is_in left) (is_in granted) (λ f. get_or old f 0) after i
-            → Walked pic m x.user (is_in files) (is_in next) (is_in won) (λ f. get_or old f 0) (λ f. cond (is_in hit f) k (after f)) (i + 1)
-        turn pic m asked d md around there within after v =
+            → (before after : ℕ → ℕ) → Walked pic m x.user (is_in files) (is_in left) (is_in granted) before after i
+            → Walked pic m x.user (is_in files) (is_in next) (is_in won) before (λ f. cond (is_in hit f) k (after f)) (i + 1)
+        turn pic m asked d md around there within before after v =
             let at : k ≡ get_or (own_arrows pic.arrows m) i 0 = ap (λ (z : List ℕ). get_or z i 0) md.own-are in
             let b : a ≡ arrow_at pic.arrows k = a-is ∙ ap (λ (z : List ℕ). arrow_at z k) md.arrows-are in
             let inside : i < length (own_arrows pic.arrows m) = subst (λ (z : List ℕ). i < length z) md.own-are l in
             let own_is = own-found pic.arrows m i inside in
-            walk_turn pic m x.user (is_in files) (λ f. get_or old f 0) (is_in left) (is_in granted) after i v
+            walk_turn pic m x.user (is_in files) before (is_in left) (is_in granted) after i v
             k at inside (is_in hit) (is_in next) (is_in won) (λ f. cond (is_in hit f) k (after f))
-            (shown-ens pic m x.user k asked d md.sets around there (rw at own_is.0) b (rw at own_is.1)
-            (subst (λ (z : Arrow). T (has closure (256 + x.user) z.tail)) (sym a-is) (w.is-near l))
+            (shown-ens pic m x.user k asked d md.sets around there (rw at own_is.0) b (rw at own_is.1) (true-T _ near)
             (λ f t. within f (v.left_open f t).0))
             next-is
             (λ f. won-is f ∙ ap (λ (z : Arrow). is_in granted f || (is_in hit f && eqb z.sign positive)) b)
             (λ f. refl)
 
-    pub walking-empty : ((f : ℕ) → is_in left f ≡ false) → (r : ℕ)
-        → (pic : Picture) (m : ℕ) (asked : ℕ → Bool) → Drawn pic closure → Moded pic m heads arrows own
-        → AroundBy pic m x.user asked x → x.user < length pic.boxes → ((f : ℕ) → T (is_in files f) → T (asked f))
-        → (after : ℕ → ℕ) × Walked pic m x.user (is_in files) (is_in left) (is_in granted) (λ f. get_or old f 0) after r
-        × (256 ≤ length old → (f : ℕ) → get_or new f 0 ≡ after f)
-    walking-empty e r pic m asked d md around there within =
-        let (after, v, told) = w.walked pic m asked d md around there within in
-        (after, walk-empty pic m x.user (is_in files) (λ f. get_or old f 0) (is_in left) (is_in granted) after i v e r, told)
+    -- no file is left
+    pub walking-empty : ((f : ℕ) → is_in left f ≡ false) → (r : ℕ) → Walking closure heads arrows own x files Old New granted left r
+    walking-empty e r = record {
+      walked = λ pic m asked d md around there within before told.
+          let (after, v, shown) = w.walked pic m asked d md around there within before told in
+          (after, walk-empty pic m x.user (is_in files) before (is_in left) (is_in granted) after i v e r, shown);
+    }

@@ -3,8 +3,8 @@ use mathlib.Core.Path.{◌≡◌, sym, ap, subst, ◌∙◌}
 use mathlib.Core.Logic.{◌⊎◌, ⊎_elim, ⊎_map}
 use mathlib.Core.Bool.{Bool, false, or-false}
 use mathlib.Core.List.{List}
-use mathlib.Core.Option.{none, some}
-use Prim.Native.Nat.{ℕ, ◌+◌, ◌<◌, ◌≤◌}
+use Rattle.std.specs.Prelude.{None as none, Some as some}
+use Prim.Native.Nat.{ℕ, ◌+◌, ◌<◌}
 use native.Mathlib.Omega.{arith}
 use lib.Dec.{T}
 use lib.ListN.{length, get_or}
@@ -120,9 +120,6 @@ module _ (pic : Picture) (m u k : ℕ) (closure : List ℕ) (d : Drawn pic closu
     head-there pic.boxes pic.arrows d.arrows-sound k l,
     there,
   )
-
-  pub sign-other : (a.sign ≡ positive → ⊥) → a.sign ≡ negative
-  sign-other n = let i : a.sign ≤ 1 = rw a-is (d.arrows-sound.sign-most k l) in omega arith
 
   pub shown_by : T (has_mode pic.arrows m k) → T (has closure (256 + u) a.tail)
       → (s o : ℕ) → ((s ≡ positive) × (o ≡ negative)) ⊎ ((s ≡ negative) × (o ≡ positive)) → a.sign ≡ s

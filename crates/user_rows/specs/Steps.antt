@@ -1,17 +1,17 @@
 -- What the functions ask of and promise each other. Assumes nothing.
-use Rattle.std.specs.Prelude.{◌≡◌, Bool, false, cond, ◌&&◌, List, ℕ, ◌+◌, ◌<◌, ◌≤◌, T, eqb, length, get_or, replicate}
-use Rattle.std.proofs.Math.Option.{some}
+use Rattle.std.specs.Prelude.{◌≡◌, Bool, false, ◌&&◌, List, ℕ, ◌<◌, T, eqb, length, get_or, replicate}
+use Rattle.std.specs.Prelude.{Some as some}
 use Rattle.base.specs.Search.{lowest}
 use Rattle.tables.specs.Rows.{Picture, user, file, arrow_count, arrow_at, no_arrow}
 use Rattle.tables.specs.Atoms.{atom, atoms}
 use Rattle.meaning.specs.Meaning.{positive, negative, answer, is_granted, is_unclear}
-use Rattle.boxsets.specs.Sets.{is_in, has}
+use Rattle.boxsets.specs.Sets.{is_in}
 use Rattle.boxsets.specs.declared.Set.{Set}
 use Rattle.mode_sets.specs.Mode.{own_arrows}
 use Rattle.mode_sets.specs.Steps.{Small, Numbers, ModeSets, heads_words}
 use Rattle.certificates.specs.Steps.{Drawn, NearBy}
 use Rattle.user_rows.specs.Row.{shows}
-use Rattle.user_rows.specs.declared.Around.{Around}
+use Rattle.user_rows.specs.declared.around.Around.{Around}
 use Rattle.user_rows.specs.declared.Row.{Row}
 use Rattle.containment.specs.Steps.{closure_words}
 
@@ -60,22 +60,6 @@ module _ (pic : Picture) (mode : ℕ) where
   pub record Sorts (u : ℕ) (asked : ℕ → Bool) (r : Row) : Type 0 where
     pub granted-are : (f : ℕ) → is_in r.granted f ≡ (asked f && is_granted (answer pic mode u f))
     pub unclear-are : (f : ℕ) → is_in r.unclear f ≡ (asked f && is_unclear (answer pic mode u f))
-
--- r is the first place from `from` on whose arrow's tail is in the set of boxes around the user, or the number of places
-pub record NextNear (closure arrows own : List ℕ) (user from r : ℕ) : Type 0 where
-  pub from_on : from ≤ r
-  pub at_most : r ≤ length own
-  pub none_between : (i : ℕ) → from ≤ i → i < r → T (has closure (256 + user) (arrow_at arrows (get_or own i 0)).tail) → ⊥
-  pub holds : r < length own → T (has closure (256 + user) (arrow_at arrows (get_or own r 0)).tail)
-
--- the number stands at each place for which the test holds, and others are as they were
-pub record NumberedAt (test : ℕ → Bool) (number : ℕ) (old new : List ℕ) : Type 0 where
-  pub len : length new ≡ length old
-  pub each : (f : ℕ) → get_or new f 0 ≡ cond (test f) number (get_or old f 0)
-
--- at each place of the set
-abbrev pub Numbered : (hit : Set) (number : ℕ) (old new : List ℕ) → Type 0
-Numbered hit number old new = NumberedAt (is_in hit) number old new
 
 -- 256 times 65,535
 unfoldable pub blank_row : List ℕ

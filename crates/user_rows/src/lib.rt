@@ -5,22 +5,15 @@
 // that are b or contain it. `heads` and `own` are what `mode_sets::take_mode` makes of the arrows of a mode.
 #![tactic(auto)]
 
+mod around;
+mod numbers;
 mod walk;
 
 use boxsets::Set;
-use certificates::Near;
-pub use walk::{answer_row, entry_of, row_room, sort_row};
-
-// The mode's arrows of both signs around a user.
-#[derive(Clone, Copy)]
-pub struct Around {
-    pub user: usize,
-    pub negative: Near,
-    pub positive: Near,
-}
+pub use walk::{answer_row, entry_of, sort_row};
 
 // What is found for a user: of the asked files those that are granted, and those that are unclear.
-#[derive(Clone, Copy)]
+#[derive(Clone, Copy, Debug)]
 pub struct Row {
     pub granted: Set,
     pub unclear: Set,

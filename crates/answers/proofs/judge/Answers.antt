@@ -1,61 +1,51 @@
--- `answers::judge` meets its contract: the stage that all calls share refuses, or leaves the modes a drawn picture. Assumes nothing.
-use mathlib.Core.Path.{◌≡◌, sym, ap, ◌∙◌}
-use Rattle.base.specs.Search.{or_else}
-use Rattle.tables.specs.Rows.{Picture, picture}
+-- `answers::judge` meets its contract: each stage refuses, or leaves the next one its facts. Assumes nothing.
+use mathlib.Core.Path.{◌≡◌, sym, ◌∙◌}
+use borrow.Author.Rules.{rules}
+use Rattle.std.specs.Prelude.{Ok, Err}
+use Rattle.base.proofs.Options.{or_else-assoc}
+use Rattle.base.proofs.BufferLaws.{zeros-is}
+use Rattle.tables.specs.Rows.{picture}
 use Rattle.tables.specs.Refusals.{verdict_of}
-use Rattle.tables.proofs.Verdicts.{refuses, passes}
-use Rattle.containment.specs.Contains.{loop_fault}
-use Rattle.scratch.specs.Scratch.{scratch_after, early_fault, picture_fault}
+use Rattle.tables.proofs.Verdicts.{refused-by, passed-by}
+use Rattle.scratch.specs.Scratch.{early_fault}
 use Rattle.scratch.proofs.PictureLaws.{picture-stages}
 use Rattle.answers.specs.Calls.{judge_fault}
-use Rattle.answers.proofs.CallLaws.{picture-early, ready-asks, ready-drawn}
-use Rattle.answers.proofs.judge.Goals.{After-prepare-ready, Start}
+use Rattle.answers.proofs.CallLaws.{picture-early, early-sound, early-room, early-drawn}
+use Rattle.answers.proofs.judge.Goals.{In_ok-early_picture}
 use Rattle.answers.proofs.judge.Goals as goal
 
-abbrev pic : Start → Picture
-pic start = picture start.args.boxes.now start.args.rows.now start.args.arrows.now
-
--- the verdict so far, and the scratch
-prepared : (c : After-prepare-ready) →
-    let s = c.args.scratch.now in
-    (c.prepare-ready.result ≡ verdict_of (or_else (early_fault (pic (goal.at.After-prepare-ready c).Start) s) (loop_fault c.args.boxes.now c.args.rows.now)))
-    × (c.prepare-ready.new.scratch ≡ scratch_after (early_fault (pic (goal.at.After-prepare-ready c).Start) s) c.args.boxes.now c.args.rows.now s)
-prepared c =
-    c.prepare-ready.ensures.value (early_fault (pic (goal.at.After-prepare-ready c).Start) c.args.scratch.now) c.early_picture-early.ensures
-
--- the checks of a picture are done
-checked : (c : After-prepare-ready) →
-    c.prepare-ready.result ≡ verdict_of (picture_fault (pic (goal.at.After-prepare-ready c).Start) c.args.scratch.now)
-checked c =
+-- the early checks passed
+clear : (c : In_ok-early_picture) →
     let a = c.args in
-    (prepared c).0 ∙ ap verdict_of (picture-stages a.boxes.now a.rows.now a.arrows.now a.scratch.now)
+    verdict_of (early_fault (picture a.t.boxes.now a.t.rows.now a.t.arrows.now) a.scratch.now) ≡ Ok tt
+clear c = sym c.early_picture.ensures ∙ c.in_ok-early_picture.was
 
-pub prepare-ready-requires : goal.prepare-ready-requires
-prepare-ready-requires c =
-    let s = c.args.scratch.now in record {
-      sound_rows = ready-asks (pic (goal.at.prepare-ready-requires c).Start) s (early_fault (pic (goal.at.prepare-ready-requires c).Start) s) (picture-early (pic (goal.at.prepare-ready-requires c).Start) s) c.early_picture-early.result
-          c.early_picture-early.ensures;
-      closure_value = c.closure_room-closure.ensures;
-    }
-
-pub returns-in-Refused : goal.returns-in-Refused
+pub returns-in_err-early_picture-clause-result_value : goal.returns-in_err-early_picture-clause-result_value
 unfolding judge_fault
-returns-in-Refused c =
-    record {
-      result_value = refuses _ _ _ (sym (checked (goal.at.returns-in-Refused c).After-prepare-ready) ∙ c.in-Refused.is);
-      scratch_after = (prepared (goal.at.returns-in-Refused c).After-prepare-ready).1;
-    }
+returns-in_err-early_picture-clause-result_value c =
+    rw (← picture-stages, or_else-assoc) (search (rules, refused-by, passed-by))
+
+pub fill_both-requires : goal.fill_both-requires
+fill_both-requires c = record {
+  sound_rows = early-sound _ _ _ (picture-early _ _) (clear (goal.at.fill_both-requires c).In_ok-early_picture);
+  boxes_in_bounds = early-room _ _ _ (picture-early _ _) (clear (goal.at.fill_both-requires c).In_ok-early_picture);
+  closure_value = c.filled-closure.ensures ∙ zeros-is _;
+}
+
+pub returns-in_err-fill_both-clause-result_value : goal.returns-in_err-fill_both-clause-result_value
+unfolding judge_fault
+returns-in_err-fill_both-clause-result_value c =
+    let e : c.from_residual-in_err-fill_both.result ≡ Err c.in_err-fill_both.field-0.0 = search rules in
+    rw (← picture-stages, or_else-assoc)
+    (passed-by _ _ _ _ c.early_picture.ensures c.in_ok-early_picture.was
+    (refused-by _ _ _ _ _ c.fill_both.ensures.value c.in_err-fill_both.was e))
 
 pub judge_picture-requires : goal.judge_picture-requires
 judge_picture-requires c =
-    let s = c.args.scratch.now in
-    ready-drawn (pic (goal.at.judge_picture-requires c).Start) s (early_fault (pic (goal.at.judge_picture-requires c).Start) s) (picture-early (pic (goal.at.judge_picture-requires c).Start) s) c.prepare-ready.result _
-    (prepared (goal.at.judge_picture-requires c).After-prepare-ready).0 c.prepare-ready.ensures.closure c.in_default.is
+    early-drawn _ _ _ (picture-early _ _) (clear (goal.at.judge_picture-requires c).In_ok-early_picture) _
+    (sym c.fill_both.ensures.value ∙ c.in_ok-fill_both.was) c.fill_both.ensures.closure
 
-pub returns : goal.returns
+pub returns-clause-result_value : goal.returns-clause-result_value
 unfolding judge_fault
-returns c =
-    record {
-      result_value = c.judge_picture.ensures ∙ passes _ _ (sym (checked (goal.at.returns c).After-prepare-ready) ∙ c.in_default.is);
-      scratch_after = (prepared (goal.at.returns c).After-prepare-ready).1;
-    }
+returns-clause-result_value c =
+    rw (← picture-stages, or_else-assoc) (search (rules, refused-by, passed-by))

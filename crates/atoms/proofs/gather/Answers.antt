@@ -1,17 +1,17 @@
 -- `atoms::gather` meets its contract: the unmarked boxes below b are written and counted. Assumes nothing.
-use mathlib.Core.Path.{◌≡◌, sym, ◌∙◌}
+use mathlib.Core.Path.{◌≡◌, refl, sym, ◌∙◌}
 use Prim.Native.Nat.{◌≤◌, ◌<◌}
 use native.Mathlib.Omega.{arith}
 use borrow.Author.Rules.{rules}
 use lib.ListN.{length}
 use Rattle.atoms.specs.Steps.{unmarked}
 use Rattle.base.proofs.BufferLaws.{selected-none, selected-length, selected-most, selected-yes, selected-no}
-use Rattle.atoms.proofs.gather.Goals.{After-narrow}
+use Rattle.atoms.proofs.gather.Goals.{Then-is_unmarked}
 use Rattle.atoms.proofs.gather.Goals.{then-is_unmarked, else-is_unmarked}
 use Rattle.atoms.proofs.gather.Goals as goal
 
 -- there is a place for the box
-room : (c : After-narrow) → let l = c.loop-b in (l.count < length l.out) × (l.count ≤ 256)
+room : (c : Then-is_unmarked) → let l = c.loop-b in (l.count < length l.out) × (l.count ≤ 256)
 room c =
     let a = c.args in
     let p = unmarked a.boxes.now a.side a.marks.now in
@@ -22,9 +22,6 @@ room c =
 pub loop-b-init : goal.loop-b-init
 loop-b-init c = let a = c.args in
     (search rules, selected-none (unmarked a.boxes.now a.side a.marks.now) a.out.now)
-
-pub narrow-requires : goal.narrow-requires
-narrow-requires c = omega arith
 
 pub offset_bounds-out-count : goal.offset_bounds-out-count
 offset_bounds-out-count c = omega (arith, room c)
@@ -42,7 +39,7 @@ loop-b-preserved c =
     let is = c.is_unmarked.ensures in (
       search rules,
       elim c.if-is_unmarked.branch [
-        | then-is_unmarked w ↦ rw (w.out-is, w.count-is) (selected-yes p a.out.now c.loop-b.b c.loop-b.count c.loop-b.out w.narrow.result (omega arith) (sym is ∙ w.if-is_unmarked.true) w.narrow.ensures c.loop-b.invariant.1)
+        | then-is_unmarked w ↦ rw (w.out-is, w.count-is) (selected-yes p a.out.now c.loop-b.b c.loop-b.count c.loop-b.out c.loop-b.b (omega arith) (sym is ∙ w.if-is_unmarked.true) refl c.loop-b.invariant.1)
         | else-is_unmarked w ↦ rw (w.out-is, w.count-is) (selected-no p a.out.now c.loop-b.b c.loop-b.count c.loop-b.out (sym is ∙ w.if-is_unmarked.false) c.loop-b.invariant.1)
       ],
     )

@@ -13,17 +13,17 @@ pub loop-k-init : goal.loop-k-init
 loop-k-init c = let a = c.args in
     (search rules, rw (rows_end a.rows.now c.requires, outer-none))
 
-pub loop-k-preserved-then-wide-b : goal.loop-k-preserved-then-wide-b
-loop-k-preserved-then-wide-b c =
+pub loop-k-preserved-then-from-b : goal.loop-k-preserved-then-from-b
+loop-k-preserved-then-from-b c =
     let a = c.args in
-    let o : c.wide.result ≡ (row_at a.rows.now (c.loop-k.k - 1)).outer = rw (c.wide.ensures, c.at-row.ensures) in
-    (search rules, rw (outer-from a.rows.now c.loop-k.k (omega arith) (omega arith) a.b, ← o, eq-eqb _ _ c.if-wide-b.true))
+    let o : c.from.result ≡ (row_at a.rows.now (c.loop-k.k - 1)).outer = rw (c.from.ensures, c.at.ensures) in
+    (search rules, rw (outer-from a.rows.now c.loop-k.k (omega arith) (omega arith) a.b, ← o, eq-eqb _ _ c.if-from-b.true))
 
 pub loop-k-preserved : goal.loop-k-preserved
 loop-k-preserved c =
     let a = c.args in
-    let o : c.wide.result ≡ (row_at a.rows.now (c.loop-k.k - 1)).outer = rw (c.wide.ensures, c.at-row.ensures) in
-    (search rules, rw (outer-from a.rows.now c.loop-k.k (omega arith) (omega arith) a.b, ← o, ne_eqb _ _ c.if-wide-b.false) c.loop-k.invariant.1)
+    let o : c.from.result ≡ (row_at a.rows.now (c.loop-k.k - 1)).outer = rw (c.from.ensures, c.at.ensures) in
+    (search rules, rw (outer-from a.rows.now c.loop-k.k (omega arith) (omega arith) a.b, ← o, ne_eqb _ _ c.if-from-b.false) c.loop-k.invariant.1)
 
 pub returns : goal.returns
 returns c =

@@ -7,6 +7,3 @@ use Rattle.atoms.proofs.is_outer.Given as goal
 
 abbrev pub invariant-loop-k : goal.invariant-loop-k
 invariant-loop-k l = (l.k ≤ row_count l.rows) × (l.found ≡ outer (drop (2 * l.k) l.rows) l.b)
-
-abbrev pub decreases-loop-k : goal.decreases-loop-k
-decreases-loop-k l = l.k

@@ -7,14 +7,14 @@ use lib.ListN.{length, length-set}
 use Rattle.tables.specs.Rows.{row_at}
 use Rattle.tables.proofs.RowLaws.{rows_end}
 use Rattle.atoms.proofs.MarkLaws.{marked}
-use Rattle.atoms.proofs.mark_outer.Goals.{After-wide-b}
+use Rattle.atoms.proofs.mark_outer.Goals.{After-from-b}
 use Rattle.atoms.proofs.mark_outer.Goals as goal
 
 -- the row's outer box has a mark
-there : (c : After-wide-b) → c.wide-b.result < length c.loop-k.marks
+there : (c : After-from-b) → c.from-b.result < length c.loop-k.marks
 there c =
     let below : (row_at c.args.rows.now (c.loop-k.k - 1)).outer < length c.args.marks.now = c.requires.by_index (c.loop-k.k - 1) (omega arith) in
-    rw (c.wide-b.ensures, c.at-row.ensures) (omega arith)
+    rw (c.from-b.ensures, c.at.ensures) (omega arith)
 
 pub loop-k-init : goal.loop-k-init
 loop-k-init c =
@@ -27,8 +27,8 @@ pub loop-k-preserved : goal.loop-k-preserved
 loop-k-preserved c = (
   search rules,
   simp length-set c.loop-k.invariant.1,
-  marked c.args.rows.now c.loop-k.k (omega arith) (omega arith) c.loop-k.marks c.wide-b.result
-      (rw (c.wide-b.ensures, c.at-row.ensures)) (there c) c.loop-k.invariant.2,
+  marked c.args.rows.now c.loop-k.k (omega arith) (omega arith) c.loop-k.marks c.from-b.result
+      (rw (c.from-b.ensures, c.at.ensures)) (there c) c.loop-k.invariant.2,
 )
 
 pub returns : goal.returns

@@ -8,6 +8,3 @@ use Rattle.atoms.proofs.mark_outer.Given as goal
 
 abbrev pub invariant-loop-k : goal.invariant-loop-k
 invariant-loop-k l = (l.k ≤ row_count l.rows) × (length l.marks ≡ length l.initial.marks) × Marks (outer (drop (2 * l.k) l.rows)) l.marks
-
-abbrev pub decreases-loop-k : goal.decreases-loop-k
-decreases-loop-k l = l.k

@@ -1,7 +1,6 @@
 -- `bit_rows::put_rows` meets its contract: the rows before a are written. Assumes nothing.
 use mathlib.Core.Path.{◌≡◌}
 use native.Mathlib.Omega.{arith}
-use borrow.Author.Rules.{rules}
 use Rattle.base.proofs.Index.{row_step}
 use Rattle.bit_rows.specs.Bits.{row_width}
 use Rattle.bit_rows.proofs.NumberLaws.{width-most}
@@ -18,7 +17,7 @@ pub overflow_mul-end : goal.overflow_mul-end
 overflow_mul-end c = rw (wide c) (omega (arith, c.requires.2))
 
 pub loop-a-init : goal.loop-a-init
-loop-a-init c = let x = c.args in (search rules, filled_none x.n x.sets.now x.out.now)
+loop-a-init c = filled_none c.args.n c.args.sets.now c.args.out.now
 
 pub overflow_mul-a : goal.overflow_mul-a
 overflow_mul-a c =
@@ -34,20 +33,15 @@ put_row-requires c =
       omega arith,
       width-most c.args.n c.requires.0,
       within,
-      omega (arith, c.requires.2, c.loop-a.invariant.1.same.len),
+      omega (arith, c.requires.2, c.loop-a.invariant.same.len),
     )
 
 pub loop-a-preserved : goal.loop-a-preserved
-loop-a-preserved c = (
-  search rules,
-  filled_more c.args.n c.loop-a.a c.args.sets.now c.args.out.now c.loop-a.out c.put_row.new.out c.requires.0
-      c.loop-a.invariant.1 (rw (wide (goal.at.loop-a-preserved c).After-row_width-w) at c.put_row.ensures),
-)
-
-pub shape_of-out : goal.shape_of-out
-shape_of-out c = c.loop-a.invariant.1.same.len
+loop-a-preserved c =
+    filled_more c.args.n c.loop-a.a c.args.sets.now c.args.out.now c.loop-a.out c.put_row.new.out c.requires.0
+    c.loop-a.invariant (rw (wide (goal.at.loop-a-preserved c).After-row_width-w) at c.put_row.ensures)
 
 pub returns : goal.returns
 returns c =
     let e : c.loop-a.a ≡ c.args.n = omega arith in
-    filled-all c.args.n c.args.sets.now c.args.out.now c.loop-a.out c.requires.2 (rw e at c.loop-a.invariant.1)
+    filled-all c.args.n c.args.sets.now c.args.out.now c.loop-a.out c.requires.2 (rw e at c.loop-a.invariant)

@@ -4,4 +4,4 @@ use Rattle.boxsets.proofs.TableLaws.{has_in}
 use Rattle.certificates.proofs.nesting.Goals as goal
 
 pub returns : goal.returns
-returns c k = c.minus.ensures k ∙ rw (c.set_at.ensures, c.set_at-2.ensures) (simp has_in)
+returns c k = c.sub.ensures k ∙ rw (c.set_at.ensures, c.set_at-2.ensures) (simp has_in)

@@ -3,4 +3,4 @@ use Rattle.certificates.proofs.OutsideWalk.{Kept}
 use Rattle.certificates.proofs.outside_all.Given as goal
 
 abbrev pub invariant-loop-turn : goal.invariant-loop-turn
-invariant-loop-turn l = (l.turn ≤ 256) × Kept l.closure l.initial.left l.initial.rest l.turn l.left l.rest
+invariant-loop-turn l = (l.turn ≤ 256) × Kept l.closure l.fn.files l.fn.boxes l.turn l.left l.rest

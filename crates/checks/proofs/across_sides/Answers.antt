@@ -7,12 +7,12 @@ use Rattle.checks.proofs.across_sides.Goals as goal
 pub bounds-boxes-outer : goal.bounds-boxes-outer
 bounds-boxes-outer c =
     let there = boxes-there _ _ (sym c.names_no_box.ensures ∙ c.if-not-names_no_box.true) in
-    rw c.wide-outer.ensures there.0
+    rw c.from-outer.ensures there.0
 
 pub bounds-boxes-inner : goal.bounds-boxes-inner
 bounds-boxes-inner c =
     let there = boxes-there _ _ (sym c.names_no_box.ensures ∙ c.if-not-names_no_box.true) in
-    rw c.wide-inner.ensures there.1
+    rw c.from-inner.ensures there.1
 
 pub returns-then-not-names_no_box : goal.returns-then-not-names_no_box
 returns-then-not-names_no_box c =
@@ -20,8 +20,8 @@ returns-then-not-names_no_box c =
       across_sides-is,
       c.side_of-then-not-names_no_box.ensures,
       c.side_of.ensures,
-      c.wide-inner.ensures,
-      c.wide-outer.ensures,
+      c.from-inner.ensures,
+      c.from-outer.ensures,
       ← c.names_no_box.ensures,
       c.if-not-names_no_box.true,
     )

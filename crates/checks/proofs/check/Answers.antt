@@ -1,52 +1,91 @@
--- `checks::check` meets its contract: checks 1 and 2 refuse before a row is read, and the others follow in order. Assumes nothing.
-use mathlib.Core.Option.{Option}
-use mathlib.Core.List.{List}
-use mathlib.Core.Path.{◌≡◌, sym, ap, ◌∙◌}
-use Prim.Native.Nat.{ℕ}
-use lib.ListN.{length}
-use Rattle.tables.specs.Faults.{ragged_fault, count_fault, byte_fault, row_fault, table_fault}
-use Rattle.tables.proofs.FaultLaws.{table-stages}
-use Rattle.checks.specs.Steps.{fails}
+-- `checks::check` meets its contract: the checks one after the other. Assumes nothing.
+use mathlib.Core.Path.{◌≡◌}
+use Rattle.std.specs.Prelude.{Err}
+use borrow.Author.Rules.{rules}
 use Rattle.tables.specs.Refusals.{verdict_of}
-use Rattle.tables.specs.Rows.{picture, row_count, arrow_count}
-use Rattle.base.specs.Search.{or_else}
-use Rattle.tables.specs.declared.Refusal.{Refusal}
-use Rattle.tables.proofs.Verdicts.{either-verdict, refuses, passes}
-use Rattle.base.proofs.Options.{or_else-assoc}
-use Rattle.checks.proofs.check.Goals.{After-or_else-shape}
+use Rattle.tables.specs.declared.Refusal.TheVariants.{NoBox, AcrossSides, WrongEnds, WrongMode}
+use Rattle.tables.specs.Rows.{row_count, row_at, arrow_count, arrow_at}
+use Rattle.tables.specs.Faults.{row_fault, names_no_box, across_sides, wrong_ends, wrong_mode}
+use Rattle.tables.proofs.FaultLaws.{table_fault-is}
+use Rattle.tables.proofs.Verdicts.{refused-by, passed-by}
+use Rattle.checks.proofs.check.Goals.{After-check_rows, After-check_rows-2, After-check_rows-3, After-check_rows-4}
 use Rattle.checks.proofs.check.Goals as goal
 
--- checks 1 and 2, and checks 3 to 7
-shape_fault : List ℕ → List ℕ → List ℕ → Option Refusal
-shape_fault boxes rows arrows = or_else (ragged_fault (length rows) (length arrows)) (count_fault (length boxes) (row_count rows) (arrow_count arrows))
+-- what each check of rows answers
+four : (c : After-check_rows) → let a = c.args in
+    c.check_rows.result ≡ verdict_of (row_fault NoBox (λ k. names_no_box a.t.boxes.now (row_at a.t.rows.now k)) (row_count a.t.rows.now))
+four c = search rules
 
-rows_fault : List ℕ → List ℕ → List ℕ → Option Refusal
-rows_fault boxes rows arrows =
-    or_else (byte_fault boxes)
-    (or_else (row_fault 4 (fails 4 boxes rows) (row_count rows))
-    (or_else (row_fault 5 (fails 5 boxes rows) (row_count rows))
-    (or_else (row_fault 6 (fails 6 boxes arrows) (arrow_count arrows)) (row_fault 7 (fails 7 boxes arrows) (arrow_count arrows)))))
+five : (c : After-check_rows-2) → let a = c.args in
+    c.check_rows-2.result ≡ verdict_of (row_fault AcrossSides (λ k. across_sides a.t.boxes.now (row_at a.t.rows.now k)) (row_count a.t.rows.now))
+five c = search rules
 
-stages : (boxes rows arrows : List ℕ) → or_else (shape_fault boxes rows arrows) (rows_fault boxes rows arrows) ≡ table_fault (picture boxes rows arrows)
-unfolding shape_fault rows_fault
-stages boxes rows arrows = table-stages boxes rows arrows
+six : (c : After-check_rows-3) → let a = c.args in
+    c.check_rows-3.result ≡ verdict_of (row_fault WrongEnds (λ k. wrong_ends a.t.boxes.now (arrow_at a.t.arrows.now k)) (arrow_count a.t.arrows.now))
+six c = search rules
 
-shape_is : (c : After-or_else-shape) → let a = c.args in
-    c.or_else-shape.result ≡ verdict_of (shape_fault a.boxes.now a.rows.now a.arrows.now)
-unfolding shape_fault
-shape_is c = rw (c.or_else-shape.ensures, c.check_counts.ensures, c.check_ragged.ensures) (simp either-verdict)
+seven : (c : After-check_rows-4) → let a = c.args in
+    c.check_rows-4.result ≡ verdict_of (row_fault WrongMode (λ k. wrong_mode (arrow_at a.t.arrows.now k)) (arrow_count a.t.arrows.now))
+seven c = search rules
 
-pub returns-in-Refused : goal.returns-in-Refused
-returns-in-Refused c = let a = c.args in
-    refuses (shape_fault a.boxes.now a.rows.now a.arrows.now) (rows_fault a.boxes.now a.rows.now a.arrows.now) _
-    (sym (shape_is (goal.at.returns-in-Refused c).After-or_else-shape) ∙ c.in-Refused.is)
-    ∙ ap verdict_of (stages a.boxes.now a.rows.now a.arrows.now)
+pub returns-in_err-check_ragged : goal.returns-in_err-check_ragged
+returns-in_err-check_ragged c =
+    let e : c.from_residual.result ≡ Err c.in_err-check_ragged.field-0.0 = search rules in
+    rw table_fault-is
+    (refused-by _ _ _ _ _ c.check_ragged.ensures c.in_err-check_ragged.was e)
+
+pub returns-in_err-check_counts : goal.returns-in_err-check_counts
+returns-in_err-check_counts c =
+    let e : c.from_residual-in_err-check_counts.result ≡ Err c.in_err-check_counts.field-0.0 = search rules in
+    rw table_fault-is
+    (passed-by _ _ _ _ c.check_ragged.ensures c.in_ok-check_ragged.was
+    (refused-by _ _ _ _ _ c.check_counts.ensures c.in_err-check_counts.was e))
+
+pub returns-in_err-check_bytes : goal.returns-in_err-check_bytes
+returns-in_err-check_bytes c =
+    let e : c.from_residual-in_err-check_bytes.result ≡ Err c.in_err-check_bytes.field-0.0 = search rules in
+    rw table_fault-is
+    (passed-by _ _ _ _ c.check_ragged.ensures c.in_ok-check_ragged.was
+    (passed-by _ _ _ _ c.check_counts.ensures c.in_ok-check_counts.was
+    (refused-by _ _ _ _ _ c.check_bytes.ensures c.in_err-check_bytes.was e)))
+
+pub returns-in_err-check_rows : goal.returns-in_err-check_rows
+returns-in_err-check_rows c =
+    let e : c.from_residual-in_err-check_rows.result ≡ Err c.in_err-check_rows.field-0.0 = search rules in
+    rw table_fault-is
+    (passed-by _ _ _ _ c.check_ragged.ensures c.in_ok-check_ragged.was
+    (passed-by _ _ _ _ c.check_counts.ensures c.in_ok-check_counts.was
+    (passed-by _ _ _ _ c.check_bytes.ensures c.in_ok-check_bytes.was
+    (refused-by _ _ _ _ _ (four (goal.at.returns-in_err-check_rows c).After-check_rows) c.in_err-check_rows.was e))))
+
+pub returns-in_err-check_rows-2 : goal.returns-in_err-check_rows-2
+returns-in_err-check_rows-2 c =
+    let e : c.from_residual-in_err-check_rows-2.result ≡ Err c.in_err-check_rows-2.field-0.0 = search rules in
+    rw table_fault-is
+    (passed-by _ _ _ _ c.check_ragged.ensures c.in_ok-check_ragged.was
+    (passed-by _ _ _ _ c.check_counts.ensures c.in_ok-check_counts.was
+    (passed-by _ _ _ _ c.check_bytes.ensures c.in_ok-check_bytes.was
+    (passed-by _ _ _ _ (four (goal.at.returns-in_err-check_rows-2 c).After-check_rows) c.in_ok-check_rows.was
+    (refused-by _ _ _ _ _ (five (goal.at.returns-in_err-check_rows-2 c).After-check_rows-2) c.in_err-check_rows-2.was e)))))
+
+pub returns-in_err-check_rows-3 : goal.returns-in_err-check_rows-3
+returns-in_err-check_rows-3 c =
+    let e : c.from_residual-in_err-check_rows-3.result ≡ Err c.in_err-check_rows-3.field-0.0 = search rules in
+    rw table_fault-is
+    (passed-by _ _ _ _ c.check_ragged.ensures c.in_ok-check_ragged.was
+    (passed-by _ _ _ _ c.check_counts.ensures c.in_ok-check_counts.was
+    (passed-by _ _ _ _ c.check_bytes.ensures c.in_ok-check_bytes.was
+    (passed-by _ _ _ _ (four (goal.at.returns-in_err-check_rows-3 c).After-check_rows) c.in_ok-check_rows.was
+    (passed-by _ _ _ _ (five (goal.at.returns-in_err-check_rows-3 c).After-check_rows-2) c.in_ok-check_rows-2.was
+    (refused-by _ _ _ _ _ (six (goal.at.returns-in_err-check_rows-3 c).After-check_rows-3) c.in_err-check_rows-3.was e))))))
 
 pub returns : goal.returns
-unfolding rows_fault
 returns c =
-    let a = c.args in
-    rw (c.or_else-4.ensures, c.check_rows-4.ensures, c.or_else-3.ensures, c.check_rows-3.ensures, c.or_else-2.ensures, c.check_rows-2.ensures, c.or_else.ensures, c.check_rows.ensures, c.check_bytes.ensures)
-    (simp (either-verdict, or_else-assoc)
-    (passes (shape_fault a.boxes.now a.rows.now a.arrows.now) (rows_fault a.boxes.now a.rows.now a.arrows.now) (sym (shape_is (goal.at.returns c).After-or_else-shape) ∙ c.in_default.is)
-    ∙ ap verdict_of (stages a.boxes.now a.rows.now a.arrows.now)))
+    rw table_fault-is
+    (passed-by _ _ _ _ c.check_ragged.ensures c.in_ok-check_ragged.was
+    (passed-by _ _ _ _ c.check_counts.ensures c.in_ok-check_counts.was
+    (passed-by _ _ _ _ c.check_bytes.ensures c.in_ok-check_bytes.was
+    (passed-by _ _ _ _ (four (goal.at.returns c).After-check_rows) c.in_ok-check_rows.was
+    (passed-by _ _ _ _ (five (goal.at.returns c).After-check_rows-2) c.in_ok-check_rows-2.was
+    (passed-by _ _ _ _ (six (goal.at.returns c).After-check_rows-3) c.in_ok-check_rows-3.was
+    (seven (goal.at.returns c).After-check_rows-4)))))))

@@ -1,8 +1,14 @@
 -- `checks::check_counts` meets its contract: three faults, the lower table first. Assumes nothing.
+use borrow.Author.Rules.{rules}
 use Rattle.tables.proofs.FaultLaws.{count_fault-is}
-use Rattle.tables.proofs.Verdicts.{either-three}
+use Rattle.tables.proofs.Verdicts.{refused-by, passed-by}
 use Rattle.checks.proofs.check_counts.Goals as goal
 
+pub returns-in_err-refuse_if : goal.returns-in_err-refuse_if
+returns-in_err-refuse_if c = rw count_fault-is (search (rules, refused-by, passed-by))
+
+pub returns-in_err-refuse_if-2 : goal.returns-in_err-refuse_if-2
+returns-in_err-refuse_if-2 c = rw count_fault-is (search (rules, refused-by, passed-by))
+
 pub returns : goal.returns
-returns c = rw (count_fault-is, c.or_else-2.ensures, c.refused_if-3.ensures, c.or_else.ensures, c.refused_if-2.ensures, c.refused_if.ensures)
-    (either-three _ _ _)
+returns c = rw count_fault-is (search (rules, refused-by, passed-by))

@@ -3,4 +3,4 @@ use Rattle.tables.proofs.FaultLaws.{mode_fault-is}
 use Rattle.checks.proofs.check_mode.Goals as goal
 
 pub returns : goal.returns
-returns c = rw (mode_fault-is, c.refused_if.ensures, c.wide.ensures)
+returns c = rw (mode_fault-is, c.refuse_if.ensures, c.from.ensures)

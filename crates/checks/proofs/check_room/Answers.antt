@@ -3,4 +3,4 @@ use Rattle.tables.proofs.FaultLaws.{room_fault-is}
 use Rattle.checks.proofs.check_room.Goals as goal
 
 pub returns : goal.returns
-returns c = rw room_fault-is c.refused_if.ensures
+returns c = rw room_fault-is c.refuse_if.ensures

@@ -1,38 +1,27 @@
 -- `checks::check_rows` meets its contract: no row before k fails the check. Assumes nothing.
-use mathlib.Core.Path.{◌≡◌, sym, ap, ◌∙◌}
-use native.Mathlib.Nat.{lt_of_lt_of_le}
+use mathlib.Core.Path.{sym, ap, ◌∙◌}
 use native.Mathlib.Omega.{arith}
-use borrow.Author.Rules.{rules}
+use Rattle.base.specs.Search.{given}
+use Rattle.base.proofs.SearchLaws.{first-is, first-nothing, given-true, given-false}
 use Rattle.tables.proofs.FaultLaws.{row_fault-is}
-use Rattle.checks.specs.Steps.{fails}
-use Rattle.tables.specs.Refusals.{bad_row, verdict_of}
-use Rattle.base.proofs.SearchLaws.{search-none, search-more, search-here}
+use Rattle.tables.specs.Refusals.{verdict_of}
 use Rattle.checks.proofs.check_rows.Goals as goal
 
-pub loop-k-init : goal.loop-k-init
-loop-k-init c =
-    let a = c.args in
-    (search rules, search-none (fails a.check a.boxes.now a.table.now) (bad_row a.check))
-
-pub row_fails-requires : goal.row_fails-requires
-row_fails-requires c = (search rules, lt_of_lt_of_le c.loop-k-test.true c.requires.1)
-
-pub returns-then-row_fails : goal.returns-then-row_fails
-returns-then-row_fails c =
-    let a = c.args in
-    c.refused.ensures
-    ∙ sym (ap verdict_of (row_fault-is a.check (fails a.check a.boxes.now a.table.now) a.count ∙ search-here (fails a.check a.boxes.now a.table.now) (bad_row a.check) a.count c.loop-k.k c.loop-k.invariant.1
-    (sym c.row_fails.ensures ∙ c.if-row_fails.true) (omega arith)))
-
-pub loop-k-preserved : goal.loop-k-preserved
-loop-k-preserved c =
-    let a = c.args in (
-      search rules,
-      search-more (fails a.check a.boxes.now a.table.now) (bad_row a.check) c.loop-k.k c.loop-k.invariant.1
-          (sym c.row_fails.ensures ∙ c.if-row_fails.false),
-    )
+pub returns-then-fails : goal.returns-then-fails
+returns-then-fails g c bad named fails names =
+    let k = c.loop-k.k in
+    let n = c.args.n in
+    rw (names k _ (omega arith) c.refusal.ensures)
+    (sym (ap verdict_of (row_fault-is named bad n
+    ∙ first-is (λ j. given (bad j) (named j)) n (named k) (
+      k,
+      omega arith,
+      given-true _ _ (sym (fails k _ (omega arith) c.if-fails.ensures)),
+      λ j l. given-false _ _ (sym (fails j _ (omega arith) (c.loop-k.invariant.1 j l))),
+    ))))
 
 pub returns : goal.returns
-returns c =
-    let e : c.loop-k.k ≡ c.args.count = omega arith in
-    sym (ap verdict_of (row_fault-is _ _ _ ∙ rw e at c.loop-k.invariant.1))
+returns g c bad named fails names =
+    let n = c.args.n in
+    sym (ap verdict_of (row_fault-is named bad n
+    ∙ first-nothing (λ j. given (bad j) (named j)) n (λ j l. given-false _ _ (sym (fails j _ l (c.loop-k.invariant.1 j (omega arith)))))))

@@ -1,8 +1,7 @@
-use Prim.Native.Nat.{◌≤◌}
-use Rattle.checks.specs.Steps.{fails}
-use Rattle.tables.specs.Refusals.{bad_row}
-use Rattle.base.proofs.SearchLaws.{Searched}
+use mathlib.Core.Bool.{false}
+use Prim.Native.Nat.{◌<◌, ◌≤◌, ℕ}
 use Rattle.checks.proofs.check_rows.Given as goal
 
+-- no row before k fails
 abbrev pub invariant-loop-k : goal.invariant-loop-k
-invariant-loop-k l = (l.k ≤ l.count) × Searched (fails l.check l.boxes l.table) (bad_row l.check) l.k
+invariant-loop-k g l = (l.k ≤ l.n) × ((j : ℕ) → j < l.k → g.F.Fn.post l.fails (j, tt) false)

@@ -2,68 +2,76 @@
 use mathlib.Core.List.{[]}
 use mathlib.Core.Path.{◌≡◌, sym, ◌∙◌}
 use borrow.Author.Rules.{rules}
+use Rattle.std.specs.Prelude.{Ok, Err}
+use Rattle.base.proofs.BufferLaws.{zeros-is}
 use Rattle.tables.specs.Rows.{picture}
 use Rattle.tables.specs.Faults.{table_fault}
 use Rattle.tables.specs.Refusals.{verdict_of}
 use Rattle.tables.specs.Steps.{SoundRows}
-use Rattle.tables.specs.declared.Verdict.TheVariants.{Passed}
 use Rattle.tables.proofs.TableLaws.{sound-rows}
-use Rattle.tables.proofs.Verdicts.{passed, either-verdict}
-use Rattle.headings.proofs.HeadingLaws.{Found, by-tables, by-rooms, rooms-suffice, by-none}
-use Rattle.headings.proofs.atomic_boxes.Goals.{After-or_else-rooms, In_default}
+use Rattle.tables.proofs.Verdicts.{passed}
+use Rattle.headings.proofs.HeadingLaws.{Found, by-tables, by-users, by-files, users-suffice, files-suffice, by-none}
+use Rattle.headings.proofs.atomic_boxes.Goals.{In_ok-check, After-atoms_of-n}
 use Rattle.headings.proofs.atomic_boxes.Goals as goal
 
 -- the tables passed
-module _ (told : In_default) where
-  tabled : verdict_of (table_fault (picture told.args.boxes.now told.args.rows.now [])) ≡ Passed
-  tabled = sym told.check-tables.ensures ∙ told.in_default.is
+module _ (told : In_ok-check) where
+  tabled : verdict_of (table_fault (picture told.args.boxes.now told.args.rows.now [])) ≡ Ok tt
+  tabled = sym told.check.ensures ∙ told.in_ok-check.was
 
   sound : SoundRows told.args.boxes.now told.args.rows.now
   sound = sound-rows _ _ [] (passed _ tabled)
 
--- the atomic boxes are found, and the rooms checked
-module _ (rooms : After-or_else-rooms) where
-  -- by what the calls ensure; `cc` puts in that the arrays held zeros
-  found :
-      let a = rooms.args in
-      Found a.boxes.now a.rows.now a.users.now a.files.now rooms.atoms_of-m.new.out
-      rooms.atoms_of-n.new.out rooms.atoms_of-m.result rooms.atoms_of-n.result rooms.or_else-rooms.result
-  found = record {
-    tabled = tabled (goal.at.After-or_else-rooms rooms).In_default;
-    users-in = (rooms.atoms_of-m.ensures.value, cc);
-    files-in = (rooms.atoms_of-n.ensures.value, cc);
-    roomed =
-        (rw (rooms.check_room.ensures, rooms.check_room-2.ensures) at rooms.or_else-rooms.ensures)
-        ∙ either-verdict _ _;
-  }
-
-pub returns-in-Refused : goal.returns-in-Refused
-returns-in-Refused c = record {
-  value = (by-tables _ _ _ _ c.check-tables.ensures c.in-Refused.is).0;
-  users_after = (by-tables _ _ _ _ c.check-tables.ensures c.in-Refused.is).1.0;
-  files_after = (by-tables _ _ _ _ c.check-tables.ensures c.in-Refused.is).1.1;
+-- the atomic boxes are found, by what the calls ensure; `cc` puts in that the arrays held zeros
+found : (c : After-atoms_of-n) →
+    let a = c.args in
+    Found a.boxes.now a.rows.now c.atoms_of-m.new.out c.atoms_of-n.new.out c.atoms_of-m.result c.atoms_of-n.result
+found c = record {
+  tabled = tabled (goal.at.After-atoms_of-n c).In_ok-check;
+  users-in = (c.atoms_of-m.ensures.value, rw (← zeros-is) cc);
+  files-in = (c.atoms_of-n.ensures.value, rw (← zeros-is) cc);
 }
 
 pub atoms_of-m-requires : goal.atoms_of-m-requires
-atoms_of-m-requires c = (sound (goal.at.atoms_of-m-requires c).In_default, search rules)
+atoms_of-m-requires c = (sound (goal.at.atoms_of-m-requires c).In_ok-check, search rules)
 
 pub atoms_of-n-requires : goal.atoms_of-n-requires
-atoms_of-n-requires c = (sound (goal.at.atoms_of-n-requires c).In_default, search rules)
+atoms_of-n-requires c = (sound (goal.at.atoms_of-n-requires c).In_ok-check, search rules)
 
-pub returns-in-Refused-rooms : goal.returns-in-Refused-rooms
-returns-in-Refused-rooms c =
-    let w = by-rooms (found (goal.at.returns-in-Refused-rooms c).After-or_else-rooms) c.in-Refused-rooms.is in
-    record { value = w.0; users_after = w.1.0; files_after = w.1.1 }
+pub returns-in_err-check : goal.returns-in_err-check
+returns-in_err-check c =
+    let same : c.from_residual.result ≡ Err c.in_err-check.field-0.0 = search rules in
+    let w = by-tables _ _ _ _ c.check.ensures c.in_err-check.was in
+    record { value = same ∙ w.0; users_after = w.1.0; files_after = w.1.1 }
+
+pub returns-in_err-check_room : goal.returns-in_err-check_room
+returns-in_err-check_room c =
+    let same : c.from_residual-in_err-check_room.result ≡ Err c.in_err-check_room.field-0.0 = search rules in
+    let w = by-users c.args.users.now c.args.files.now (found (goal.at.returns-in_err-check_room c).After-atoms_of-n)
+    (sym c.check_room.ensures ∙ c.in_err-check_room.was) in
+    record { value = same ∙ w.0; users_after = w.1.0; files_after = w.1.1 }
+
+pub returns-in_err-check_room-2 : goal.returns-in_err-check_room-2
+returns-in_err-check_room-2 c =
+    let same : c.from_residual-in_err-check_room-2.result ≡ Err c.in_err-check_room-2.field-0.0 = search rules in
+    let w = by-files c.args.users.now c.args.files.now (found (goal.at.returns-in_err-check_room-2 c).After-atoms_of-n)
+    (sym c.check_room.ensures ∙ c.in_ok-check_room.was) (sym c.check_room-2.ensures ∙ c.in_err-check_room-2.was) in
+    record { value = same ∙ w.0; users_after = w.1.0; files_after = w.1.1 }
 
 pub copy-requires : goal.copy-requires
 copy-requires c =
-    (rooms-suffice (found (goal.at.copy-requires c).After-or_else-rooms) c.in_default-rooms.is).0
+    users-suffice c.args.users.now c.args.files.now (found (goal.at.copy-requires c).After-atoms_of-n)
+    (sym c.check_room.ensures ∙ c.in_ok-check_room.was)
 
 pub copy-requires-2 : goal.copy-requires-2
 copy-requires-2 c =
-    (rooms-suffice (found (goal.at.copy-requires-2 c).After-or_else-rooms) c.in_default-rooms.is).1
+    files-suffice c.args.users.now c.args.files.now (found (goal.at.copy-requires-2 c).After-atoms_of-n)
+    (sym c.check_room.ensures ∙ c.in_ok-check_room.was)
+    (sym c.check_room-2.ensures ∙ c.in_ok-check_room-2.was)
 
 pub returns : goal.returns
 returns c =
-    let w = by-none (found (goal.at.returns c).After-or_else-rooms) c.in_default-rooms.is c.copy.ensures c.copy-2.ensures in
+    let w = by-none c.args.users.now c.args.files.now (found (goal.at.returns c).After-atoms_of-n)
+    (sym c.check_room.ensures ∙ c.in_ok-check_room.was)
+    (sym c.check_room-2.ensures ∙ c.in_ok-check_room-2.was) c.copy.ensures c.copy-2.ensures in
     record { value = w.0; users_after = w.1.0; files_after = w.1.1 }

@@ -1,9 +1,11 @@
--- `list_order::take_files` meets its contract: a set's numbers are those of its four words. Assumes nothing.
-use Rattle.list_order.proofs.TakeLaws.{takes-words}
+-- `list_order::take_files` meets its contract: what is taken, and what the users not looked at yet still lose, make up the whole. Assumes
+-- nothing.
+use mathlib.Core.Path.{◌∙◌}
+use Rattle.boxsets.proofs.TableLaws.{has_in}
+use Rattle.list_order.proofs.TakeLaws.{taking-next}
 use Rattle.list_order.proofs.take_files.Goals as goal
 
-pub returns : goal.returns
-returns c =
-    let a = c.args in
-    takes-words a.users a.files a.left.now c.take_word.new.left c.take_word-2.new.left c.take_word-3.new.left
-    c.take_word-4.new.left c.take_word.ensures c.take_word-2.ensures c.take_word-3.ensures c.take_word-4.ensures
+pub loop-u-preserved : goal.loop-u-preserved
+loop-u-preserved c =
+    taking-next c.args.files c.sub-kept.result c.in-Some.ensures.steps (λ f. c.sub-kept.ensures f ∙ rw (c.set_at.ensures, has_in))
+    c.put_set.ensures c.loop-u.invariant

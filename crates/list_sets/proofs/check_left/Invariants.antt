@@ -1,7 +1,5 @@
-use Prim.Native.Nat.{◌≤◌}
-use lib.ListN.{length}
 use Rattle.list_sets.proofs.LeftLaws.{NoneMissed}
 use Rattle.list_sets.proofs.check_left.Given as goal
 
-abbrev pub invariant-loop-i : goal.invariant-loop-i
-invariant-loop-i l = (l.i ≤ length l.users) × NoneMissed l.users l.left l.granted l.i
+abbrev pub invariant-loop-user : goal.invariant-loop-user
+invariant-loop-user l = NoneMissed l.users l.left l.granted l.user-index

@@ -1,44 +1,34 @@
 -- `lists::early_list` meets its contract: checks 1 to 7 refuse, or leave 8 and 9 their facts. Assumes nothing.
 use mathlib.Core.Path.{sym, ◌∙◌}
-use Rattle.tables.specs.Steps.{SoundRows}
+use borrow.Author.Rules.{rules}
+use Rattle.base.proofs.Options.{or_else-assoc}
 use Rattle.tables.proofs.TableLaws.{sound-rows}
-use Rattle.tables.proofs.Verdicts.{passed}
-use Rattle.tables.specs.Rows.{picture}
-use Rattle.list_meaning.proofs.CallLaws.{early-refused, early-passed}
-use Rattle.lists.proofs.early_list.Goals.{In_default}
+use Rattle.tables.proofs.Verdicts.{passed, refused-by, passed-by}
+use Rattle.scratch.proofs.PictureLaws.{mode-is}
+use Rattle.list_meaning.proofs.CallLaws.{early-is}
 use Rattle.lists.proofs.early_list.Goals as goal
 
-sound : (c : In_default) →
-    let a = c.args in
-    SoundRows a.boxes.now a.rows.now
-sound c =
-    let a = c.args in
-    sound-rows a.boxes.now a.rows.now a.arrows.now (passed _ (sym c.check-tables.ensures ∙ c.in_default.is))
+pub returns-in_err-check : goal.returns-in_err-check
+returns-in_err-check c = rw (early-is, mode-is, or_else-assoc, or_else-assoc) (search (rules, refused-by, passed-by))
 
-pub returns-in-Refused : goal.returns-in-Refused
-returns-in-Refused c =
-    let a = c.args in
-    early-refused (picture a.boxes.now a.rows.now a.arrows.now) a.mode a.scratch.now a.out.now a.work.now _
-    (sym c.check-tables.ensures ∙ c.in-Refused.is)
+pub returns-in_err-check_mode : goal.returns-in_err-check_mode
+returns-in_err-check_mode c = rw (early-is, mode-is, or_else-assoc, or_else-assoc) (search (rules, refused-by, passed-by))
 
 pub check_scratch-requires : goal.check_scratch-requires
-check_scratch-requires c = (sound (goal.at.check_scratch-requires c).In_default).few-boxes
+check_scratch-requires c =
+    let t = c.args.t in
+    (sound-rows t.boxes.now t.rows.now t.arrows.now (passed _ (sym c.check.ensures ∙ c.in_ok-check.was))).few-boxes
+
+pub returns-in_err-check_scratch : goal.returns-in_err-check_scratch
+returns-in_err-check_scratch c = rw (early-is, mode-is, or_else-assoc, or_else-assoc) (search (rules, refused-by, passed-by))
+
+pub returns-in_err-check_room : goal.returns-in_err-check_room
+returns-in_err-check_room c = rw (early-is, mode-is, or_else-assoc, or_else-assoc) (search (rules, refused-by, passed-by))
 
 pub pair_count-requires : goal.pair_count-requires
-pair_count-requires c = sound (goal.at.pair_count-requires c).In_default
+pair_count-requires c =
+    let t = c.args.t in
+    sound-rows t.boxes.now t.rows.now t.arrows.now (passed _ (sym c.check.ensures ∙ c.in_ok-check.was))
 
 pub returns : goal.returns
-returns c =
-    let a = c.args in
-    c.or_else-3.ensures
-    ∙ rw (
-      c.check_room-2.ensures,
-      c.pair_count.ensures,
-      c.or_else-2.ensures,
-      c.check_room.ensures,
-      c.mode_count.ensures,
-      c.or_else.ensures,
-      c.check_scratch.ensures,
-      c.check_mode.ensures,
-    ) (early-passed (picture a.boxes.now a.rows.now a.arrows.now) a.mode a.scratch.now a.out.now a.work.now
-    (sym c.check-tables.ensures ∙ c.in_default.is))
+returns c = rw (early-is, mode-is, or_else-assoc, or_else-assoc) (search (rules, refused-by, passed-by))

@@ -1,20 +1,19 @@
 -- `mode_sets::take_mode` meets its contract: of the arrows before k the sets are made, and those that repeat no lower one are
 -- written and counted. Assumes nothing.
-use mathlib.Core.Path.{◌≡◌, sym, ap, ◌∙◌}
+use mathlib.Core.Path.{◌≡◌, refl}
 use Prim.Native.Nat.{◌≤◌, ◌<◌}
 use native.Mathlib.Omega.{arith}
 use borrow.Author.Rules.{rules}
 use lib.ListN.{length}
-use Rattle.base.proofs.BufferLaws.{zeros-length, selected-none, selected-length, selected-most}
+use Rattle.base.proofs.BufferLaws.{selected-none, selected-length, selected-most}
 use Rattle.tables.specs.Rows.{arrow_count}
 use Rattle.mode_sets.specs.Mode.{is_own, own_arrows}
 use Rattle.mode_sets.proofs.ModeLaws.{sets-none, turn-other, turn-repeat, turn-own}
-use Rattle.mode_sets.specs.Steps.{heads_words}
-use Rattle.mode_sets.proofs.take_mode.Goals.{After-narrow, then-a-mode+then-take_arrow, else-a-mode, else-a-mode-via-then-a-mode+else-take_arrow, else-a-mode-via-else-a-mode}
+use Rattle.mode_sets.proofs.take_mode.Goals.{Then-take_arrow, then-a-mode+then-take_arrow, else-a-mode, else-a-mode-via-then-a-mode+else-take_arrow, else-a-mode-via-else-a-mode}
 use Rattle.mode_sets.proofs.take_mode.Goals as goal
 
 -- there is a place for the number
-room : (c : After-narrow) →
+room : (c : Then-take_arrow) →
     (c.loop-k.count < length c.loop-k.own) × (c.loop-k.count ≤ 512)
 room c =
     let a = c.args in
@@ -29,16 +28,6 @@ loop-k-init c =
     let a = c.args in (
       search rules,
       (selected-none (is_own a.arrows.now a.mode) a.own.now, rw c.requires.2 (sets-none a.arrows.now a.mode)),
-    )
-
-pub take_arrow-requires : goal.take_arrow-requires
-take_arrow-requires c =
-    let small = c.requires.0 in
-    let k = c.loop-k.k in (
-      c.loop-k.invariant.1.1.len,
-      rw c.at-a.ensures (small.tail-small k (omega arith)),
-      rw c.at-a.ensures (small.head_small k (omega arith)),
-      rw c.at-a.ensures (small.sign_small k (omega arith)),
     )
 
 pub offset_bounds-own-count : goal.offset_bounds-own-count
@@ -62,7 +51,7 @@ loop-k-preserved c =
       | then-a-mode+then-take_arrow w ↦ rw (w.own-is, w.heads-is, w.count-is) (
         search rules,
         turn-own a.arrows.now a.mode a.own.now l.k l.count l.own l.heads arrow is l.invariant.1 w.take_arrow.new.heads
-            w.take_arrow.result w.if-a-mode.true tail sign w.take_arrow.ensures w.narrow.result w.if-take_arrow.true w.narrow.ensures (omega arith),
+            w.take_arrow.result w.if-a-mode.true tail sign w.take_arrow.ensures l.k w.if-take_arrow.true refl (omega arith),
       )
       | else-a-mode w ↦ rw (w.own-is, w.heads-is, w.count-is)
           (elim w.else-a-mode.branch [
@@ -75,16 +64,6 @@ loop-k-preserved c =
                 (search rules, turn-other a.arrows.now a.mode a.own.now l.k l.count l.own l.heads arrow is l.invariant.1 v.if-a-mode.false)
           ])
     ]
-
-pub shape_of-own : goal.shape_of-own
-shape_of-own c =
-    let a = c.args in
-    let l = c.loop-k in
-    selected-length (is_own a.arrows.now a.mode) a.own.now l.k l.count l.own (omega arith) l.invariant.1.0
-
-pub shape_of-heads : goal.shape_of-heads
-shape_of-heads c =
-    c.loop-k.invariant.1.1.len ∙ sym (ap length c.requires.2 ∙ zeros-length heads_words)
 
 pub returns : goal.returns
 unfolding own_arrows

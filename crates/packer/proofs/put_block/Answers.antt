@@ -1,50 +1,39 @@
 -- Head, records, filler and check, one behind the other (`block_made`). Assumes nothing.
-use Rattle.packer.proofs.KindLaws.{used-most, begins-still}
+use Rattle.std.proofs.Common.{ℕ, refl, arith, rules}
+use Rattle.packer.specs.Kinds.{kind_of}
+use Rattle.packer.proofs.KindLaws.{Sized, sized, used-most, run_of}
 use Rattle.packer.proofs.Writing.{block_made}
-use native.Mathlib.Omega.{arith}
-use borrow.Author.Rules.{rules}
+use Rattle.packer.proofs.put_block.Given.{Over}
 use Rattle.packer.proofs.put_block.Goals as goal
 
-pub narrow-requires-2 : goal.narrow-requires-2
-narrow-requires-2 c =
-    let asked = c.requires in omega (arith, asked.1.rows_left, asked.0.few)
+-- the laws of the kind's type
+known : (g : Over) (first : ℕ) (table : _)
+    → Sized (kind_of g.R.Record.KIND g.R.Record.SIZE g.R.Record.CAPACITY (g.R.Written.rows table) first (g.R.Written.bytes table))
+known g first table = sized g.met.R.Record.kind_is g.met.R.Record.size_is g.met.R.Record.capacity_is (g.met.R.Written.bytes_length table)
 
-pub put_records-w-requires : goal.put_records-w-requires
-put_records-w-requires c =
-    let asked = c.requires in
-    (asked.0, begins-still asked.1 (search rules))
+pub put_records-next-requires : goal.put_records-next-requires
+put_records-next-requires g c =
+    run_of (known g c.args.first c.args.table.now) c.requires refl (search rules)
 
 pub overflow_mul-used : goal.overflow_mul-used
-overflow_mul-used c =
-    omega (arith, used-most c.requires)
+overflow_mul-used g c =
+    rw c.SIZE.ensures (omega (arith, used-most (known g c.args.first c.args.table.now) c.requires))
 
 pub overflow_sub-used : goal.overflow_sub-used
-overflow_sub-used c =
-    used-most c.requires
+overflow_sub-used g c =
+    rw c.SIZE.ensures (used-most (known g c.args.first c.args.table.now) c.requires)
 
-pub overflow_add-at-2 : goal.overflow_add-at-2
-overflow_add-at-2 c =
-    let asked = c.requires in
-    omega (arith, used-most asked, c.block_byte-at.ensures, asked.1.the_block)
+pub overflow_add-at-3 : goal.overflow_add-at-3
+overflow_add-at-3 g c =
+    rw c.SIZE.ensures (omega (arith, used-most (known g c.args.first c.args.table.now) c.requires, c.requires.the_block))
 
 pub put_zeros-requires : goal.put_zeros-requires
-put_zeros-requires c =
-    let asked = c.requires in
-    let u = used-most asked in
-    let e = c.block_byte-at.ensures in
-    let m = asked.1.room in
-    search rules
+put_zeros-requires g c =
+    let u = used-most (known g c.args.first c.args.table.now) c.requires in
+    let m = c.requires.room in
+    rw c.SIZE.ensures (search rules)
 
-pub put_check-requires : goal.put_check-requires
-put_check-requires c =
-    let e = c.block_byte-at.ensures in
-    let m = c.requires.1.room in
-    search rules
-
-pub returns : goal.returns
-returns c =
-    let asked = c.requires in record {
-      value = c.put_records-w.ensures.value;
-      file_after = block_made _ asked c.block_byte-at.ensures c.narrow.ensures c.narrow-2.ensures
-          c.put_head.ensures c.put_records-w.ensures.file_after c.put_zeros.ensures c.put_check.ensures;
-    }
+pub returns-clause-file_after : goal.returns-clause-file_after
+returns-clause-file_after g c =
+    block_made _ (known g c.args.first c.args.table.now) c.requires refl (rw c.KIND.ensures at c.put_head.ensures) c.put_records-next.ensures.file_after
+    (rw c.SIZE.ensures at c.put_zeros.ensures) c.put_check.ensures

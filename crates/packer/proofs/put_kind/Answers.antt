@@ -1,37 +1,27 @@
--- After k turns k blocks of the kind stand in the file (`Wrote`). Assumes nothing.
-use mathlib.Core.Path.{◌≡◌}
-use Rattle.packing.proofs.PackedLaws.{kind-bytes}
-use Rattle.packer.proofs.Writing.{wrote_none, row-begun, next-begins, wrote-more}
-use native.Mathlib.Omega.{arith}
-use borrow.Author.Rules.{rules}
+-- After so many turns as many blocks of the kind stand in the file (`Wrote`). Assumes nothing.
+use Rattle.std.proofs.Common.{ℕ, ◌∙◌, rules}
+use Rattle.packer.proofs.Taking.{least-of}
+use Rattle.packer.specs.Kinds.{kind_of}
+use Rattle.packer.proofs.KindLaws.{Sized, sized}
+use Rattle.packer.proofs.Writing.{wrote_none, next-begins, wrote-more}
+use Rattle.packer.proofs.put_kind.Given.{Over}
 use Rattle.packer.proofs.put_kind.Goals as goal
 
-pub loop-k-init : goal.loop-k-init
-loop-k-init c =
-    wrote_none _ _ _ _ _ c.start-walk.ensures
+-- the laws of the kind's type
+known : (g : Over) (first : ℕ) (table : _)
+    → Sized (kind_of g.R.Record.KIND g.R.Record.SIZE g.R.Record.CAPACITY (g.R.Written.rows table) first (g.R.Written.bytes table))
+known g first table = sized g.met.R.Record.kind_is g.met.R.Record.size_is g.met.R.Record.capacity_is (g.met.R.Written.bytes_length table)
 
-pub overflow_sub-kind : goal.overflow_sub-kind
-overflow_sub-kind c =
-    let asked = c.requires in
-    row-begun asked c.loop-k.invariant (search rules)
+pub loop-init : goal.loop-init
+loop-init g c = wrote_none _ _ _ _ c.start-walk.ensures
 
 pub put_block-walk-requires : goal.put_block-walk-requires
-put_block-walk-requires c =
-    let asked = c.requires in
-    (asked.0, next-begins asked c.loop-k.invariant (search rules) c.least_of-count.ensures)
+put_block-walk-requires g c =
+    next-begins (known g c.args.first c.args.table.now) c.requires c.loop.invariant (search rules)
+    (rw (c.rows.ensures, c.CAPACITY.ensures) at (c.min-count.ensures ∙ least-of _ _))
 
-pub loop-k-preserved : goal.loop-k-preserved
-loop-k-preserved c =
-    let asked = c.requires in
-    wrote-more asked c.loop-k.invariant (search rules) c.least_of-count.ensures
+pub loop-preserved : goal.loop-preserved
+loop-preserved g c =
+    wrote-more (known g c.args.first c.args.table.now) c.requires c.loop.invariant (search rules)
+    (rw (c.rows.ensures, c.CAPACITY.ensures) at (c.min-count.ensures ∙ least-of _ _))
     c.put_block-walk.ensures.value c.put_block-walk.ensures.file_after
-
-pub shape_of-file : goal.shape_of-file
-shape_of-file c =
-    c.loop-k.invariant.same_length
-
-pub returns : goal.returns
-returns c =
-    let l = c.loop-k in
-    let e : l.k ≡ c.args.blocks = let m = l.invariant.most in omega arith in
-    rw (kind-bytes, ← c.requires.1, ← e) l.invariant.so_far

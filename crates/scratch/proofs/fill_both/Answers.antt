@@ -35,10 +35,10 @@ mark_rows-requires c =
     }
 
 pub close-requires : goal.close-requires
-close-requires c = ((marked (goal.at.close-requires c).After-mark_rows).len, few (goal.at.close-requires c).After-mark_rows)
+close-requires c = few (goal.at.close-requires c).After-mark_rows
 
-pub check_loops-verdict-requires : goal.check_loops-verdict-requires
-check_loops-verdict-requires c = ((closed (goal.at.check_loops-verdict-requires c).After-close).len, few (goal.at.check_loops-verdict-requires c).After-mark_rows)
+pub check_loops-loops-requires : goal.check_loops-loops-requires
+check_loops-loops-requires c = few (goal.at.check_loops-loops-requires c).After-mark_rows
 
 pub fill_scratch-requires : goal.fill_scratch-requires
 fill_scratch-requires c =
@@ -48,13 +48,13 @@ fill_scratch-requires c =
     }
 
 pub add_selves-requires : goal.add_selves-requires
-add_selves-requires c = ((closed (goal.at.add_selves-requires c).After-close).len, few (goal.at.add_selves-requires c).After-mark_rows)
+add_selves-requires c = few (goal.at.add_selves-requires c).After-mark_rows
 
 pub returns : goal.returns
 returns c =
     let a = c.args in
     let n = length a.boxes.now in record {
-      value = c.check_loops-verdict.ensures
+      value = c.check_loops-loops.ensures
           ∙ ap verdict_of (own-loops a.boxes.now a.rows.now c.close.new.closure (few (goal.at.returns c).After-mark_rows) (closed (goal.at.returns c).After-close));
       scratch_after = c.fill_scratch.ensures;
       closure = closure-is n a.rows.now c.close.new.closure c.add_selves.new.closure (few (goal.at.returns c).After-mark_rows) (closed (goal.at.returns c).After-close) c.add_selves.ensures;

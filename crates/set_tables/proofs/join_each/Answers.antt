@@ -1,9 +1,8 @@
--- `set_tables::table::join_each` meets its contract: a set's numbers are those of its four words. Assumes nothing.
-use Rattle.boxsets.proofs.JoinLaws.{joins-words}
+-- `set_tables::join_each` meets its contract: what is joined, and what the numbers to come still ask for, make up the whole. Assumes nothing.
+use Rattle.boxsets.proofs.JoinLaws.{left-next}
 use Rattle.set_tables.proofs.join_each.Goals as goal
 
-pub returns : goal.returns
-returns c =
-    let a = c.args in
-    joins-words a.from a.numbers a.x a.t.now c.join_word.new.t c.join_word-2.new.t c.join_word-3.new.t
-    c.join_word-4.new.t c.join_word.ensures c.join_word-2.ensures c.join_word-3.ensures c.join_word-4.ensures
+pub loop-k-preserved : goal.loop-k-preserved
+loop-k-preserved c =
+    left-next c.args.x c.bitor-y.result c.set_at.result c.in-Some.ensures.steps c.set_at.ensures c.bitor-y.ensures c.put_set.ensures
+    c.loop-k.invariant

@@ -1,10 +1,12 @@
--- `set_tables::table::union_of` meets its contract: a set's numbers are those of its four words. Assumes nothing.
-use Rattle.boxsets.proofs.UnionLaws.{union-words}
+-- `set_tables::union_of` meets its contract: what is found, and what the numbers to come still give, make up the whole. Assumes nothing.
+use Rattle.boxsets.proofs.UnionLaws.{found-next, found-end}
 use Rattle.set_tables.proofs.union_of.Goals as goal
 
-pub returns : goal.returns
-returns c =
+pub loop-k-preserved : goal.loop-k-preserved
+loop-k-preserved c =
     let a = c.args in
-    union-words a.t.now a.from a.numbers c.nothing.result c.union_word-one.result c.union_word-two.result
-    c.union_word-three.result c.union_word.result c.nothing.ensures c.union_word-one.ensures c.union_word-two.ensures
-    c.union_word-three.ensures c.union_word.ensures
+    found-next a.t.now a.from c.loop-k.found c.set_at.result c.bitor-found.result c.in-Some.ensures.steps c.set_at.ensures
+    c.bitor-found.ensures c.loop-k.invariant
+
+pub returns : goal.returns
+returns c = found-end c.args.t.now c.args.from c.loop-k.found (λ a. (c.in-None.ensures.steps a).0) c.loop-k.invariant

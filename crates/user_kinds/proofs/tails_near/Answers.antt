@@ -7,5 +7,5 @@ returns c =
     let a = c.args in
     λ pic m d sets there.
     near-made pic m a.closure.now a.heads.now d sets a.user there c.set_at-3.result c.set_at.result c.set_at-2.result
-    c.joined-tails.result c.shared.result c.set_at-3.ensures c.set_at.ensures c.set_at-2.ensures c.joined-tails.ensures
-    c.shared.ensures
+    c.bitor-tails.result c.bitand.result c.set_at-3.ensures c.set_at.ensures c.set_at-2.ensures c.bitor-tails.ensures
+    c.bitand.ensures

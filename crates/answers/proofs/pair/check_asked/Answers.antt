@@ -4,4 +4,4 @@ use Rattle.answers.proofs.pair.check_asked.Goals as goal
 
 pub returns : goal.returns
 unfolding asked_fault
-returns c = rw (c.refused_if.ensures, c.is_pair.ensures)
+returns c = rw (c.refuse_if.ensures, c.is_pair.ensures)

@@ -3,4 +3,4 @@ use Rattle.blocks.proofs.Order.{length-tests}
 use Rattle.block_files.proofs.into_tables.check_length.Goals as goal
 
 pub returns : goal.returns
-returns c = rw length-tests c.refused_if.ensures
+returns c = rw length-tests c.refuse_if.ensures

@@ -5,7 +5,7 @@ use Rattle.blocks.proofs.Head.count_of.Goals as goal
 
 pub returns-then-self-kind : goal.returns-then-self-kind
 unfolding count_of
-returns-then-self-kind c = rw (eq-eqb _ _ c.if-self-kind.true, c.wide.ensures)
+returns-then-self-kind c = rw (eq-eqb _ _ c.if-self-kind.true, c.from.ensures)
 
 pub returns : goal.returns
 unfolding count_of

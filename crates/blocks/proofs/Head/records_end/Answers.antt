@@ -1,16 +1,13 @@
--- At most 6 bytes for each of at most 65,535 records. Assumes nothing.
-use Prim.Native.Nat.{◌*◌, ◌<◌, ◌^◌}
-use native.Mathlib.Omega.{arith}
-use borrow.Author.Rules.{rules}
-use Rattle.blocks.specs.Blocks.{record_size}
-use Rattle.blocks.specs.Steps.{records_end}
-use Rattle.blocks.proofs.Heads.{by-kind-most}
+-- At most 6 bytes for each of at most 65,535 records; a block of no kind has none. Assumes nothing.
+use Rattle.std.proofs.Common.{◌*◌, ◌<◌, ◌^◌, arith, rules, zero-mul}
+use Rattle.blocks.specs.Steps.{number_of, records_end}
+use Rattle.blocks.proofs.Heads.{size-most, no-size}
 use Rattle.blocks.proofs.Product.{below}
-use Rattle.blocks.proofs.Head.records_end.Goals.{After-wide}
+use Rattle.blocks.proofs.Head.records_end.Goals.{After-from}
 use Rattle.blocks.proofs.Head.records_end.Goals as goal
 
-product : (c : After-wide) → c.by_kind-size.result * c.wide.result < 2 ^ 32
-product c = below 16 (rw c.by_kind-size.ensures (omega (arith, by-kind-most c.args.self.kind 1 4 6 6 (omega arith) (omega arith) (omega arith)))) (search rules)
+product : (c : After-from) → c.size.result * c.from.result < 2 ^ 32
+product c = below 16 (rw c.size.ensures (omega (arith, size-most (number_of c.in-Ok.kind)))) (search rules)
 
 pub overflow_mul-result : goal.overflow_mul-result
 overflow_mul-result c = let p = product c in omega arith
@@ -18,6 +15,10 @@ overflow_mul-result c = let p = product c in omega arith
 pub overflow_add-result : goal.overflow_add-result
 overflow_add-result c = let p = product c in omega arith
 
-pub returns : goal.returns
-unfolding records_end record_size
-returns c = rw (c.wide.ensures, c.by_kind-size.ensures)
+pub returns-in-Ok : goal.returns-in-Ok
+unfolding records_end
+returns-in-Ok c = rw (c.size.ensures, c.in-Ok.ensures, c.from.ensures)
+
+pub returns-in-Err : goal.returns-in-Err
+unfolding records_end
+returns-in-Err c = rw (no-size _ c.in-Err.ensures, zero-mul)

@@ -8,11 +8,6 @@ use Rattle.containment.proofs.closing.close.Goals as goal
 pub loop-k-init : goal.loop-k-init
 loop-k-init c = (search rules, rounds-none _)
 
-pub round-requires : goal.round-requires
-round-requires c =
-    let len = c.loop-k.invariant.1.len in
-    (omega arith, omega arith)
-
 pub loop-k-preserved : goal.loop-k-preserved
 loop-k-preserved c =
     let first = c.args.closure.now in

@@ -1,21 +1,18 @@
 -- `containment::closing::mark_rows` meets its contract: the sets say which boxes the rows from k on join. Assumes nothing.
-use mathlib.Core.Path.{◌≡◌, sym, ap, ◌∙◌}
+use mathlib.Core.Path.{◌≡◌}
 use native.Mathlib.Omega.{arith}
 use borrow.Author.Rules.{rules}
-use lib.ListN.{length}
-use Rattle.base.proofs.BufferLaws.{zeros-length}
 use Rattle.tables.proofs.RowLaws.{rows_end}
-use Rattle.containment.specs.Steps.{closure_words}
 use Rattle.containment.proofs.RowBoxes.{RowBoxes, row-boxes}
 use Rattle.containment.proofs.ClosingLaws.{marked-none, mark-row}
-use Rattle.containment.proofs.closing.mark_rows.Goals.{After-wide-i}
+use Rattle.containment.proofs.closing.mark_rows.Goals.{After-from-i}
 use Rattle.containment.proofs.closing.mark_rows.Goals as goal
 
 -- the row's boxes
-module _ (c : After-wide-i) where
-  row : RowBoxes 256 c.args.rows.now c.loop-k.k c.wide-o.result c.wide-i.result
+module _ (c : After-from-i) where
+  row : RowBoxes 256 c.args.rows.now c.loop-k.k c.from-o.result c.from-i.result
   row =
-      row-boxes c.requires.rows_below (omega arith) (omega arith) c.at-row.ensures c.wide-o.ensures c.wide-i.ensures
+      row-boxes c.requires.rows_below (omega arith) (omega arith) c.at-row.ensures c.from-o.ensures c.from-i.ensures
 
 pub loop-k-init : goal.loop-k-init
 loop-k-init c =
@@ -24,27 +21,23 @@ loop-k-init c =
 pub add-requires : goal.add-requires
 add-requires c =
     let len = c.loop-k.invariant.1.len in
-    let o = (row (goal.at.add-requires c).After-wide-i).o-below in
-    let i = (row (goal.at.add-requires c).After-wide-i).i-below in
+    let o = (row (goal.at.add-requires c).After-from-i).o-below in
+    let i = (row (goal.at.add-requires c).After-from-i).i-below in
     (omega arith, omega arith)
 
 pub add-requires-in-loop-k : goal.add-requires-in-loop-k
 add-requires-in-loop-k c =
     let len = c.loop-k.invariant.1.len in
     let len₁ = c.add.ensures.len in
-    let o = (row (goal.at.add-requires-in-loop-k c).After-wide-i).o-below in
-    let i = (row (goal.at.add-requires-in-loop-k c).After-wide-i).i-below in
+    let o = (row (goal.at.add-requires-in-loop-k c).After-from-i).o-below in
+    let i = (row (goal.at.add-requires-in-loop-k c).After-from-i).i-below in
     (omega arith, omega arith)
 
 pub loop-k-preserved : goal.loop-k-preserved
 loop-k-preserved c = (
   search rules,
-  mark-row (row (goal.at.loop-k-preserved c).After-wide-i) c.add.ensures c.add-in-loop-k.ensures c.loop-k.invariant.1,
+  mark-row (row (goal.at.loop-k-preserved c).After-from-i) c.add.ensures c.add-in-loop-k.ensures c.loop-k.invariant.1,
 )
-
-pub shape_of-closure : goal.shape_of-closure
-shape_of-closure c =
-    c.loop-k.invariant.1.len ∙ sym (ap length c.requires.closure_value ∙ zeros-length closure_words)
 
 pub returns : goal.returns
 returns c =

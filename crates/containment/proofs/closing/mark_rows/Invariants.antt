@@ -7,6 +7,3 @@ use Rattle.containment.proofs.closing.mark_rows.Given as goal
 
 abbrev pub invariant-loop-k : goal.invariant-loop-k
 invariant-loop-k l = (l.k ≤ row_count l.rows) × Both 256 (direct (drop (2 * l.k) l.rows)) l.closure
-
-abbrev pub decreases-loop-k : goal.decreases-loop-k
-decreases-loop-k l = l.k

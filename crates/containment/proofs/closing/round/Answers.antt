@@ -18,17 +18,17 @@ module _ (c : After-set_at-up) where
 pub returns-then-is_empty : goal.returns-then-is_empty
 returns-then-is_empty c =
     let a = c.args in
-    round-down a.k a.closure.now c.requires.1
+    round-down a.k a.closure.now c.requires
     (rw (down_is (goal.at.returns-then-is_empty c).After-set_at-up) at (empty-none c.set_at-down.result (sym c.is_empty.ensures ∙ c.if-is_empty.true)))
 
 pub returns-then-is_empty-2 : goal.returns-then-is_empty-2
 returns-then-is_empty-2 c =
     let a = c.args in
-    round_up a.k a.closure.now c.requires.1
+    round_up a.k a.closure.now c.requires
     (rw (up_is (goal.at.returns-then-is_empty-2 c).After-set_at-up) at (empty-none c.set_at-up.result (sym c.is_empty-2.ensures ∙ c.if-is_empty-2.true)))
 
 pub returns : goal.returns
 returns c =
     let a = c.args in
-    round-joined a.k a.closure.now c.requires.1 c.set_at-down.result c.set_at-up.result (down_is (goal.at.returns c).After-set_at-up) (up_is (goal.at.returns c).After-set_at-up)
+    round-joined a.k a.closure.now c.requires c.set_at-down.result c.set_at-up.result (down_is (goal.at.returns c).After-set_at-up) (up_is (goal.at.returns c).After-set_at-up)
     c.join_each.new.t c.join_each-2.new.t c.join_each.ensures c.join_each-2.ensures

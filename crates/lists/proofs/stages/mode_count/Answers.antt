@@ -10,7 +10,7 @@ use Rattle.tables.specs.declared.Arrow.{Arrow}
 use Rattle.meaning.specs.Meaning.{has_mode}
 use Rattle.meaning.proofs.ModeLaws.{has_mode-is, mode-select}
 use Rattle.lists.proofs.CountLaws.{select-none, select-one, select-skip}
-use Rattle.lists.proofs.stages.mode_count.Goals.{then-a-mode, else-a-mode}
+use Rattle.lists.proofs.stages.mode_count.Goals.{then-at-mode, else-at-mode}
 use Rattle.lists.proofs.stages.mode_count.Goals as goal
 
 pub loop-k-init : goal.loop-k-init
@@ -24,17 +24,17 @@ overflow_add-count c =
 pub loop-k-preserved : goal.loop-k-preserved
 loop-k-preserved c =
     let a = c.args in
-    let mode-is = ap (λ (x : Arrow). x.mode) c.at-a.ensures in
-    elim c.if-a-mode.branch [
-      | then-a-mode w ↦ (
+    let mode-is = ap (λ (x : Arrow). x.mode) c.at.ensures in
+    elim c.if-at-mode.branch [
+      | then-at-mode w ↦ (
         search rules,
         w.count-is ∙ select-one (has_mode a.arrows.now a.mode) c.loop-k.k c.loop-k.count
-            (has_mode-is _ _ _ ∙ eq-eqb _ a.mode (sym mode-is ∙ w.if-a-mode.true)) c.loop-k.invariant.1,
+            (has_mode-is _ _ _ ∙ eq-eqb _ a.mode (sym mode-is ∙ w.if-at-mode.true)) c.loop-k.invariant.1,
       )
-      | else-a-mode w ↦ (
+      | else-at-mode w ↦ (
         search rules,
         w.count-is ∙ select-skip (has_mode a.arrows.now a.mode) c.loop-k.k c.loop-k.count
-            (has_mode-is _ _ _ ∙ ne_eqb _ a.mode (λ e. w.if-a-mode.false (mode-is ∙ e))) c.loop-k.invariant.1,
+            (has_mode-is _ _ _ ∙ ne_eqb _ a.mode (λ e. w.if-at-mode.false (mode-is ∙ e))) c.loop-k.invariant.1,
       )
     ]
 

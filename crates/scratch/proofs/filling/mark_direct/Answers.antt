@@ -10,17 +10,17 @@ use Rattle.scratch.specs.Steps.{over}
 use Rattle.containment.proofs.ContainsLaws.{direct-none}
 use Rattle.containment.proofs.RowBoxes.{RowBoxes, row-boxes}
 use Rattle.scratch.proofs.MarkLaws.{mark-turn}
-use Rattle.scratch.proofs.filling.mark_direct.Goals.{After-wide-i}
+use Rattle.scratch.proofs.filling.mark_direct.Goals.{After-from-i}
 use Rattle.scratch.proofs.filling.mark_direct.Goals as goal
 
 -- the row's boxes are below n, and so their byte is there
-module _ (c : After-wide-i) where
-  row : RowBoxes c.args.n c.args.rows.now c.loop-k.k c.wide-o.result c.wide-i.result
+module _ (c : After-from-i) where
+  row : RowBoxes c.args.n c.args.rows.now c.loop-k.k c.from-o.result c.from-i.result
   row =
-      row-boxes c.requires.0 (omega arith) (omega arith) c.at-row.ensures c.wide-o.ensures c.wide-i.ensures
+      row-boxes c.requires.0 (omega arith) (omega arith) c.at-row.ensures c.from-o.ensures c.from-i.ensures
 
-  byte : c.wide-o.result * c.args.n + c.wide-i.result < length c.loop-k.scratch
-  byte = omega (arith, in_table c.args.n c.args.n c.wide-o.result c.wide-i.result row.o-below row.i-below)
+  byte : c.from-o.result * c.args.n + c.from-i.result < length c.loop-k.scratch
+  byte = omega (arith, in_table c.args.n c.args.n c.from-o.result c.from-i.result row.o-below row.i-below)
 
 pub loop-k-init : goal.loop-k-init
 unfolding over

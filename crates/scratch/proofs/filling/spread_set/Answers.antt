@@ -1,44 +1,36 @@
--- `scratch::filling::spread_set` meets its contract: a set's numbers are those of its four words. Assumes nothing.
-use mathlib.Core.Path.{◌≡◌, refl, ◌∙◌}
-use borrow.Author.Rules.{rules}
+-- `scratch::filling::spread_set` meets its contract: what is set, and what the rest of the set still asks for, make up the whole.
+-- Assumes nothing.
+use Prim.Native.Nat.{◌+◌, ◌<◌}
+use native.Mathlib.Omega.{arith}
 use lib.ListN.{length}
-use Rattle.scratch.proofs.OnesLaws.{room₀, room₁, room₂, room₃, ones-words}
-use Rattle.scratch.proofs.filling.spread_set.Goals.{After-spread_word, After-spread_word-2, After-spread_word-3}
+use Rattle.boxsets.specs.Sets.{is_in}
+use Rattle.boxsets.specs.Members.{to_come}
+use Rattle.boxsets.proofs.TakesLaws.{places-none, places-next, places-end}
+use Rattle.scratch.proofs.filling.spread_set.Goals.{In-Some}
 use Rattle.scratch.proofs.filling.spread_set.Goals as goal
 
--- after one word, two and three
-module _ (c : After-spread_word) where
-  len₁ : length c.spread_word.new.scratch ≡ length c.args.scratch.now
-  len₁ = c.spread_word.ensures.len
+pub loop-b-init : goal.loop-b-init
+loop-b-init c = let a = c.args in
+    places-none a.at 1 (is_in a.x) (to_come c.into_iter-b-iterator.result) a.scratch.now c.into_iter-b-iterator.ensures.into_iter_gives
 
-module _ (c : After-spread_word-2) where
-  len₂ : length c.spread_word-2.new.scratch ≡ length c.args.scratch.now
-  len₂ = c.spread_word-2.ensures.len ∙ len₁ (goal.at.After-spread_word-2 c).After-spread_word
+-- the byte of the number is there
+there : (c : In-Some) → c.args.at + c.in-Some.b < length c.loop-b.scratch
+there c =
+    let room = c.requires c.in-Some.b (c.loop-b.invariant.within c.in-Some.b c.in-Some.ensures.steps.there) in
+    omega (arith, room, c.loop-b.invariant.len)
 
-module _ (c : After-spread_word-3) where
-  len₃ : length c.spread_word-3.new.scratch ≡ length c.args.scratch.now
-  len₃ = c.spread_word-3.ensures.len ∙ len₂ (goal.at.After-spread_word-3 c).After-spread_word-2
+pub loop-b-preserved : goal.loop-b-preserved
+loop-b-preserved c = places-next c.args.at 1 c.in-Some.ensures.steps (there c) c.loop-b.invariant
 
-pub spread_word-requires : goal.spread_word-requires
-spread_word-requires c =
-    let a = c.args in
-    (room₀ a.x a.at a.scratch.now a.scratch.now c.requires refl, search rules)
+pub overflow_add-scratch : goal.overflow_add-scratch
+overflow_add-scratch c = omega (arith, there c)
 
-pub spread_word-requires-2 : goal.spread_word-requires-2
-spread_word-requires-2 c =
-    let a = c.args in
-    (room₁ a.x a.at a.scratch.now c.spread_word.new.scratch c.requires (len₁ (goal.at.spread_word-requires-2 c).After-spread_word), search rules)
-
-pub spread_word-requires-3 : goal.spread_word-requires-3
-spread_word-requires-3 c =
-    (room₂ c.args.x c.args.at c.args.scratch.now c.spread_word-2.new.scratch c.requires (len₂ (goal.at.spread_word-requires-3 c).After-spread_word-2), search rules)
-
-pub spread_word-requires-4 : goal.spread_word-requires-4
-spread_word-requires-4 c =
-    (room₃ c.args.x c.args.at c.args.scratch.now c.spread_word-3.new.scratch c.requires (len₃ (goal.at.spread_word-requires-4 c).After-spread_word-3), search rules)
+pub bounds-scratch-at : goal.bounds-scratch-at
+bounds-scratch-at c = there c
 
 pub returns : goal.returns
-returns c =
-    let a = c.args in
-    ones-words a.x a.at a.scratch.now c.spread_word.new.scratch c.spread_word-2.new.scratch c.spread_word-3.new.scratch
-    c.spread_word-4.new.scratch c.spread_word.ensures c.spread_word-2.ensures c.spread_word-3.ensures c.spread_word-4.ensures
+returns c = let inv = c.loop-b.invariant in record {
+  len = inv.len;
+  from = places-end c.args.at 1 (λ j. (c.in-None.ensures.steps j).0) inv;
+  before = inv.before;
+}

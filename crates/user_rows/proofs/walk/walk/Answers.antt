@@ -1,86 +1,58 @@
 -- `user_rows::walk::walk` meets its contract: at place i the walk stands as `Walking` says. Assumes nothing.
 use mathlib.Core.Path.{◌≡◌, sym, ap, ◌∙◌}
-use Prim.Native.Nat.{◌<◌}
-use native.Mathlib.Omega.{arith}
+use mathlib.Core.Bool.{◌&&◌, ◌||◌}
+use Prim.Native.Nat.{ℕ}
+use borrow.Author.Rules.{rules}
+use lib.Dec.{eqb}
 use lib.ListN.{length}
-use Rattle.tables.specs.Rows.{arrow_count, arrow_at}
+use Rattle.meaning.specs.Meaning.{positive}
+use Rattle.boxsets.specs.Sets.{is_in}
 use Rattle.boxsets.proofs.WalkLaws.{empty-none}
-use Rattle.user_rows.proofs.RowWalk.{walking_start, walking-turn, walking-empty}
-use Rattle.user_rows.proofs.walk.walk.Goals.{After-wide}
+use Rattle.certificates.specs.Steps.{sign_number}
+use Rattle.certificates.specs.declared.Sign.TheVariants.{Positive}
+use Rattle.certificates.proofs.SignLaws.{sign-same}
+use Rattle.user_rows.proofs.StepLaws.{granted-more, granted-same}
+use Rattle.user_rows.proofs.RowWalk.{walking-pass, walking-turn, walking-empty}
+use Rattle.user_rows.proofs.walk.walk.Goals.{then-eq, else-eq}
 use Rattle.user_rows.proofs.walk.walk.Goals as goal
 
--- the number that was is that of an arrow
-number-there : (c : After-wide) → c.wide.result < arrow_count c.args.arrows.now
-number-there c =
-    omega (arith, c.wide.ensures, c.requires.0.numbers c.loop-i.i c.loop-i-test.true)
-
-pub next_near-i-requires : goal.next_near-i-requires
-next_near-i-requires c =
-    let z = c.requires.0 in
-    (z.closure-len, z.small, z.numbers, c.requires.1, omega arith)
-
-pub loop-i-init : goal.loop-i-init
-loop-i-init c =
+-- an arrow that is not around the user
+pub loop-k-preserved-then-not-has : goal.loop-k-preserved-then-not-has
+loop-k-preserved-then-not-has g c =
     let a = c.args in
-    walking_start a.closure.now a.heads.now a.arrows.now a.own.now a.x a.files a.numbers.now
-    c.nothing-granted.result c.nothing-granted.ensures c.next_near-i.result c.next_near-i.ensures
+    let l = c.loop-k in
+    walking-pass a.closure.now a.heads.now a.arrows.now a.own.now a.x a.files
+    (g.N.Numbers.shows a.numbers.now) (g.N.Numbers.shows l.numbers) l.granted l.unclear l.k-index l.invariant
+    c.at-a.result (rw c.from.ensures at c.at-a.ensures)
+    (sym (rw (c.if-not-has.true, c.from-in-loop-k.ensures) at c.has.ensures))
 
-pub at-a-requires : goal.at-a-requires
-at-a-requires c = number-there c
-
-pub shown-hit-requires : goal.shown-hit-requires
-shown-hit-requires c =
-    let p = c.requires in (
-      p.0.closure-len,
-      p.0.heads-len,
-      rw c.at-a.ensures (p.0.small.tail-small c.wide.result (number-there (goal.at.shown-hit-requires c).After-wide)),
-      rw c.at-a.ensures (p.0.small.head_small c.wide.result (number-there (goal.at.shown-hit-requires c).After-wide)),
-      p.2,
-      p.3,
-    )
-
-pub next_near-i-requires-in-loop-i : goal.next_near-i-requires-in-loop-i
-next_near-i-requires-in-loop-i c =
-    let p = c.requires in
-    let l = c.loop-i-test.true in
-    (p.0.closure-len, p.0.small, p.0.numbers, p.1, omega arith)
-
-pub loop-i-smaller : goal.loop-i-smaller
-loop-i-smaller c =
-    let l = c.loop-i-test.true in
-    omega (arith, c.next_near-i-in-loop-i.ensures.from_on)
-
-pub loop-i-preserved : goal.loop-i-preserved
-loop-i-preserved c =
-    let l = c.loop-i in
+pub loop-k-preserved : goal.loop-k-preserved
+loop-k-preserved g c =
     let a = c.args in
-    walking-turn a.closure.now a.heads.now a.arrows.now a.own.now a.x a.files a.numbers.now
-    l.numbers l.granted l.left l.i l.invariant c.loop-i-test.true
-    c.at-a.result (c.at-a.ensures ∙ ap (arrow_at a.arrows.now) c.wide.ensures)
-    c.shown-hit.result c.minus-left.result c.with_granted-granted.result c.note_number.new.numbers
-    c.shown-hit.ensures c.minus-left.ensures c.with_granted-granted.ensures c.note_number.ensures.numbers_len_unchanged c.note_number.ensures.numbered c.next_near-i-in-loop-i.result c.next_near-i-in-loop-i.ensures
+    let l = c.loop-k in
+    let won : (f : ℕ) → is_in c.if-eq.granted f
+    ≡ (is_in l.granted f || (is_in c.shown-hit.result f && eqb c.at-a.result.sign positive)) =
+    elim c.if-eq.branch [
+      | then-eq w ↦ rw w.granted-is
+          (let e : c.of.result ≡ Positive = search rules in
+          granted-more l.granted c.shown-hit.result c.at-a.result.sign w.bitor-granted.result (sym c.of.ensures ∙ ap sign_number e)
+          w.bitor-granted.ensures)
+      | else-eq w ↦ rw w.granted-is
+          (granted-same l.granted c.shown-hit.result c.at-a.result.sign
+          (λ i. let e : c.of.result ≡ Positive = sign-same c.of.result Positive (c.of.ensures ∙ i) in search rules))
+    ] in
+    walking-turn a.closure.now a.heads.now a.arrows.now a.own.now a.x a.files
+    (g.N.Numbers.shows a.numbers.now) (g.N.Numbers.shows l.numbers) l.granted l.unclear l.k-index l.invariant
+    c.loop-k-test.true c.at-a.result (rw c.from.ensures at c.at-a.ensures)
+    (sym (rw (c.if-not-has.false, c.from-in-loop-k.ensures) at c.has.ensures))
+    c.shown-hit.result c.sub-unclear.result c.if-eq.granted (g.N.Numbers.shows c.put.new.self)
+    c.shown-hit.ensures c.sub-unclear.ensures won c.put.ensures
 
-pub shape_of-numbers-else-not-is_empty : goal.shape_of-numbers-else-not-is_empty
-shape_of-numbers-else-not-is_empty c = c.loop-i.invariant.len
-
-pub returns-else-not-is_empty : goal.returns-else-not-is_empty
-returns-else-not-is_empty c =
-    let l = c.loop-i in
-    let a = c.args in record {
-      numbers_len_unchanged = l.invariant.len;
-      by_index = walking-empty a.closure.now a.heads.now a.arrows.now a.own.now a.x a.files a.numbers.now
-          l.numbers l.granted l.left l.i l.invariant
-          (empty-none l.left (sym c.is_empty.ensures ∙ c.if-not-is_empty.false)) (length a.own.now);
-    }
-
-pub shape_of-numbers-after-loop-i : goal.shape_of-numbers-after-loop-i
-shape_of-numbers-after-loop-i c = c.loop-i.invariant.len
-
-pub returns-after-loop-i : goal.returns-after-loop-i
-returns-after-loop-i c =
-    let l = c.loop-i in
-    let e : l.i ≡ length c.args.own.now = omega (arith, l.invariant.at_most, c.loop-i-test.false) in
-    record {
-      numbers_len_unchanged = l.invariant.len;
-      by_index = rw e at l.invariant.walked;
-    }
+-- no file is left
+pub returns-then-is_empty : goal.returns-then-is_empty
+returns-then-is_empty g c =
+    let a = c.args in
+    let l = c.loop-k in
+    (walking-empty a.closure.now a.heads.now a.arrows.now a.own.now a.x a.files
+    (g.N.Numbers.shows a.numbers.now) (g.N.Numbers.shows l.numbers) l.granted l.unclear l.k-index l.invariant
+    (empty-none l.unclear (sym c.is_empty.ensures ∙ c.if-is_empty.true)) (length a.own.now)).walked

@@ -1,5 +1,5 @@
 -- The fresh check holds the start value. Assumes nothing.
-use mathlib.Core.Path.{refl}
+use Rattle.std.proofs.Common.{refl}
 use Rattle.blocks.specs.Fnv.{fnv_fold, fnv1a}
 use Rattle.blocks.proofs.fnv.Check.fresh.Goals as goal
 

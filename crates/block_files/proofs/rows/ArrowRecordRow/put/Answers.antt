@@ -1,0 +1,7 @@
+-- The numbers of the record are those of its row. Assumes nothing.
+use Rattle.std.proofs.Common.{rules}
+use Rattle.blocks.proofs.RowLaws.{arrow-numbers}
+use Rattle.block_files.proofs.rows.ArrowRecordRow.put.Goals as goal
+
+pub returns : goal.returns
+returns c = rw (arrow-numbers, ← c.at-record.ensures) (search rules)

@@ -1,8 +1,0 @@
--- `boxsets::is_empty` meets its contract: all four words are 0. Assumes nothing.
-use native.Mathlib.Omega.{arith}
-use Rattle.boxsets.proofs.LowLaws.{empty-test, words-fit}
-use Rattle.boxsets.proofs.is_empty.Goals as goal
-
-pub returns : goal.returns
-returns c = let x = c.args.x in
-    empty-test x (words-fit x (omega arith) (omega arith) (omega arith) (omega arith))

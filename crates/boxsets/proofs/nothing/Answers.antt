@@ -1,7 +1,0 @@
--- `boxsets::nothing` meets its contract: no word has a bit. Assumes nothing.
-use mathlib.Core.Path.{refl}
-use Rattle.boxsets.proofs.MemberLaws.{empty-in}
-use Rattle.boxsets.proofs.nothing.Goals as goal
-
-pub returns : goal.returns
-returns c = empty-in _ refl refl refl refl

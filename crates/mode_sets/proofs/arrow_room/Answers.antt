@@ -1,6 +1,0 @@
--- `mode_sets::arrow_room` meets its contract: 512 zeros. Assumes nothing.
-use Rattle.base.proofs.BufferLaws.{zeros-is}
-use Rattle.mode_sets.proofs.arrow_room.Goals as goal
-
-pub returns : goal.returns
-returns c = zeros-is 512
