@@ -1,5 +1,4 @@
--- A walk over a set: `while !is_empty(rest) { let k = lowest(rest); rest = dropped(rest); .. }`, by what `is_empty`, `lowest` and
--- `dropped` promise; its measure is 256 - low. Assumes nothing.
+-- The lowest number of a set, where there is one, and a walk that takes it out at each turn: its measure is 256 - low. Assumes nothing.
 use mathlib.Core.Path.{◌≡◌, refl, sym, subst, ◌∙◌}
 use mathlib.Core.Bool.{Bool, true, false, not, ◌&&◌, ◌||◌}
 use Prim.Native.Nat.{ℕ, ◌-◌, ◌<◌, ◌≤◌}

@@ -1,6 +1,6 @@
 -- A test at users and files. Assumes nothing.
-use mathlib.Core.Path.{◌≡◌}
-use mathlib.Core.Bool.{Bool, true, false, ◌&&◌}
+use mathlib.Core.Path.{◌≡◌, refl, sym}
+use mathlib.Core.Bool.{Bool, true, false, not, ◌&&◌}
 use Prim.Native.Nat.{ℕ, ◌<◌}
 use lib.Dec.{T, eqb}
 use Rattle.base.specs.Steps.{any_below}
@@ -24,20 +24,21 @@ row-found files test t =
 row_is : (files : Set) (test : ℕ → Bool) (f : ℕ) → T (is_in files f) → T (test f) → T (row_in files test)
 row_is files test f i t = any-is (λ f. is_in files f && test f) 256 f (in-below files f i) (T_and (is_in files f) (test f) i t)
 
--- x has these files: it is empty if there is none, and else not
-module _ (files : Set) (test : ℕ → Bool) (x : Set) (are : (f : ℕ) → is_in x f ≡ (is_in files f && test f)) where
-  pub row-none : eqb (low x) 256 ≡ true → row_in files test ≡ false
-  row-none e =
-      not-false (row_in files test)
-      (λ t.
-      let r = row-found files test t in
-      false-not (is_in x r.0) (empty-none x e r.0) (rw (are r.0) (T_and (is_in files r.0) (test r.0) r.1 r.2)))
-
-  pub row-some : eqb (low x) 256 ≡ false → row_in files test ≡ true
-  row-some e =
-      let l = some-low x e in
-      let b = and_T (is_in files (low x)) (test (low x)) (rw (are (low x)) at l.1) in
-      T_true (row_in files test) (row_is files test (low x) b.0 b.1)
+-- the set of these files is empty exactly if there is none
+pub row-empty : (files : Set) (test : ℕ → Bool) (x : Set) → ((f : ℕ) → is_in x f ≡ (is_in files f && test f))
+    → not (eqb (low x) 256) ≡ row_in files test
+row-empty files test x are = go (eqb (low x) 256) refl
+  where
+    go : (b : Bool) → eqb (low x) 256 ≡ b → not b ≡ row_in files test
+    go true e =
+        sym (not-false (row_in files test)
+        (λ t.
+        let r = row-found files test t in
+        false-not (is_in x r.0) (empty-none x e r.0) (rw (are r.0) (T_and (is_in files r.0) (test r.0) r.1 r.2))))
+    go false e =
+        let l = some-low x e in
+        let b = and_T (is_in files (low x)) (test (low x)) (rw (are (low x)) at l.1) in
+        sym (T_true (row_in files test) (row_is files test (low x) b.0 b.1))
 
 module _ (files : Set) (test : ℕ → ℕ → Bool) where
   pub some-found : (users : ℕ → Bool) → T (some_in users files test) → (u f : ℕ) × T (users u) × T (is_in files f) × T (test u f)

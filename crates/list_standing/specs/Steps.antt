@@ -1,6 +1,6 @@
 -- How an arrow stands to a list, by sets alone: `left` has for each user the files that the list does not reach yet, `granted` those
 -- that are granted. Assumes nothing.
-use Rattle.std.specs.Prelude.{Bool, true, false, not, cond, ◌&&◌, List, ℕ, eqb}
+use Rattle.std.specs.Prelude.{◌≡◌, Bool, true, false, not, cond, ◌&&◌, List, ℕ, ◌<◌, eqb}
 use Rattle.base.specs.Steps.{any_below}
 use Rattle.tables.specs.declared.Arrow.{Arrow}
 use Rattle.meaning.specs.Meaning.{positive}
@@ -8,6 +8,10 @@ use Rattle.boxsets.specs.Sets.{is_in, set_at, has}
 use Rattle.boxsets.specs.declared.Set.{Set}
 use Rattle.list_standing.specs.declared.Standing.{Standing}
 use Rattle.list_standing.specs.declared.Standing.TheVariants.{Blocked, Spent, Free}
+
+-- what a test says of each number that a box can have, by what its calls may answer
+abbrev pub Tells : (says : ℕ → Bool → Type 0) (p : ℕ → Bool) → Type 0
+Tells says p = (k : ℕ) (b : Bool) → k < 256 → says k b → b ≡ p k
 
 -- one of the users has one of the files at which the test holds
 unfoldable pub some_in : (users : ℕ → Bool) (files : Set) (test : ℕ → ℕ → Bool) → Bool

@@ -9,6 +9,7 @@ mod around;
 mod numbers;
 mod walk;
 
+pub use around::Around;
 use boxsets::Set;
 pub use walk::{answer_row, entry_of, sort_row};
 
