@@ -11,7 +11,7 @@ ghost use Rattle.block_files.specs.Steps.{BlockFits, Fitting};
 
 use super::rows::put_rows;
 use block_reader::head_of;
-use blocks::{ArrowRecord, BLOCK_SIZE, Block, BoxRecord, ContainmentRecord, Counts};
+use blocks::{ArrowRecord, BLOCK_SIZE, Block, BoxRecord, ContainmentRecord, Counts, Head};
 use checks::{check_counts, check_room};
 use tables::{Refusal, refuse_if};
 
@@ -36,8 +36,9 @@ fn check_blocks(file: &[u8]) -> Result<Counts, Refusal>
     let mut counts = Counts::zero();
     let mut before = 0;
     for place in 0..file.len() / BLOCK_SIZE {
-        Block::at(file, place).check(before, place)?;
+        let block = Block::at(file, place);
         let head = head_of(file, place);
+        block.check_by(head, before, place)?;
         counts = counts.with(head);
         before = head.kind;
     }
@@ -58,21 +59,23 @@ fn check_tables(counts: Counts, boxes: usize, rows: usize, arrows: usize) -> Res
 // Kept: three tables and no struct of them, since `read` is lent three and promises of each what it holds at the end.
 fn put_block(
     block: Block<'_>,
+    head: Head,
     at: Counts,
     boxes: &mut [u8],
     rows: &mut [u16],
     arrows: &mut [u16],
 ) -> Counts
-    requires { BlockFits at (head_of block.bytes.now) (length boxes.old) (length rows.old) (length arrows.old) }
+    requires head_is { head ≡ head_of block.bytes.now }
+    requires block_fits { BlockFits at (head_of block.bytes.now) (length boxes.old) (length rows.old) (length arrows.old) }
     ensures value { result ≡ counts_with at (head_of block.entry.bytes.now) }
     ensures boxes_after { boxes.new ≡ sets boxes.old at.boxes (said 1 block.entry.bytes.now) }
     ensures rows_after { rows.new ≡ sets rows.old (2 * at.containments) (said 2 block.entry.bytes.now) }
     ensures arrows_after { arrows.new ≡ sets arrows.old (4 * at.arrows) (said 3 block.entry.bytes.now) }
 {
-    put_rows::<BoxRecord>(block, at.boxes, boxes);
-    put_rows::<ContainmentRecord>(block, at.containments, rows);
-    put_rows::<ArrowRecord>(block, at.arrows, arrows);
-    at.with(block.head())
+    put_rows::<BoxRecord>(block, head, at.boxes, boxes);
+    put_rows::<ContainmentRecord>(block, head, at.containments, rows);
+    put_rows::<ArrowRecord>(block, head, at.arrows, arrows);
+    at.with(head)
 }
 
 // Writes the tables of a file whose blocks are good, from row 0 on.
@@ -84,7 +87,8 @@ fn write_blocks(file: &[u8], boxes: &mut [u8], rows: &mut [u16], arrows: &mut [u
 {
     let mut at = Counts::zero();
     for place in 0..file.len() / BLOCK_SIZE {
-        at = put_block(Block::at(file, place), at, boxes, rows, arrows);
+        let head = head_of(file, place);
+        at = put_block(Block::at(file, place), head, at, boxes, rows, arrows);
     }
 }
 

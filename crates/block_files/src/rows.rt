@@ -6,7 +6,7 @@ ghost use Rattle.blocks.specs.Blocks.{head_of, row_of, said};
 ghost use Rattle.blocks.specs.Steps.{count_of};
 ghost use Rattle.blocks.proofs.RowLaws.{row-lengths};
 
-use blocks::{ArrowRecord, Block, BoxRecord, ContainmentRecord, Record};
+use blocks::{ArrowRecord, Block, BoxRecord, ContainmentRecord, Head, Record};
 
 // A record that says a row of a table: so many numbers.
 pub(crate) trait Row: Record {
@@ -89,13 +89,14 @@ impl Row for ArrowRecord {
     }
 }
 
-// Writes what a block says of the table of a kind, from row `at` on.
-pub(crate) fn put_rows<R: Row>(block: Block<'_>, at: usize, table: &mut [R::Cell])
-    requires { let count = count_of R.KIND (head_of block.bytes.now) in
+// Writes what a block says of the table of a kind, by its head, from row `at` on.
+pub(crate) fn put_rows<R: Row>(block: Block<'_>, head: Head, at: usize, table: &mut [R::Cell])
+    requires head_is { head ≡ head_of block.bytes.now }
+    requires rows_fit { let count = count_of R.KIND (head_of block.bytes.now) in
         (count ≤ R.CAPACITY) × (R.WIDTH * (at + count) ≤ length table.old) }
     ensures { R.numbers table.new ≡ sets (R.numbers table.old) (R.WIDTH * at) (said R.KIND block.entry.bytes.now) }
 {
-    for j in 0..block.head().count_of(R::KIND) {
+    for j in 0..head.count_of(R::KIND) {
         R::put(block, j, R::WIDTH * (at + j), table);
     }
 }

@@ -2,7 +2,7 @@
 ghost use Rattle.std.specs.Prelude.{◌≡◌, take};
 ghost use Rattle.tables.specs.Refusals.{verdict_of};
 ghost use Rattle.blocks.specs.Fnv.{fnv1a};
-ghost use Rattle.blocks.specs.Blocks.{wrong_filler, block_fault};
+ghost use Rattle.blocks.specs.Blocks.{head_of, wrong_filler, block_fault};
 ghost use Rattle.blocks.specs.Steps.{number32, all_zero};
 
 use super::{Block, Check, Head};
@@ -41,15 +41,22 @@ impl Block<'_> {
         end < Check::COVERED && !all_zero(&bytes[end..Check::COVERED])
     }
 
-    // Refusals 15, 16 and 17 of the block at a place, by the kind of the block before, 0 where there is none.
+    // Refusals 15, 16 and 17 of the block at a place, by its head and the kind of the block before, 0 where there is none.
     // Kept: no Option for that kind, since the definitions `kind_before` and `block_fault` have 0.
-    pub fn check(self, before: u8, place: usize) -> Result<(), Refusal>
+    pub fn check_by(self, head: Head, before: u8, place: usize) -> Result<(), Refusal>
+        requires { head ≡ head_of self.bytes.now }
         ensures { result ≡ verdict_of (block_fault before place self.entry.bytes.now) }
     {
-        let head = self.head();
         let wrong_check = self.computed_check() != self.stored_check();
         refuse_if(wrong_check, Refusal::BadCheck(place))?;
         refuse_if(head.wrong(before, place), Refusal::BadHead(place))?;
         refuse_if(self.wrong_filler(head), Refusal::BadFiller(place))
+    }
+
+    // The same for a caller that holds no head.
+    pub fn check(self, before: u8, place: usize) -> Result<(), Refusal>
+        ensures { result ≡ verdict_of (block_fault before place self.entry.bytes.now) }
+    {
+        self.check_by(self.head(), before, place)
     }
 }

@@ -1,8 +1,14 @@
-// How buffers and refusals are written to the output. Where a write fails, the rest of its text is passed over, and the
-// next is tried.
+// How buffers and refusals are written to the output. A write that fails is passed over, and the next is tried.
+// Kept: a `write!` for each piece, since one of several pieces ends at the first that fails.
 use super::buffers::Place;
 use std::io::Write;
 use tables::{Numbers, Refusal};
+
+// A number, after a space.
+pub fn print<W: Write>(out: &mut W, n: usize) {
+    let _ = write!(out, " ");
+    let _ = write!(out, "{n}");
+}
 
 // A buffer: what its places hold, and how many in a row hold it if they are more than one.
 pub fn show<W: Write, T: Place>(out: &mut W, s: &[T]) {
@@ -16,11 +22,11 @@ fn show_run<W: Write, T: Place>(out: &mut W, run: &[T]) {
     let Some(first) = run.first() else {
         return;
     };
-    let value: usize = (*first).into();
-    let _ = write!(out, " {value}");
+    print(out, (*first).into());
     let count = run.len();
     if 1 < count {
-        let _ = write!(out, "*{count}");
+        let _ = write!(out, "*");
+        let _ = write!(out, "{count}");
     }
 }
 
@@ -32,7 +38,11 @@ fn show_refusal<W: Write>(out: &mut W, r: Refusal) {
         second,
         third,
     } = Numbers::from(r);
-    let _ = write!(out, "refused {number} {first} {second} {third}");
+    let _ = write!(out, "refused");
+    print(out, number.into());
+    print(out, first);
+    print(out, second);
+    print(out, third);
 }
 
 // What a call answers, written by `show_answer`, or its refusal.

@@ -2,16 +2,15 @@
 #![tactic(auto)]
 
 use blocks::{Check, Counts, Head};
-use case_text::{buffer, lent, number, show, show_reply, table};
+use case_text::{buffer, lent, number, print, show, show_reply, table};
 use std::io::{Read, Write};
 use tables::Tables;
 
 fn show_counts<W: Write>(out: &mut W, counts: Counts) {
-    let _ = write!(
-        out,
-        "counts {} {} {}",
-        counts.boxes, counts.containments, counts.arrows
-    );
+    let _ = write!(out, "counts");
+    print(out, counts.boxes);
+    print(out, counts.containments);
+    print(out, counts.arrows);
 }
 
 // Reads a file into as many places of each table as the input says.
@@ -39,14 +38,17 @@ fn show_file<R: Read, W: Write>(
 
 // The head of the block that a reader sees, if any.
 fn show_seen<W: Write>(out: &mut W, seen: Option<Head>) {
-    let _ = match seen {
-        Some(head) => write!(
-            out,
-            "block {} {} {} {} {} {}",
-            head.kind, head.byte1, head.number, head.count, head.byte6, head.byte7
-        ),
-        None => write!(out, "none"),
+    let Some(head) = seen else {
+        let _ = write!(out, "none");
+        return;
     };
+    let _ = write!(out, "block");
+    print(out, head.kind.into());
+    print(out, head.byte1.into());
+    print(out, head.number.into());
+    print(out, head.count.into());
+    print(out, head.byte6.into());
+    print(out, head.byte7.into());
 }
 
 fn show_moves<W: Write>(out: &mut W, file: &[u8]) {
@@ -78,7 +80,8 @@ fn show_blocks<R: Read, W: Write>(input: &mut R, out: &mut W, t: Tables, file: &
 }
 
 fn show_packed<W: Write>(out: &mut W, n: usize) {
-    let _ = write!(out, "packed {n}");
+    let _ = write!(out, "packed");
+    print(out, n);
 }
 
 pub fn pack_case<R: Read, W: Write>(input: &mut R, out: &mut W) {
@@ -101,5 +104,6 @@ pub fn check_case<R: Read, W: Write>(input: &mut R, out: &mut W) {
     let mut bytes = buffer::<u8>();
     let n = table(input, &mut bytes);
     let check = Check::fresh().part(&bytes[..n]);
-    let _ = writeln!(out, "{:08x}", check.state);
+    let _ = write!(out, "{:08x}", check.state);
+    let _ = writeln!(out);
 }

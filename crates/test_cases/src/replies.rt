@@ -1,4 +1,5 @@
 // How the answers of the calls are written to the output.
+use case_text::print;
 use meaning::Entry;
 use std::io::Write;
 
@@ -7,19 +8,34 @@ pub fn show_passed<W: Write>(out: &mut W, done: ()) {
 }
 
 pub fn show_entry<W: Write>(out: &mut W, e: Entry) {
-    let _ = match e {
-        Entry::Granted(k) => write!(out, "granted {k}"),
-        Entry::Denied(k) => write!(out, "denied {k}"),
-        Entry::Default => write!(out, "default"),
-        Entry::Unclear(p, n) => write!(out, "unclear {p} {n}"),
-    };
+    match e {
+        Entry::Granted(k) => {
+            let _ = write!(out, "granted");
+            print(out, k.into());
+        }
+        Entry::Denied(k) => {
+            let _ = write!(out, "denied");
+            print(out, k.into());
+        }
+        Entry::Default => {
+            let _ = write!(out, "default");
+        }
+        Entry::Unclear(p, n) => {
+            let _ = write!(out, "unclear");
+            print(out, p.into());
+            print(out, n.into());
+        }
+    }
 }
 
 pub fn show_written<W: Write>(out: &mut W, n: usize) {
-    let _ = write!(out, "written {n}");
+    let _ = write!(out, "written");
+    print(out, n);
 }
 
 pub fn show_headings<W: Write>(out: &mut W, written: (usize, usize)) {
     let (users, files) = written;
-    let _ = write!(out, "written {users} {files}");
+    let _ = write!(out, "written");
+    print(out, users);
+    print(out, files);
 }

@@ -13,12 +13,12 @@ loop-place-init c = record {
   kind = sym (none_before _).1;
 }
 
-pub returns-in_err-check : goal.returns-in_err-check
-returns-in_err-check c = let l = c.loop-place in
+pub returns-in_err-check_by : goal.returns-in_err-check_by
+returns-in_err-check_by c = let l = c.loop-place in
     let file = c.args.file.now in
-    let found = refused _ _ (sym c.check.ensures ∙ c.in_err-check.was) in
-    let e : c.from_residual.result ≡ Err c.in_err-check.field-0.0 = search rules in
-    rw (e, blocks-found (block_at file) l.place (block_count file) (omega arith) l.invariant.good (rw (c.at.ensures, l.invariant.kind) at found))
+    let found = refused _ _ (sym c.check_by.ensures ∙ c.in_err-check_by.was) in
+    let e : c.from_residual.result ≡ Err c.in_err-check_by.field-0.0 = search rules in
+    rw (e, blocks-found (block_at file) l.place (block_count file) (omega arith) l.invariant.good (rw (c.at-block.ensures, l.invariant.kind) at found))
 
 pub with-counts-requires : goal.with-counts-requires
 with-counts-requires c = let l = c.loop-place in
@@ -29,8 +29,8 @@ with-counts-requires c = let l = c.loop-place in
 pub loop-place-preserved : goal.loop-place-preserved
 loop-place-preserved c = let l = c.loop-place in
     let file = c.args.file.now in
-    let good = passed _ (sym c.check.ensures ∙ c.in_ok-check.was) in record {
-      good = blocks_more (block_at file) l.place l.invariant.good (rw (c.at.ensures, l.invariant.kind) at good);
+    let good = passed _ (sym c.check_by.ensures ∙ c.in_ok-check_by.was) in record {
+      good = blocks_more (block_at file) l.place l.invariant.good (rw (c.at-block.ensures, l.invariant.kind) at good);
       counted = rw (c.with-counts.ensures, l.invariant.counted, c.head_of-head.ensures) (sym (counts-more (block_at file) l.place));
       kind = rw (c.head_of-head.ensures, add-one, kind-after);
     }

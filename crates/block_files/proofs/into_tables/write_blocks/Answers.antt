@@ -14,8 +14,8 @@ loop-place-init c = record {
   arrows = rw (tables-none _).2 (sym (written_none _));
 }
 
-pub put_block-at-requires : goal.put_block-at-requires
-put_block-at-requires c = let l = c.loop-place in
+pub put_block-at-requires-clause-block_fits : goal.put_block-at-requires-clause-block_fits
+put_block-at-requires-clause-block_fits c = let l = c.loop-place in
     rw (c.at.ensures, l.invariant.counted, l.auto.boxes, l.auto.rows, l.auto.arrows)
     (block-fits c.args.file.now l.place _ _ _ c.requires (omega arith))
 

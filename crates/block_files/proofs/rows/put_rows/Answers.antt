@@ -22,5 +22,5 @@ pub returns : goal.returns
 returns g c =
     let l = c.loop-j in
     let e : l.j ≡ count_of g.R.Record.KIND (head_of c.args.block.bytes.now) =
-    rw (← c.head.ensures, ← c.KIND.ensures, ← c.count_of-j-end.ensures) (omega arith) in
+    rw (← c.requires.head_is, ← c.KIND.ensures, ← c.count_of-j-end.ensures) (omega arith) in
     rw (said-is, ← e) l.invariant
