@@ -1,7 +1,6 @@
 -- The lines of the listing (document 01, "The program's listing"). Assumes nothing.
 use Rattle.std.specs.Prelude.{List, [], ◌∷◌, ℕ, Ok, Err}
-use Rattle.tables.specs.declared.Refusal.{Refusal}
-use Rattle.tables.specs.Refusals.{numbers_of}
+use Rattle.tables.specs.declared.Numbers.{Numbers}
 use Rattle.meaning.specs.declared.Entry.{Entry}
 use Rattle.meaning.specs.declared.Entry.TheVariants.{Granted, Denied, Default, Unclear}
 use Rattle.lines.specs.Text.{text, decimal, line}
@@ -16,8 +15,8 @@ answer_fields Default = text "neg" ∷ text "-" ∷ []
 answer_fields (Unclear p n) = text "ambig" ∷ decimal p ∷ decimal n ∷ []
 
 -- the three numbers of a refusal
-unfoldable pub three_fields : (r : Refusal) → List (List ℕ)
-three_fields r = decimal (numbers_of r).first ∷ decimal (numbers_of r).second ∷ decimal (numbers_of r).third ∷ []
+unfoldable pub three_fields : (r : Numbers) → List (List ℕ)
+three_fields r = decimal r.first ∷ decimal r.second ∷ decimal r.third ∷ []
 
 unfoldable pub line_text : (l : Line) → List ℕ
 -- the first line: the three row counts read
@@ -29,4 +28,4 @@ line_text (Pair m u f e) = line (decimal m ∷ decimal u ∷ decimal f ∷ answe
 line_text (Last (Ok done)) = line (text "accepted" ∷ [])
 line_text (Last (Err r)) = line (text "ambiguous" ∷ three_fields r)
 -- the only line of a refused file or picture: "refused", the number, its three numbers
-line_text (Stopped r) = line (text "refused" ∷ decimal (numbers_of r).number ∷ three_fields r)
+line_text (Stopped r) = line (text "refused" ∷ decimal r.number ∷ three_fields r)

@@ -9,7 +9,7 @@ ghost use Rattle.lines.specs.Steps.{Put, Moved};
 
 use meaning::Entry;
 pub use pen::Pen;
-use tables::{Numbers, Refusal};
+use tables::Numbers;
 
 // A line of the listing.
 #[derive(Clone, Copy)]
@@ -19,9 +19,9 @@ pub enum Line {
     // The mode, user, file and answer of a pair.
     Pair(u16, u16, u16, Entry),
     // The last line: clear, or the first unclear pair.
-    Last(Result<(), Refusal>),
-    // The only line of a refused file or picture.
-    Stopped(Refusal),
+    Last(Result<(), Numbers>),
+    // The only line of a refused file or picture. It shows any four numbers.
+    Stopped(Numbers),
 }
 
 impl Line {
@@ -54,7 +54,7 @@ impl Pen<'_> {
         self.answer(e);
     }
 
-    fn last(&mut self, seen: Result<(), Refusal>)
+    fn last(&mut self, seen: Result<(), Numbers>)
         requires { self.old.at + 73 ≤ length self.old.out.now }
         ensures same_buffer { self.new.out.ghost_name ≡ self.old.out.ghost_name }
         ensures put { Moved self.old (line_text (Line.Last seen)) 73 self.new }
@@ -68,13 +68,13 @@ impl Pen<'_> {
         }
     }
 
-    fn stopped(&mut self, r: Refusal)
+    fn stopped(&mut self, r: Numbers)
         requires { self.old.at + 92 ≤ length self.old.out.now }
         ensures same_buffer { self.new.out.ghost_name ≡ self.old.out.ghost_name }
         ensures put { Moved self.old (line_text (Line.Stopped r)) 92 self.new }
     {
         self.text(b"refused");
-        self.field(usize::from(Numbers::from(r).number));
+        self.field(usize::from(r.number));
         self.three(r);
     }
 

@@ -6,7 +6,7 @@ ghost use Rattle.lines.specs.Lines.{answer_fields, three_fields};
 ghost use Rattle.lines.specs.Steps.{Moved};
 
 use meaning::Entry;
-use tables::{Numbers, Refusal};
+use tables::Numbers;
 
 // The lent buffer, and the place where the next byte goes.
 #[derive(Drop)]
@@ -57,15 +57,14 @@ impl Pen<'_> {
     }
 
     // The three numbers of a refusal, which end a line.
-    pub(crate) fn three(&mut self, r: Refusal)
+    pub(crate) fn three(&mut self, r: Numbers)
         requires { self.old.at + 64 ≤ length self.old.out.now }
         ensures same_buffer { self.new.out.ghost_name ≡ self.old.out.ghost_name }
         ensures put { Moved self.old (text " " ++ line (three_fields r)) 64 self.new }
     {
-        let numbers = Numbers::from(r);
-        self.field(numbers.first);
-        self.field(numbers.second);
-        self.end(numbers.third);
+        self.field(r.first);
+        self.field(r.second);
+        self.end(r.third);
     }
 
     // An answer and its arrow or arrows, which end a line.

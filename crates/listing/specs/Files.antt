@@ -4,6 +4,7 @@ use Rattle.std.specs.Prelude.{Option, None as none, Some as some}
 use Rattle.base.specs.Buffers.{zeros}
 use Rattle.tables.specs.Rows.{Picture}
 use Rattle.tables.specs.declared.Refusal.{Refusal}
+use Rattle.tables.specs.Refusals.{numbers_of}
 use Rattle.scratch.specs.Scratch.{picture_fault}
 use Rattle.blocks.specs.Files.{picture_of}
 use Rattle.blocks.specs.Reads.{read_fault}
@@ -14,7 +15,7 @@ use Rattle.lines.specs.declared.Line.TheVariants.{Stopped}
 -- a refused file or picture gives one line only
 unfoldable pub refused_or : (fault : Option Refusal) (whole : List ℕ) → List ℕ
 refused_or none listing = listing
-refused_or (some r) listing = line_text (Stopped r)
+refused_or (some r) listing = line_text (Stopped (numbers_of r))
 
 -- of a picture, which is refused by any number but 12
 unfoldable pub listing_of : (pic : Picture) (scratch : List ℕ) → List ℕ

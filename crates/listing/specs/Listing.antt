@@ -1,7 +1,9 @@
 -- The listing of a picture, as bytes (document 01, "The program's listing"). Assumes nothing.
-use Rattle.std.specs.Prelude.{Bool, cond, List, [], ◌++◌, ℕ, ltb, length}
+use Rattle.std.specs.Prelude.{Bool, cond, List, [], ◌++◌, ℕ, ltb, length, Result, Ok, Err}
 use Rattle.tables.specs.Rows.{Picture, row_count, arrow_count}
-use Rattle.tables.specs.Refusals.{verdict_of}
+use Rattle.tables.specs.Refusals.{verdict_of, numbers_of}
+use Rattle.tables.specs.declared.Numbers.{Numbers}
+use Rattle.tables.specs.declared.Refusal.{Refusal}
 use Rattle.meaning.specs.Meaning.{mode_arrows}
 use Rattle.meaning.specs.Pairs.{pairs, user_at, file_at, answer_at, any_unclear}
 use Rattle.blocks.specs.Blocks.{joined}
@@ -12,6 +14,11 @@ use Rattle.lines.specs.declared.Line.TheVariants.{Counts, Pair, Last}
 -- the mode has an arrow
 unfoldable pub used : (arrows : List ℕ) (m : ℕ) → Bool
 used arrows m = ltb 0 (length (mode_arrows arrows m))
+
+-- a verdict, with a refusal as its number and three numbers
+abbrev pub in_numbers : (v : Result Unit Refusal) → Result Unit Numbers
+in_numbers (Ok done) = Ok done
+in_numbers (Err r) = Err (numbers_of r)
 
 module _ (pic : Picture) where
   -- the first line
@@ -28,4 +35,4 @@ module _ (pic : Picture) where
 
   -- the listing of a picture that is not refused
   unfoldable pub picture_listing : List ℕ
-  picture_listing = line_text counts_line ++ (joined mode_text 8 ++ line_text (Last (verdict_of (any_unclear pic))))
+  picture_listing = line_text counts_line ++ (joined mode_text 8 ++ line_text (Last (in_numbers (verdict_of (any_unclear pic)))))

@@ -17,7 +17,7 @@ ghost use Rattle.listing.specs.Steps.{InRange, Fits, Prepared, Stands, Filled};
 use containment::Closure;
 use lines::{Line, Pen, put_line};
 use row::put_row;
-use tables::{Arrow, Refusal};
+use tables::{Arrow, Numbers, Refusal};
 
 // ---- The lines that are no pair lines, each alone at the start of the buffer: its length.
 
@@ -37,7 +37,7 @@ pub fn counts_line(boxes: usize, rows: usize, arrows: usize, out: &mut [u8]) -> 
 }
 
 // The last line, by the first unclear pair.
-pub fn last_line(seen: Result<(), Refusal>, out: &mut [u8]) -> usize
+pub fn last_line(seen: Result<(), Numbers>, out: &mut [u8]) -> usize
     requires { 111 ≤ length out.old }
     ensures { Holds (line_text (Line.Last seen)) out.old out.new result }
 {
@@ -45,7 +45,7 @@ pub fn last_line(seen: Result<(), Refusal>, out: &mut [u8]) -> usize
 }
 
 // The line of a refused file or picture.
-pub fn stopped(r: Refusal, out: &mut [u8]) -> usize
+pub fn stopped(r: Numbers, out: &mut [u8]) -> usize
     requires { 111 ≤ length out.old }
     ensures { Holds (line_text (Line.Stopped r)) out.old out.new result }
 {

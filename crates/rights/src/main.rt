@@ -23,7 +23,7 @@ use std::env::{Env, FillError};
 use std::fs;
 use std::fs::Files;
 use std::io::{Error, Read, Write};
-use tables::{BoxRow, Tables};
+use tables::{BoxRow, Numbers, Tables};
 
 // ---- Input.
 
@@ -71,7 +71,7 @@ fn list_tables<W: Write>(to: &mut W, t: Tables) -> Result<Check, Error>
     let early = scratch::early_picture(t, &scratch);
     match scratch::prepare(early, t.boxes, t.rows, &mut scratch, &mut closure) {
         Ok(()) => list_picture(to, t, &closure),
-        Err(r) => send_stopped(to, r),
+        Err(r) => send_stopped(to, Numbers::from(r)),
     }
 }
 
@@ -111,7 +111,7 @@ fn list<W: Write>(to: &mut W, file: &[u8]) -> Result<Check, Error>
             };
             list_counted(to, t, counts)
         }
-        Err(r) => send_stopped(to, r),
+        Err(r) => send_stopped(to, Numbers::from(r)),
     }
 }
 

@@ -1,7 +1,7 @@
 -- What the filled scratch says, and when it is filled. Assumes nothing.
-use mathlib.Core.Path.{◌≡◌, sym, subst, ◌∙◌}
+use mathlib.Core.Path.{◌≡◌, refl, sym, ap, subst, ◌∙◌}
 use mathlib.Core.List.{List}
-use Rattle.std.specs.Prelude.{Option, None as none}
+use Rattle.std.specs.Prelude.{Option, None as none, Some as some, MatchOption}
 use Prim.Native.Nat.{ℕ, zero, suc, ◌+◌, ◌*◌, ◌/◌, ◌%◌, ◌<◌, ◌≤◌}
 use native.Mathlib.Nat.{not-suc-le-zero, mod-lt, div-lt_iff_lt-mul}
 use native.Mathlib.Decide.{dec_lt}
@@ -14,8 +14,9 @@ use Rattle.base.proofs.BufferLaws.{written-length, written_at, written-rest, bui
 use Rattle.base.proofs.Index.{in_table, at-div, at-mod, place}
 use Rattle.tables.specs.Refusals.{verdict_of}
 use Rattle.tables.specs.declared.Refusal.{Refusal}
-use Rattle.std.specs.Prelude.{Result, Ok, Err}
-use Rattle.tables.proofs.Verdicts.{passed, refused, passes, refuses}
+use Rattle.std.specs.Prelude.{Result, Ok, Err, IsErrAnd}
+use Rattle.std.proofs.lemmas.Result.{err_from_is_err_and}
+use Rattle.tables.proofs.Verdicts.{passes, refuses}
 use Rattle.tables.proofs.TableLaws.{room-passed}
 use Rattle.containment.specs.Contains.{loop_fault}
 use Rattle.scratch.specs.Scratch.{Drawn, drawn, scratch_bytes, scratch_fault, scratch_after}
@@ -60,21 +61,29 @@ module _ (n : ℕ) (rows s : List ℕ) where
           ∙ sym (filled-place p l)
       at p (no l) = g.rest p (omega arith) ∙ sym (filled-rest p (omega arith))
 
--- ---- the stages of `prepare`: an early refusal, and none
+-- ---- what `prepare` promises, where its error is a refusal
 
-module _ (boxes rows s : List ℕ) (early : Result Unit Refusal) where
-  abbrev pub Ends : Result Unit Refusal → List ℕ → Type 0
-  Ends v t = (e : Option Refusal) → early ≡ verdict_of e → (v ≡ verdict_of (or_else e (loop_fault boxes rows))) × (t ≡ scratch_after e boxes rows s)
+-- the answer by the fault that was found, if any
+told : (fault : Option Refusal) (v : Result Unit Refusal) → MatchOption fault (v ≡ Ok tt) (λ r. IsErrAnd v (λ x. x ≡ r))
+    → v ≡ verdict_of fault
+told none v h = h
+told (some r) v h =
+    let w = err_from_is_err_and v h in
+    w.1 ∙ ap (λ (x : Refusal). Err x) w.2
 
-  pub ends-refused : (r : Refusal) → early ≡ Err r → Ends (Err r) s
-  ends-refused r i e p =
-      let f = refused e r (sym p ∙ i) in
-      (refuses e (loop_fault boxes rows) r (sym p ∙ i), rw f)
-
-  pub ends-filled : early ≡ Ok tt → (v : Result Unit Refusal) (t : List ℕ) → v ≡ verdict_of (loop_fault boxes rows) → t ≡ filled (length boxes) rows s → Ends v t
-  ends-filled i v t h g e p =
-      let f = passed e (sym p ∙ i) in
-      (h ∙ passes e (loop_fault boxes rows) (sym p ∙ i), g ∙ rw f)
+module _ (boxes rows s : List ℕ) {early v : Result Unit Refusal} {t : List ℕ}
+    (refused : (r : Refusal) → early ≡ Err r → (v ≡ Err r) × (t ≡ s))
+    (value : early ≡ Ok tt
+    → MatchOption (loop_fault boxes rows) (v ≡ Ok tt) (λ r. IsErrAnd v (λ x. x ≡ r)) × (t ≡ scratch_after none boxes rows s)) where
+  -- the answer is by the first fault, and the scratch by the early one
+  pub ends : (e : Option Refusal) → early ≡ verdict_of e
+      → (v ≡ verdict_of (or_else e (loop_fault boxes rows))) × (t ≡ scratch_after e boxes rows s)
+  ends none i =
+      let w = value i in
+      (told (loop_fault boxes rows) v w.0 ∙ passes none (loop_fault boxes rows) refl, w.1)
+  ends (some r) i =
+      let w = refused r i in
+      (w.0 ∙ refuses (some r) (loop_fault boxes rows) r refl, w.1)
 
 -- where check 9 passes, there is room
 pub scratch-room : (n : ℕ) (s : List ℕ) → scratch_fault n s ≡ none → n * n ≤ length s

@@ -4,12 +4,10 @@
 
 mod filling;
 
-ghost use Rattle.std.specs.Prelude.{◌≡◌, ◌*◌, ◌≤◌, length, Ok};
-ghost use Rattle.std.specs.Prelude.{Option};
+ghost use Rattle.std.specs.Prelude.{◌≡◌, ◌*◌, ◌≤◌, length, Ok, Err, IsErrAnd};
+ghost use Rattle.std.specs.Prelude.{MatchOption, None as none};
 ghost use Rattle.base.specs.Buffers.{zeros};
-ghost use Rattle.base.specs.Search.{or_else};
 ghost use Rattle.tables.specs.Refusals.{verdict_of};
-ghost use Rattle.tables.specs.declared.Refusal.{Refusal};
 ghost use Rattle.tables.specs.Rows.{shown};
 ghost use Rattle.tables.specs.Steps.{SoundRows};
 ghost use Rattle.containment.specs.Contains.{loop_fault};
@@ -63,22 +61,25 @@ pub fn early_picture(t: Tables, scratch: &[u8]) -> Result<(), Refusal>
     check_scratch(t.boxes, scratch)
 }
 
-// The stage after early checks that are a value: unless one refused, the closure and the scratch, and check 10.
-pub fn prepare(
-    early: Result<(), Refusal>,
+// The stage after early checks that are a value, with any error that a refusal turns into: unless one refused, the closure and the
+// scratch, and check 10.
+pub fn prepare<E: From<Refusal>>(
+    early: Result<(), E>,
     boxes: &[u8],
     rows: &[u16],
     scratch: &mut [u8],
     closure: &mut Closure,
-) -> Result<(), Refusal>
+) -> Result<(), E>
     requires sound_rows { early ≡ Ok tt
         → SoundRows boxes.now rows.now × (length boxes.now * length boxes.now ≤ length scratch.old) }
     requires closure_value { closure.old ≡ zeros closure_words }
-    ensures value { (e : Option Refusal) → early ≡ verdict_of e
-        → (result ≡ verdict_of (or_else e (loop_fault boxes.now rows.now)))
-        × (scratch.new ≡ scratch_after e boxes.now rows.now scratch.old) }
+    ensures refused { (e : E) → early ≡ Err e → (result ≡ Err e) × (scratch.new ≡ scratch.old) }
+    ensures value { early ≡ Ok tt
+        → MatchOption (loop_fault boxes.now rows.now) (result ≡ Ok tt) (λ r. IsErrAnd result (E.from_gives r))
+        × (scratch.new ≡ scratch_after none boxes.now rows.now scratch.old) }
     ensures closure { result ≡ Ok tt → Closure (length boxes.now) rows.now closure.new }
 {
     early?;
-    fill_both(boxes, rows, scratch, closure)
+    fill_both(boxes, rows, scratch, closure)?;
+    Ok(())
 }

@@ -18,7 +18,7 @@ use Rattle.blocks.proofs.MadeBlocks.{check-more}
 use Rattle.lines.specs.Lines.{line_text}
 use Rattle.lines.specs.Steps.{Holds}
 use Rattle.lines.specs.declared.Line.TheVariants.{Last}
-use Rattle.listing.specs.Listing.{counts_line, picture_listing}
+use Rattle.listing.specs.Listing.{in_numbers, counts_line, picture_listing}
 use Rattle.listing.specs.PairRows.{line_rows, rows_from}
 use Rattle.listing.specs.Steps.{Stands, Filled}
 use Rattle.listing.specs.declared.Place.{Place}
@@ -61,7 +61,7 @@ module _ {pic : Picture} {p : Place} {old new : List ℕ} {state : ℕ} (g : Gon
 
   -- with the last line it is the listing
   pub gone-all : {E : Type 0} {n : ℕ} (sent : Result Check E) → Stands pic p → p.row ≡ line_rows pic
-      → Holds (line_text (Last p.seen)) old new n → IfOk sent (λ check. check.state ≡ fnv_fold state (take n new))
+      → Holds (line_text (Last (in_numbers p.seen))) old new n → IfOk sent (λ check. check.state ≡ fnv_fold state (take n new))
       → SentAll (picture_listing pic) sent
   gone-all sent w e h s =
       rw (listing-parts pic, ← rows_whole pic, ← seen-whole pic, ← e, ← w.seen_are, ← append_assoc)
@@ -86,7 +86,7 @@ module _ {pic : Picture} {p : Place} {a b : Option (List ℕ)} (c : Option (List
       }
 
   -- with the last line it is the listing
-  pub grown-all : {n : ℕ} → Stands pic p → p.row ≡ line_rows pic → Holds (line_text (Last p.seen)) old new n
+  pub grown-all : {n : ℕ} → Stands pic p → p.row ≡ line_rows pic → Holds (line_text (Last (in_numbers p.seen))) old new n
       → Appends b c (take n new) → Appends a c (picture_listing pic)
   grown-all s e h w =
       let all = rw (held h) at (Appends-trans a b c _ _ g.grew w) in

@@ -7,14 +7,14 @@ ghost use Rattle.tables.specs.Rows.{shown};
 ghost use Rattle.blocks.specs.Fnv.{fnv_fold};
 ghost use Rattle.lines.specs.Lines.{line_text};
 ghost use Rattle.lines.specs.declared.Line.TheVariants.{Stopped};
-ghost use Rattle.listing.specs.Listing.{picture_listing};
+ghost use Rattle.listing.specs.Listing.{in_numbers, picture_listing};
 ghost use Rattle.listing.specs.Steps.{Prepared};
 ghost use Rattle.sending.specs.Steps.{SentAll, WroteAll};
 
 use blocks::Check;
 use containment::Closure;
 use std::io::{Error, Write};
-use tables::{Refusal, Tables};
+use tables::{Numbers, Refusal, Tables};
 
 // The only place where bytes go to standard output. Answers the check of all bytes that went out, in order.
 fn send<W: Write>(to: &mut W, before: Check, bytes: &[u8]) -> Result<Check, Error>
@@ -26,13 +26,20 @@ fn send<W: Write>(to: &mut W, before: Check, bytes: &[u8]) -> Result<Check, Erro
 }
 
 // The line of a refused file or picture.
-pub fn send_stopped<W: Write>(to: &mut W, r: Refusal) -> Result<Check, Error>
+pub fn send_stopped<W: Write>(to: &mut W, r: Numbers) -> Result<Check, Error>
     ensures check { SentAll (line_text (Stopped r)) result }
     ensures bytes { WroteAll (W.contents to.old) (W.contents to.new) (line_text (Stopped r)) result }
 {
     let mut out = io::buffer();
     let n = listing::stopped(r, &mut out);
     send(to, Check::fresh(), &out[..n])
+}
+
+// What the last line shows of the first unclear pair.
+fn in_numbers(seen: Result<(), Refusal>) -> Result<(), Numbers>
+    ensures { result ≡ in_numbers seen }
+{
+    seen.map_err(Numbers::from)
 }
 
 // The listing of a picture: the counts, the pair lines, a buffer of whole rows at a time, and the last line.
@@ -64,6 +71,6 @@ pub fn send_picture<W: Write>(
         check = send(to, check, &out[..chunk.bytes])?;
         place = chunk.next;
     }
-    let last = listing::last_line(place.seen, &mut out);
+    let last = listing::last_line(in_numbers(place.seen), &mut out);
     send(to, check, &out[..last])
 }

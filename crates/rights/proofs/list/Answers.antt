@@ -28,7 +28,7 @@ returns-in-Err g c =
     read-refused c.args.file.now c.filled-boxes.result c.filled-rows.result
     c.filled-arrows.result _ _ _ (search rules) (search rules)
     (search rules) was in
-    rw is (record { check = c.send_stopped.ensures.check; bytes = c.send_stopped.ensures.bytes })
+    rw (is, ← c.from.ensures) (record { check = c.send_stopped.ensures.check; bytes = c.send_stopped.ensures.bytes })
 
 pub returns-in-Ok : goal.returns-in-Ok
 returns-in-Ok g c =

@@ -4,6 +4,7 @@ use Rattle.base.proofs.BufferLaws.{zeros-is}
 use Rattle.tables.specs.Rows.{shown}
 use Rattle.tables.specs.Refusals.{verdict_of}
 use Rattle.scratch.specs.Scratch.{early_fault, picture_fault}
+use Rattle.scratch.proofs.ScratchLaws.{ends}
 use Rattle.listing.proofs.FileLaws.{picture-refused, picture-good}
 use Rattle.rights.proofs.Prepared.{early-passed, stages-are, drawn}
 use Rattle.rights.proofs.list_tables.Goals.{After-prepare}
@@ -18,7 +19,8 @@ told g c =
     let a = c.args in
     let s = c.large_buffer-scratch.result in
     stages-are a.t.boxes.now a.t.rows.now a.t.arrows.now s c.early_picture-early.ensures
-    (c.prepare.ensures.value (early_fault (shown a.t) s) c.early_picture-early.ensures).0
+    (ends a.t.boxes.now a.t.rows.now s c.prepare.ensures.refused c.prepare.ensures.value (early_fault (shown a.t) s)
+    c.early_picture-early.ensures).0
 
 pub prepare-requires : goal.prepare-requires
 prepare-requires g c =
@@ -39,7 +41,7 @@ returns-in-Err g c =
     let is =
     picture-refused a.t.boxes.now a.t.rows.now a.t.arrows.now _ c.large_buffer-scratch.ensures (told g (goal.at.returns-in-Err g c).After-prepare) _
     c.in-Err.is in
-    rw is (record { check = c.send_stopped.ensures.check; bytes = c.send_stopped.ensures.bytes })
+    rw (is, ← c.from.ensures) (record { check = c.send_stopped.ensures.check; bytes = c.send_stopped.ensures.bytes })
 
 pub returns-in-Ok : goal.returns-in-Ok
 returns-in-Ok g c =

@@ -7,4 +7,4 @@ use Rattle.lines.proofs.pen.Pen.stopped.Goals as goal
 pub returns-clause-put : goal.returns-clause-put
 unfolding text line three_fields line_text
 returns-clause-put c =
-    chain c.text.ensures.put (chain (rw (c.from-2.ensures, c.from.ensures) at c.field.ensures.put) c.three.ensures.put)
+    chain c.text.ensures.put (chain (rw c.from.ensures at c.field.ensures.put) c.three.ensures.put)

@@ -7,4 +7,4 @@ use Rattle.lines.proofs.pen.Pen.three.Goals as goal
 pub returns-clause-put : goal.returns-clause-put
 unfolding text line three_fields
 returns-clause-put c =
-    rw (← c.from-numbers.ensures) (chain c.field.ensures.put (chain c.field-2.ensures.put c.end.ensures.put))
+    chain c.field.ensures.put (chain c.field-2.ensures.put c.end.ensures.put)
