@@ -38,7 +38,8 @@ held {text} {old} {new} {n} h = part-is text old n new (h.bytes-are, h.written-a
 -- ---- a picture: the first line, the pair lines and the last line
 
 pub listing-parts : (pic : Picture)
-    → picture_listing pic ≡ line_text (counts_line pic) ++ (joined (mode_text pic) 8 ++ line_text (Last (in_numbers (verdict_of (any_unclear pic)))))
+    → picture_listing pic
+    ≡ line_text (counts_line pic) ++ (joined (mode_text pic) 8 ++ line_text (Last (in_numbers (verdict_of (any_unclear pic)))))
 unfolding picture_listing
 listing-parts pic = refl
 
@@ -53,7 +54,8 @@ module _ (boxes rows arrows s : List ℕ) (len : 65536 ≡ length s) {v : Result
   fault-room : picture_fault (picture boxes rows arrows) (zeros 65536) ≡ picture_fault (picture boxes rows arrows) s
   fault-room = picture-room boxes rows arrows (zeros 65536) s (zeros-length 65536 ∙ len)
 
-  pub picture-refused : (r : Refusal) → v ≡ Err r → listing_of (picture boxes rows arrows) (zeros 65536) ≡ line_text (Stopped (numbers_of r))
+  pub picture-refused : (r : Refusal) → v ≡ Err r
+      → listing_of (picture boxes rows arrows) (zeros 65536) ≡ line_text (Stopped (numbers_of r))
   unfolding listing_of refused_or
   picture-refused r e = rw (fault-room ∙ refused _ r (sym told ∙ e))
 
@@ -70,7 +72,8 @@ module _ (file boxes rows arrows boxes_end rows_end arrows_end : List ℕ)
       read-lengths file (zeros 256) (zeros 2048) (zeros 2048) boxes rows arrows (zeros-length 256 ∙ nb) (zeros-length 2048 ∙ nr)
       (zeros-length 2048 ∙ na)
 
-  pub read-refused : {r : Refusal} → ReadDone file boxes rows arrows boxes_end rows_end arrows_end (Err r) → file_listing file ≡ line_text (Stopped (numbers_of r))
+  pub read-refused : {r : Refusal} → ReadDone file boxes rows arrows boxes_end rows_end arrows_end (Err r)
+      → file_listing file ≡ line_text (Stopped (numbers_of r))
   unfolding file_listing refused_or
   read-refused d = rw (fault-is ∙ read-stopped file boxes rows arrows boxes_end rows_end arrows_end d)
 

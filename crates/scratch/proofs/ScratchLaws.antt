@@ -64,16 +64,20 @@ module _ (n : ℕ) (rows s : List ℕ) where
 -- ---- what `prepare` promises, where its error is a refusal
 
 -- the answer by the fault that was found, if any
-told : (fault : Option Refusal) (v : Result Unit Refusal) → MatchOption fault (v ≡ Ok tt) (λ r. IsErrAnd v (λ x. x ≡ r)) → v ≡ verdict_of fault
+told : (fault : Option Refusal) (v : Result Unit Refusal) → MatchOption fault (v ≡ Ok tt) (λ r. IsErrAnd v (λ x. x ≡ r))
+    → v ≡ verdict_of fault
 told none v h = h
 told (some r) v h =
     let w = err_from_is_err_and v h in
     w.1 ∙ ap (λ (x : Refusal). Err x) w.2
 
-module _ (boxes rows s : List ℕ) {early v : Result Unit Refusal} {t : List ℕ} (refused : (r : Refusal) → early ≡ Err r → (v ≡ Err r) × (t ≡ s))
-    (value : early ≡ Ok tt → MatchOption (loop_fault boxes rows) (v ≡ Ok tt) (λ r. IsErrAnd v (λ x. x ≡ r)) × (t ≡ scratch_after none boxes rows s)) where
+module _ (boxes rows s : List ℕ) {early v : Result Unit Refusal} {t : List ℕ}
+    (refused : (r : Refusal) → early ≡ Err r → (v ≡ Err r) × (t ≡ s))
+    (value : early ≡ Ok tt
+    → MatchOption (loop_fault boxes rows) (v ≡ Ok tt) (λ r. IsErrAnd v (λ x. x ≡ r)) × (t ≡ scratch_after none boxes rows s)) where
   -- the answer is by the first fault, and the scratch by the early one
-  pub ends : (e : Option Refusal) → early ≡ verdict_of e → (v ≡ verdict_of (or_else e (loop_fault boxes rows))) × (t ≡ scratch_after e boxes rows s)
+  pub ends : (e : Option Refusal) → early ≡ verdict_of e
+      → (v ≡ verdict_of (or_else e (loop_fault boxes rows))) × (t ≡ scratch_after e boxes rows s)
   ends none i =
       let w = value i in
       (told (loop_fault boxes rows) v w.0 ∙ passes none (loop_fault boxes rows) refl, w.1)

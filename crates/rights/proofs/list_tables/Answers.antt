@@ -19,7 +19,8 @@ told g c =
     let a = c.args in
     let s = c.large_buffer-scratch.result in
     stages-are a.t.boxes.now a.t.rows.now a.t.arrows.now s c.early_picture-early.ensures
-    (ends a.t.boxes.now a.t.rows.now s c.prepare.ensures.refused c.prepare.ensures.value (early_fault (shown a.t) s) c.early_picture-early.ensures).0
+    (ends a.t.boxes.now a.t.rows.now s c.prepare.ensures.refused c.prepare.ensures.value (early_fault (shown a.t) s)
+    c.early_picture-early.ensures).0
 
 pub prepare-requires : goal.prepare-requires
 prepare-requires g c =

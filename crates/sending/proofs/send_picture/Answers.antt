@@ -70,5 +70,6 @@ returns g c =
     let last = rw c.in_numbers.ensures at c.last_line-last.ensures in
     record {
       check = gone-all l.invariant.3 c.send-2.result l.invariant.0 all last c.send-2.ensures.check;
-      bytes = on_ok_weaker c.send-2.result (λ w. grown-all (g.W.Write.contents c.send-2.new.to) l.invariant.4 l.invariant.0 all last w) c.send-2.ensures.bytes;
+      bytes = on_ok_weaker c.send-2.result (λ w. grown-all (g.W.Write.contents c.send-2.new.to) l.invariant.4 l.invariant.0 all last w)
+          c.send-2.ensures.bytes;
     }
