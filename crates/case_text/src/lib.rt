@@ -8,4 +8,4 @@ mod writing;
 
 pub use buffers::{Place, buffer, lent};
 pub use reading::{number, table};
-pub use writing::{print, show, show_reply};
+pub use writing::{put_field, show, show_reply};

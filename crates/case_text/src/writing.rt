@@ -5,7 +5,7 @@ use std::io::Write;
 use tables::{Numbers, Refusal};
 
 // A number, after a space.
-pub fn print<W: Write>(out: &mut W, n: usize) {
+pub fn put_field<W: Write>(out: &mut W, n: usize) {
     let _ = write!(out, " ");
     let _ = write!(out, "{n}");
 }
@@ -22,7 +22,7 @@ fn show_run<W: Write, T: Place>(out: &mut W, run: &[T]) {
     let Some(first) = run.first() else {
         return;
     };
-    print(out, (*first).into());
+    put_field(out, (*first).into());
     let count = run.len();
     if 1 < count {
         let _ = write!(out, "*");
@@ -39,10 +39,10 @@ fn show_refusal<W: Write>(out: &mut W, r: Refusal) {
         third,
     } = Numbers::from(r);
     let _ = write!(out, "refused");
-    print(out, number.into());
-    print(out, first);
-    print(out, second);
-    print(out, third);
+    put_field(out, number.into());
+    put_field(out, first);
+    put_field(out, second);
+    put_field(out, third);
 }
 
 // What a call answers, written by `show_answer`, or its refusal.

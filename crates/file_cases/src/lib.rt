@@ -2,15 +2,15 @@
 #![tactic(auto)]
 
 use blocks::{Check, Counts, Head};
-use case_text::{buffer, lent, number, print, show, show_reply, table};
+use case_text::{buffer, lent, number, put_field, show, show_reply, table};
 use std::io::{Read, Write};
 use tables::Tables;
 
 fn show_counts<W: Write>(out: &mut W, counts: Counts) {
     let _ = write!(out, "counts");
-    print(out, counts.boxes);
-    print(out, counts.containments);
-    print(out, counts.arrows);
+    put_field(out, counts.boxes);
+    put_field(out, counts.containments);
+    put_field(out, counts.arrows);
 }
 
 // Reads a file into as many places of each table as the input says.
@@ -43,12 +43,12 @@ fn show_seen<W: Write>(out: &mut W, seen: Option<Head>) {
         return;
     };
     let _ = write!(out, "block");
-    print(out, head.kind.into());
-    print(out, head.byte1.into());
-    print(out, head.number.into());
-    print(out, head.count.into());
-    print(out, head.byte6.into());
-    print(out, head.byte7.into());
+    put_field(out, head.kind.into());
+    put_field(out, head.byte1.into());
+    put_field(out, head.number.into());
+    put_field(out, head.count.into());
+    put_field(out, head.byte6.into());
+    put_field(out, head.byte7.into());
 }
 
 fn show_moves<W: Write>(out: &mut W, file: &[u8]) {
@@ -81,7 +81,7 @@ fn show_blocks<R: Read, W: Write>(input: &mut R, out: &mut W, t: Tables, file: &
 
 fn show_packed<W: Write>(out: &mut W, n: usize) {
     let _ = write!(out, "packed");
-    print(out, n);
+    put_field(out, n);
 }
 
 pub fn pack_case<R: Read, W: Write>(input: &mut R, out: &mut W) {

@@ -1,5 +1,5 @@
 // How the answers of the calls are written to the output.
-use case_text::print;
+use case_text::put_field;
 use meaning::Entry;
 use std::io::Write;
 
@@ -11,31 +11,31 @@ pub fn show_entry<W: Write>(out: &mut W, e: Entry) {
     match e {
         Entry::Granted(k) => {
             let _ = write!(out, "granted");
-            print(out, k.into());
+            put_field(out, k.into());
         }
         Entry::Denied(k) => {
             let _ = write!(out, "denied");
-            print(out, k.into());
+            put_field(out, k.into());
         }
         Entry::Default => {
             let _ = write!(out, "default");
         }
         Entry::Unclear(p, n) => {
             let _ = write!(out, "unclear");
-            print(out, p.into());
-            print(out, n.into());
+            put_field(out, p.into());
+            put_field(out, n.into());
         }
     }
 }
 
 pub fn show_written<W: Write>(out: &mut W, n: usize) {
     let _ = write!(out, "written");
-    print(out, n);
+    put_field(out, n);
 }
 
 pub fn show_headings<W: Write>(out: &mut W, written: (usize, usize)) {
     let (users, files) = written;
     let _ = write!(out, "written");
-    print(out, users);
-    print(out, files);
+    put_field(out, users);
+    put_field(out, files);
 }

@@ -18,7 +18,11 @@ returns-in_err-check_by c = let l = c.loop-place in
     let file = c.args.file.now in
     let found = refused _ _ (sym c.check_by.ensures ∙ c.in_err-check_by.was) in
     let e : c.from_residual.result ≡ Err c.in_err-check_by.field-0.0 = search rules in
-    rw (e, blocks-found (block_at file) l.place (block_count file) (omega arith) l.invariant.good (rw (c.at-block.ensures, l.invariant.kind) at found))
+    rw (
+      e,
+      blocks-found (block_at file) l.place (block_count file) (omega arith) l.invariant.good
+          (rw (c.at-block.ensures, l.invariant.kind) at found),
+    )
 
 pub with-counts-requires : goal.with-counts-requires
 with-counts-requires c = let l = c.loop-place in
